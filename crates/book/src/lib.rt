@@ -1,0 +1,53 @@
+// The book as rows of memory: reading and setting one place or one trade. Nothing above this crate knows what a row holds.
+ghost use mathlib.Core.Path.{_≡_};
+ghost use Prim.Native.Nat.{_<_};
+ghost use mathlib.Core.List.{[]};
+ghost use lib.ListN.{length, getD, set};
+ghost use Rattle.book.specs.Rows.{orderOf, rowOf, tradeOf, tradeRow};
+use model::Order;
+use model::Trade;
+
+// The order at a place.
+pub fn order_at(rows: &[[u64; 5]], place: usize) -> Order
+    requires { ⌜ place < length (now rows) ⌝ }
+    ensures { λ r. ⌜ r ≡ orderOf (getD (now (rows .entry)) place []) ⌝ }
+{
+    let row = rows[place];
+    Order {
+        side: row[0],
+        account: row[1],
+        left: row[2],
+        price: row[3],
+        number: row[4],
+    }
+}
+
+pub fn put_order(rows: &mut [[u64; 5]], place: usize, o: Order)
+    requires { ⌜ place < length (now rows) ⌝ }
+    ensures { λ _. ⌜ now (rows .exit) ≡ set (now (rows .entry)) place (rowOf o) ⌝ }
+{
+    let row = [o.side, o.account, o.left, o.price, o.number];
+    rows[place] = row;
+}
+
+// The trade at a place of the trade list.
+pub fn trade_at(trades: &[[u64; 4]], place: usize) -> Trade
+    requires { ⌜ place < length (now trades) ⌝ }
+    ensures { λ r. ⌜ r ≡ tradeOf (getD (now (trades .entry)) place []) ⌝ }
+{
+    let row = trades[place];
+    Trade {
+        price: row[0],
+        quantity: row[1],
+        buyer: row[2],
+        seller: row[3],
+    }
+}
+
+pub fn put_trade(trades: &mut [[u64; 4]], place: usize, t: Trade)
+    requires { ⌜ place < length (now trades) ⌝ }
+    ensures { λ _. ⌜ now (trades .exit) ≡ set (now (trades .entry)) place (tradeRow t) ⌝ }
+{
+    let row = [t.price, t.quantity, t.buyer, t.seller];
+    trades[place] = row;
+}

@@ -1,0 +1,124 @@
+// The words of the day: what stands at a place of the book, an order as it comes in, a trade, the day's own figures,
+// the rows of the clock, and the answers of the calls. What they mean is defined in specs/.
+
+// One place of the book. A free place is all zeros.
+pub struct Order {
+    pub side: u64,
+    pub account: u64,
+    pub left: u64,
+    pub price: u64,
+    pub number: u64,
+}
+
+// An order as it is asked for. Side 0 buys, 1 sells; for kinds 1 to 4 the price is the protection limit.
+pub struct Asked {
+    pub side: u64,
+    pub kind: u64,
+    pub account: u64,
+    pub quantity: u64,
+    pub price: u64,
+}
+
+// A trade. Buyer and seller are order numbers.
+pub struct Trade {
+    pub price: u64,
+    pub quantity: u64,
+    pub buyer: u64,
+    pub seller: u64,
+}
+
+// An order on its way through the other side: whose number its trades bear, and the price that it goes up or down to.
+pub struct Taker {
+    pub side: u64,
+    pub number: u64,
+    pub limit: u64,
+}
+
+// The day's own figures. First and last are the prices of the first and the last trade, 0 while nothing has traded.
+pub struct Day {
+    pub close: u64,
+    pub limited: u64,
+    pub time: u64,
+    pub issued: u64,
+    pub shares: u64,
+    pub turnover: u64,
+    pub first: u64,
+    pub last: u64,
+}
+
+// A row of the clock: it holds from its first second up to the next row.
+pub struct Row {
+    pub start: u64,
+    pub phase: u64,
+    pub orders: bool,
+    pub cancels: bool,
+}
+
+// A second at which an auction is held when the clock passes it, and whether all that rests lapses after it.
+pub struct Boundary {
+    pub second: u64,
+    pub lapse: bool,
+}
+
+// How what did not trade of an accepted order ended, and how many shares that was.
+pub enum Remainder {
+    Nothing,
+    Rests(u64),
+    Withdrawn(u64),
+}
+
+// The accepted case of an order's reply: levels is how many different prices its trades had.
+pub struct Entry {
+    pub number: u64,
+    pub filled: u64,
+    pub levels: u64,
+    pub remainder: Remainder,
+}
+
+pub enum OpenReply {
+    Refused(u64),
+    Opened(Day),
+}
+
+pub enum OrderReply {
+    Refused(u64),
+    Accepted(Entry),
+}
+
+pub enum CancelReply {
+    Refused(u64),
+    Withdrawn(u64),
+}
+
+pub enum ClockReply {
+    Refused(u64),
+    Moved { phase: u64, trades: usize },
+}
+
+pub enum ReportReply {
+    Refused(u64),
+    Priced {
+        price: u64,
+        volume: u64,
+        surplus: i64,
+    },
+}
+
+pub enum ListReply {
+    Refused(u64),
+    Listed { count: usize, next: u64 },
+}
+
+// What a call that may trade hands back beside the lent lists: its reply, how many trades it wrote at the front of the
+// trade list, and the day as it is now.
+pub struct OrderAnswer {
+    pub reply: OrderReply,
+    pub made: usize,
+    pub day: Day,
+}
+
+pub struct ClockAnswer {
+    pub reply: ClockReply,
+    pub made: usize,
+    pub day: Day,
+}
