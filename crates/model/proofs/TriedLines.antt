@@ -346,13 +346,22 @@ ownBest =
 abbrev priority : Scene
 priority =
     desk (untraded 1000 1 34_200 4)
-    (order 1 5 100 1001 4 ∷ order 1 6 100 1000 3 ∷ order 1 7 300 1000 2 ∷ order 0 8 100 999 1 ∷ free ∷ [])
+    (order 1 5 100 1001 4 ∷ order 1 7 300 1000 2 ∷ order 1 6 100 1000 3 ∷ order 0 8 100 999 1 ∷ free ∷ [])
     at ("O 0 0 9 450 1000" says "M 1000 300 5 2\nM 1000 100 5 3\nA 5 400 50 0 1"
     ∷ "O 1 0 4 120 999" says "M 1000 50 5 6\nM 999 70 1 6\nA 6 120 0 0 2"
     ∷ "C 8 1" says "W 1 30"
     ∷ "C 7 4" says "X 12"
     ∷ "C 0 0" says "X 12"
     ∷ "C 5 4" says "W 4 100"
+    ∷ [])
+
+-- a day that is not sound: every call says so first
+abbrev notSound : Scene
+notSound =
+    desk (untraded 1000 2 34_200 0) (free ∷ [])
+    at ("O 2 0 0 0 0" says "X 15"
+    ∷ "C 0 0" says "X 15"
+    ∷ "T 86400" says "X 15"
     ∷ [])
 
 -- the form of a line
@@ -412,6 +421,7 @@ scenes =
     ∷ bestPrices
     ∷ ownBest
     ∷ priority
+    ∷ notSound
     ∷ lineForms
     ∷ []
 
