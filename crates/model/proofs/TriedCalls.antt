@@ -27,9 +27,10 @@ use Rattle.model.specs.Entry.{bestWithin, entryPrice, opposite, entryTra
 use Rattle.model.specs.Auction.{distance, sharesOf, demand, supply, volume, buysAbove, sellsBelow, buysAt, sellsAt, betterFill, oneSideFills, surplus}
 use Rattle.model.specs.Pairing.{cut, headLess, pair, tradesAt}
 use Rattle.model.specs.Sound.{hasPlaces, isMark, mayStand, soundFigures, isFree, isOrder, ownNumbers, isEmpty, crosses, between, sharesFit, pricesFit, turnoverFits, sound}
-use Rattle.model.specs.Refusals.{_when_, firstOf, unsound}
+use Rattle.model.specs.Refusals.{Rule, _when_, firstOf, unsound}
 use Rattle.model.specs.Calls.{written, openRules, cleared, openCall, orderRules, ended, placed, entered, orderCall, isOwn, cancelRules, cancelCall}
-use Rattle.model.specs.AuctionCalls.{reportAt}
+use Rattle.model.specs.ClockCall.{clockRules}
+use Rattle.model.specs.AuctionCalls.{reportAt, reportRules, listRules}
 use Rattle.model.specs.Replies.{restingOf, withdrawnOf, entryNumbers, openNumbers, orderNumbers, cancelNumbers, clockNumbers, reportNumbers, listNumbers}
 
 abbrev order : ℕ → ℕ → ℕ → ℕ → ℕ → Order
@@ -53,8 +54,8 @@ asked = record { side = 0; kind = 0; account = 9; quantity = 250; price = 1001 }
 abbrev old : ℕ → Trade
 old n = trade n n n n
 
--- one place too few: 13, and nothing is touched. Enough: the trades stand in front, the rest of the list stays, and what is
--- left of the order takes the lowest place that is free, here one that its own trades freed
+-- one place too few: 13, and nothing is touched. Just enough, or more: the trades stand in front, the rest of the list stays,
+-- and what is left of the order takes the lowest place that is free, here one that its own trades freed
 pub lists-tried :
     (orderCall day asked two (old 1 ∷ [])
     ≡ record {
@@ -62,6 +63,7 @@ pub lists-tried :
       book = two;
       trades = old 1 ∷ [];
     })
+    × (orderCall day asked two (old 1 ∷ old 2 ∷ []) .trades ≡ trade 1000 100 3 1 ∷ trade 1001 100 3 2 ∷ [])
     × (orderCall day asked two (old 1 ∷ old 2 ∷ old 3 ∷ [])
     ≡ record {
       answer =
@@ -86,7 +88,7 @@ pub lists-tried :
       trades = trade 1000 100 3 1 ∷ trade 1001 100 3 2 ∷ old 3 ∷ [];
     })
 unfolding keep all any total least atLeast from among once different isTime closed laterRows holding rowAt phaseAt takesOrders takesCancels continuous passes boundaries free isLive standsOn better ahead insert inPriority queue other headPrice best meets within fiveBest atFiveBest tradeWith sweep filled levels lastPrice firstPrice isIn filledOf lessBy settle rest isPrice isQuantity inBand buyInRange sellInRange inRange freshDay at nextNumber issue money tally reference openPrice closePrice bestWithin entryPrice opposite entryTrades restPrice base hasPlaces isMark mayStand soundFigures isFree isOrder ownNumbers isEmpty crosses between sharesFit pricesFit turnoverFits sound _when_ firstOf unsound written openRules cleared openCall orderRules ended placed entered orderCall isOwn cancelRules cancelCall
-lists-tried = (refl, refl)
+lists-tried = (refl, refl, refl)
 
 -- ---- situation f: its sums at 1000 and at 1001
 
@@ -136,6 +138,32 @@ pub pairing-tried :
     ≡ trade 1000 30 2 4 ∷ trade 1000 30 2 5 ∷ trade 1000 150 3 5 ∷ trade 1000 70 1 5 ∷ trade 1000 30 1 6 ∷ [])
 unfolding keep total isLive standsOn better ahead insert inPriority queue sharesOf demand supply volume cut headLess pair tradesAt
 pairing-tried = (refl, refl)
+
+-- ---- the clock's boundaries, and when one is passed
+
+pub boundaries-tried :
+    (boundaries ≡ record { second = 33_900; lapse = false } ∷ record { second = 54_000; lapse = true } ∷ [])
+    × (map (λ old. passes 33_900 old 33_900) (33_899 ∷ 33_900 ∷ []) ≡ true ∷ false ∷ [])
+    × (map (passes 33_900 33_000) (33_899 ∷ 33_900 ∷ 54_000 ∷ []) ≡ false ∷ true ∷ true ∷ [])
+unfolding boundaries passes
+boundaries-tried = (refl, refl, refl)
+
+-- ---- the order in which each call tests its refusals, whatever it is given
+
+abbrev numbers : List Rule → List ℕ
+numbers rs = map (λ r. r .number) rs
+
+pub check-orders :
+    (d : Day) (a : Asked) (m n : ℕ) (book : List Order)
+    → (numbers (openRules m n book) ≡ 14 ∷ [])
+    × (numbers (orderRules d a book n)
+    ≡ 15 ∷ 2 ∷ 3 ∷ 4 ∷ 5 ∷ 6 ∷ 7 ∷ 8 ∷ 9 ∷ 10 ∷ 11 ∷ 13 ∷ [])
+    × (numbers (cancelRules d m n book) ≡ 15 ∷ 4 ∷ 12 ∷ [])
+    × (numbers (clockRules d m book n) ≡ 15 ∷ 1 ∷ 18 ∷ 13 ∷ [])
+    × (numbers (reportRules d book) ≡ 15 ∷ 18 ∷ [])
+    × (numbers (listRules d book) ≡ 15 ∷ [])
+unfolding openRules orderRules cancelRules clockRules reportRules listRules _when_
+check-orders d a m n book = (refl, refl, refl, refl, refl, refl)
 
 -- ---- the day's open and close
 

@@ -209,7 +209,7 @@ abbrev g : Scene
 g =
     desk (untraded 1000 1 34_200 1) (order 1 5 100 1050 1 ∷ free ∷ [])
     at ("O 0 0 7 100 1103" says "X 9"
-    ∷ "O 0 0 7 100 1102" says "M 1050 100 2 1\nA 2 100 0 0 1"
+    ∷ "O 0 0 7 101 1102" says "M 1050 100 2 1\nA 2 100 1 0 1"
     ∷ [])
 
 -- h: sell base 950
