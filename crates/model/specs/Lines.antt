@@ -8,6 +8,8 @@ use lib.ListN.{length}
 use lib.Dec.{leb, ltb, eqb}
 use Rattle.model.specs.declared.Asked.{Asked}
 use Rattle.model.specs.declared.Trade.{Trade}
+use Rattle.model.specs.declared.Command.{Command}
+use Rattle.model.specs.declared.Command.the-variants.{Malformed, Opens, Moves, Enters, Cancels}
 use Rattle.model.specs.declared.OpenReply as OpenReply
 use Rattle.model.specs.declared.OrderReply as OrderReply
 use Rattle.model.specs.declared.CancelReply as CancelReply
@@ -77,36 +79,29 @@ numbersOf (w ∷ ws) =
 
 -- ---- what a line asks for
 
-pub data Command : Type 0 where
-  malformed : Command
-  opens : ℕ → ℕ → Command
-  moves : ℕ → Command
-  enters : Asked → Command
-  cancels : ℕ → ℕ → Command
-
 -- a letter, with as many numbers as it wants
 unfoldable pub commandOf : ℕ → List ℕ → Command
-commandOf c [] = malformed
-commandOf c (time ∷ []) = if eqb c (code "T") then moves time else malformed
+commandOf c [] = Malformed
+commandOf c (time ∷ []) = if eqb c (code "T") then Moves time else Malformed
 commandOf c (m ∷ n ∷ []) =
-    if eqb c (code "D") then opens m n else if eqb c (code "C") then cancels m n else malformed
-commandOf c (x ∷ y ∷ z ∷ []) = malformed
-commandOf c (x ∷ y ∷ z ∷ u ∷ []) = malformed
+    if eqb c (code "D") then Opens m n else if eqb c (code "C") then Cancels m n else Malformed
+commandOf c (x ∷ y ∷ z ∷ []) = Malformed
+commandOf c (x ∷ y ∷ z ∷ u ∷ []) = Malformed
 commandOf c (side ∷ kind ∷ account ∷ quantity ∷ price ∷ []) =
     if eqb c (code "O")
-    then enters (record { side = side; kind = kind; account = account; quantity = quantity; price = price })
-    else malformed
-commandOf c (x ∷ y ∷ z ∷ u ∷ v ∷ w ∷ ns) = malformed
+    then Enters (record { side = side; kind = kind; account = account; quantity = quantity; price = price })
+    else Malformed
+commandOf c (x ∷ y ∷ z ∷ u ∷ v ∷ w ∷ ns) = Malformed
 
 unfoldable pub wordsCommand : List (List ℕ) → Command
-wordsCommand [] = malformed
-wordsCommand ([] ∷ ws) = malformed
-wordsCommand ((c ∷ []) ∷ ws) = elim (numbersOf ws) [ none ↦ malformed | some ns ↦ commandOf c ns ]
-wordsCommand ((c ∷ d ∷ w) ∷ ws) = malformed
+wordsCommand [] = Malformed
+wordsCommand ([] ∷ ws) = Malformed
+wordsCommand ((c ∷ []) ∷ ws) = elim (numbersOf ws) [ none ↦ Malformed | some ns ↦ commandOf c ns ]
+wordsCommand ((c ∷ d ∷ w) ∷ ws) = Malformed
 
 -- at most 80 bytes with the newline
 unfoldable pub lineCommand : Line → Command
-lineCommand l = if l .ended && leb (length (l .text)) 79 then wordsCommand (wordsOf (l .text)) else malformed
+lineCommand l = if l .ended && leb (length (l .text)) 79 then wordsCommand (wordsOf (l .text)) else Malformed
 
 -- ---- replies
 

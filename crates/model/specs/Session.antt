@@ -7,6 +7,8 @@ use Rattle.model.specs.declared.Order.{Order}
 use Rattle.model.specs.declared.Asked.{Asked}
 use Rattle.model.specs.declared.Trade.{Trade}
 use Rattle.model.specs.declared.Day.{Day}
+use Rattle.model.specs.declared.Command.{Command}
+use Rattle.model.specs.declared.Command.the-variants.{Malformed, Opens, Moves, Enters, Cancels}
 use Rattle.model.specs.declared.OpenReply as OpenReply
 use Rattle.model.specs.declared.OrderAnswer.{OrderAnswer}
 use Rattle.model.specs.declared.ClockAnswer.{ClockAnswer}
@@ -17,12 +19,6 @@ use Rattle.model.specs.Lines.{
   Line,
   linesOf,
   lineCommand,
-  Command,
-  malformed,
-  opens,
-  moves,
-  enters,
-  cancels,
   refusalLine,
   tradeLines,
   openLine,
@@ -90,11 +86,11 @@ onDesk f (some s) = f s
 
 -- 16: line not of the form; it precedes 17
 unfoldable pub answer : Command → Option Desk → Answered
-answer malformed desk = record { text = refusalLine 16; desk = desk }
-answer (opens close mark) desk = openAnswer close mark desk
-answer (moves t) desk = onDesk (clockAnswer t) desk
-answer (enters a) desk = onDesk (orderAnswer a) desk
-answer (cancels account number) desk = onDesk (cancelAnswer account number) desk
+answer Malformed desk = record { text = refusalLine 16; desk = desk }
+answer (Opens close mark) desk = openAnswer close mark desk
+answer (Moves t) desk = onDesk (clockAnswer t) desk
+answer (Enters a) desk = onDesk (orderAnswer a) desk
+answer (Cancels account number) desk = onDesk (cancelAnswer account number) desk
 
 unfoldable pub answers : List Line → Option Desk → List ℕ
 answers [] desk = []

@@ -122,3 +122,12 @@ pub struct ClockAnswer {
     pub made: usize,
     pub day: Day,
 }
+
+// What a line of the rehearsal program asks for.
+pub enum Command {
+    Malformed,
+    Opens { close: u64, mark: u64 },
+    Moves(u64),
+    Enters(Asked),
+    Cancels { account: u64, number: u64 },
+}
