@@ -125,7 +125,10 @@ least-tried = (refl, refl, refl)
 -- ---- pairing: both sides in priority, cut to the volume; the session's trade, and one with several orders a side
 
 pub pairing-tried :
-    (tradesAt 990 (order 0 7 200 1010 1 ∷ order 1 8 300 990 2 ∷ []) ≡ trade 990 200 1 2 ∷ [])
+    (tradesAt 1000 (order 0 7 100 1001 1 ∷ order 0 7 50 1001 2 ∷ order 1 8 60 1000 3 ∷ order 1 8 41 1000 4 ∷ [])
+    ≡ trade 1000 60 1 3 ∷ trade 1000 40 1 4 ∷ trade 1000 1 2 4 ∷ [])
+    × (tradesAt 1000 (order 0 7 100 1001 1 ∷ order 0 7 50 1001 2 ∷ order 1 8 100 1000 3 ∷ []) ≡ trade 1000 100 1 3 ∷ [])
+    × (tradesAt 990 (order 0 7 200 1010 1 ∷ order 1 8 300 990 2 ∷ []) ≡ trade 990 200 1 2 ∷ [])
     × (tradesAt 1000
     (order 1 8 70 1000 6
     ∷ order 0 7 100 1000 1
@@ -137,7 +140,7 @@ pub pairing-tried :
     ∷ [])
     ≡ trade 1000 30 2 4 ∷ trade 1000 30 2 5 ∷ trade 1000 150 3 5 ∷ trade 1000 70 1 5 ∷ trade 1000 30 1 6 ∷ [])
 unfolding keep total isLive standsOn better ahead insert inPriority queue sharesOf demand supply volume cut headLess pair tradesAt
-pairing-tried = (refl, refl)
+pairing-tried = (refl, refl, refl, refl)
 
 -- ---- the clock's boundaries, and when one is passed
 

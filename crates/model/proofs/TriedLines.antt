@@ -7,7 +7,7 @@ use mathlib.Core.Path.{_≡_, refl}
 use mathlib.Core.Bool.{true}
 use mathlib.Core.List.{List, [], _∷_, map}
 use mathlib.Core.Option.{Option, none, some}
-use lib.ListN.{replicate}
+use lib.ListN.{length, replicate}
 use Rattle.model.specs.declared.Order.{Order}
 use Rattle.model.specs.declared.Day.{Day}
 use Rattle.model.specs.Lists.{keep, all, any, total, among, once, different}
@@ -355,6 +355,16 @@ priority =
     ∷ "C 5 4" says "W 4 100"
     ∷ [])
 
+-- an order stops when its quantity is spent, and takes a last single share
+abbrev spent : Scene
+spent =
+    desk (untraded 1000 1 34_200 2) (order 1 5 100 1000 1 ∷ order 1 6 100 1001 2 ∷ free ∷ [])
+    at ("O 0 0 9 100 1001" says "M 1000 100 3 1\nA 3 100 0 0 1"
+    ∷ "O 1 0 5 100 1000" says "A 4 0 100 0 0"
+    ∷ "O 0 0 9 101 1001" says "M 1000 100 5 4\nM 1001 1 5 2\nA 5 101 0 0 2"
+    ∷ "C 6 2" says "W 2 99"
+    ∷ [])
+
 -- a day that is not sound: every call says so first
 abbrev notSound : Scene
 notSound =
@@ -421,14 +431,17 @@ scenes =
     ∷ bestPrices
     ∷ ownBest
     ∷ priority
+    ∷ spent
     ∷ notSound
     ∷ lineForms
     ∷ []
 
--- the last part is one input, cut at each newline: an empty line, a long one and an unended tail are each one refusal
+-- the second part is one input, cut at each newline: an empty line, a long one and an unended tail are each one refusal
 pub lines-tried :
     (map (λ s. replies (s .desk) (s .exchanges)) scenes ≡ map (λ s. expected (s .exchanges)) scenes)
     × (session (bytes "D 1000 1\n\nT 33300\nT 0000000000000000000000000000000000000000000000000000000000000000000000000001\nT 33300")
     ≡ bytes "D\nX 16\nK 1 0\nX 16\nX 16\n")
+    × (length lentPlaces ≡ 1_024)
+    × (length lentTrades ≡ 2_048)
 unfolding keep all any total among once different isTime closed laterRows holding rowAt phaseAt takesOrders takesCancels continuous passes boundaries free isLive standsOn better ahead insert inPriority queue other headPrice best meets within fiveBest atFiveBest tradeWith sweep filled levels lastPrice firstPrice isIn filledOf lessBy settle rest isPrice isQuantity inBand buyInRange sellInRange inRange freshDay at nextNumber issue money tally reference bestWithin entryPrice opposite entryTrades restPrice base hasPlaces isMark mayStand soundFigures isFree isOrder ownNumbers isEmpty crosses between sharesFit pricesFit turnoverFits sound _when_ firstOf unsound written openRules cleared openCall orderRules ended placed entered orderCall isOwn cancelRules cancelCall pass through stuck start moved clockRules clockCall restingOf withdrawnOf entryNumbers onto linesOf ontoWord wordsOf isDigit valueFrom bare numberOf numbersOf commandOf wordsCommand lineCommand digits spaced reply refusalLine tradeLines openLine clockLine orderLine cancelLine lentPlaces lentTrades opened openAnswer clockAnswer orderAnswer cancelAnswer onDesk answer answers session replies bytes
-lines-tried = (refl, refl)
+lines-tried = (refl, refl, refl, refl)

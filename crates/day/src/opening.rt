@@ -1,0 +1,64 @@
+// The opening of a day.
+use book::settling::clear_rows;
+use limits::is_price;
+use model::Day;
+use model::OpenReply;
+ghost use mathlib.Core.Path.{_≡_};
+ghost use mathlib.Core.Bool.{_&&_};
+ghost use Rattle.model.specs.Figures.{freshDay};
+ghost use Rattle.model.specs.Limits.{isPrice};
+ghost use Rattle.model.specs.Sound.{isMark, hasPlaces};
+ghost use Rattle.model.specs.Calls.{openCall};
+ghost use Rattle.book.specs.Rows.{bookOf};
+ghost use Rattle.day.specs.Promises.{openLeft};
+
+fn fresh_day(close: u64, mark: u64) -> Day
+    ensures { λ r. ⌜ r ≡ freshDay close mark ⌝ }
+{
+    Day {
+        close,
+        limited: mark,
+        time: 0,
+        issued: 0,
+        shares: 0,
+        turnover: 0,
+        first: 0,
+        last: 0,
+    }
+}
+
+fn has_places(rows: &[[u64; 5]]) -> bool
+    ensures { λ r. ⌜ r ≡ hasPlaces (bookOf (now (rows .entry))) ⌝ }
+{
+    if rows.len() < 1 {
+        return false;
+    }
+    if 4_096 < rows.len() {
+        return false;
+    }
+    true
+}
+
+// Previous close, mark and places are what a day can have.
+fn may_open(close: u64, mark: u64, rows: &[[u64; 5]]) -> bool
+    ensures { λ r. ⌜ r ≡ (isPrice close && isMark mark && hasPlaces (bookOf (now (rows .entry)))) ⌝ }
+{
+    if !is_price(close) {
+        return false;
+    }
+    if 1 < mark {
+        return false;
+    }
+    has_places(rows)
+}
+
+// Every place is made free. An opening reads nothing of the old day.
+pub fn open_day(close: u64, mark: u64, rows: &mut [[u64; 5]]) -> OpenReply
+    ensures { λ r. ⌜ openLeft r (now (rows .exit)) ≡ openCall close mark (bookOf (now (rows .entry))) ⌝ }
+{
+    if !may_open(close, mark, rows) {
+        return OpenReply::Refused(14);
+    }
+    clear_rows(&mut *rows);
+    OpenReply::Opened(fresh_day(close, mark))
+}
