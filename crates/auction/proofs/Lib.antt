@@ -1,0 +1,5 @@
+-- The auction's laws, from sums over the book to the whole of the price rule.
+pub mod Bools
+pub mod Sums
+pub mod Sides
+pub mod Runs
