@@ -3,3 +3,7 @@ pub mod Bools
 pub mod Sums
 pub mod Sides
 pub mod Runs
+pub mod Conditions
+pub mod Turning
+pub mod Spanning
+pub mod Ties

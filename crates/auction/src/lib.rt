@@ -1,6 +1,8 @@
 // The auction over the book's rows: demand and supply at a price, the prices that qualify, the one that is left, the
 // price list and the report. The book is read by one pass for each price that is looked at.
 pub mod depth;
+pub mod ends;
+pub mod price;
 
 // Demand and supply, each at a price of its own.
 pub struct Interest {
