@@ -7,3 +7,5 @@ pub mod Conditions
 pub mod Turning
 pub mod Spanning
 pub mod Ties
+pub mod Writing
+pub mod Signed

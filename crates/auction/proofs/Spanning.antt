@@ -1,7 +1,7 @@
 -- The qualifying prices are none, or all from one end to the other.
 use Prim.Native.Nat.{ℕ, zero, suc, _+_, _-_, _≤_, _<_}
 use mathlib.Core.Path.{_≡_, refl, sym, ap, _∙_}
-use mathlib.Core.Logic.{_⊎_, inl, inr}
+use mathlib.Core.Logic.{_⊎_, inl, inr, ⊎-elim}
 use mathlib.Core.List.{List, [], _∷_}
 use native.Mathlib.Decide.{decLt}
 use native.Mathlib.Omega.{arith}
@@ -97,3 +97,6 @@ span-cases os {s} e =
 -- every book has its span
 pub span-law : (os : List Order) → SpanCases os (ends (qualifying os) .lo) (ends (qualifying os) .hi)
 span-law os = span-cases os refl
+
+pub spanned : (os : List Order) {s : Span} → s ≡ ends (qualifying os) → (s .lo ≡ 0 → ⊥) → Spans os (s .lo) (s .hi)
+spanned os e h = ⊎-elim (λ k. absurd (h (k .0))) (λ k. k) (span-cases os e)

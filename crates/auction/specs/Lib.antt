@@ -2,3 +2,4 @@
 pub mod Interest
 pub mod Spans
 pub mod Rule
+pub mod Written

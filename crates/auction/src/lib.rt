@@ -2,7 +2,9 @@
 // price list and the report. The book is read by one pass for each price that is looked at.
 pub mod depth;
 pub mod ends;
+pub mod listing;
 pub mod price;
+pub mod report;
 
 // Demand and supply, each at a price of its own.
 pub struct Interest {
@@ -14,4 +16,10 @@ pub struct Interest {
 pub struct Span {
     pub lo: u64,
     pub hi: u64,
+}
+
+// How many prices were written, and the next one due, or 0.
+pub struct Listed {
+    pub count: usize,
+    pub next: u64,
 }
