@@ -1,4 +1,7 @@
 // The book as rows of memory: reading and setting one place or one trade. Nothing above this crate knows what a row holds.
+pub mod priority;
+pub mod settling;
+
 ghost use mathlib.Core.Path.{_≡_};
 ghost use Prim.Native.Nat.{_<_};
 ghost use mathlib.Core.List.{[]};
@@ -6,6 +9,12 @@ ghost use lib.ListN.{length, getD, set};
 ghost use Rattle.book.specs.Rows.{orderOf, rowOf, tradeOf, tradeRow};
 use model::Order;
 use model::Trade;
+
+// The next order of a queue with its key, if there is one.
+pub enum Next {
+    At { order: Order, key: u64 },
+    Nothing,
+}
 
 // The order at a place.
 pub fn order_at(rows: &[[u64; 5]], place: usize) -> Order

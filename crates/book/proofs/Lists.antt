@@ -1,0 +1,87 @@
+-- Laws of the parts of a list that a test keeps, and of what holds for each element.
+use Prim.Native.Nat.{ℕ, suc, _+_, _≤_}
+use mathlib.Core.Path.{_≡_, refl, sym, ap, _∙_}
+use mathlib.Core.Bool.{Bool, true, false, cond, _&&_}
+use mathlib.Core.List.{List, [], _∷_, map}
+use native.Mathlib.Omega.{arith}
+use lib.ListN.{length}
+use Rattle.model.specs.Lists.{keep, total}
+use Rattle.book.specs.Standing.{Each}
+
+module _ {A : Type 0} where
+  pub keep-true : (p : A → Bool) (x : A) (xs : List A) → p x ≡ true → keep p (x ∷ xs) ≡ x ∷ keep p xs
+  unfolding keep
+  keep-true p x xs e = rw e
+
+  pub keep-false : (p : A → Bool) (x : A) (xs : List A) → p x ≡ false → keep p (x ∷ xs) ≡ keep p xs
+  unfolding keep
+  keep-false p x xs e = rw e
+
+  -- two tests, one after the other
+  pub keep-keep : (p q : A → Bool) (xs : List A) → keep p (keep q xs) ≡ keep (λ x. q x && p x) xs
+  unfolding keep
+  keep-keep p q [] = refl
+  keep-keep p q (x ∷ xs) = go (q x) (keep-keep p q xs)
+    where
+      go :
+          (t : Bool)
+          → keep p (keep q xs) ≡ keep (λ y. q y && p y) xs
+          → keep p (cond t (x ∷ keep q xs) (keep q xs))
+          ≡ cond (t && p x) (x ∷ keep (λ y. q y && p y) xs) (keep (λ y. q y && p y) xs)
+      go true h = ap (λ (l : List A). cond (p x) (x ∷ l) l) h
+      go false h = h
+
+  pub length-keep : (p : A → Bool) (xs : List A) → length (keep p xs) ≤ length xs
+  unfolding keep
+  length-keep p [] = omega arith
+  length-keep p (x ∷ xs) = go (p x) (length-keep p xs)
+    where
+      go : (t : Bool) → length (keep p xs) ≤ length xs → length (cond t (x ∷ keep p xs) (keep p xs)) ≤ suc (length xs)
+      go true h = omega arith
+      go false h = omega arith
+
+  -- ---- what holds for each
+
+  -- what follows from two facts, element by element
+  pub both : (P R S : A → Type 0) (xs : List A) → ((x : A) → P x → R x → S x) → Each P xs → Each R xs → Each S xs
+  both P R S [] f p r = tt
+  both P R S (x ∷ xs) f p r = (f x (p .0) (r .0), both P R S xs f (p .1) (r .1))
+
+  pub each : (P S : A → Type 0) (xs : List A) → ((x : A) → P x → S x) → Each P xs → Each S xs
+  each P S xs f p = both P P S xs (λ x h k. f x h) p p
+
+  pub every : (P : A → Type 0) (xs : List A) → ((x : A) → P x) → Each P xs
+  every P [] f = tt
+  every P (x ∷ xs) f = (f x, every P xs f)
+
+  pub each-keep : (P : A → Type 0) (p : A → Bool) (xs : List A) → Each P xs → Each P (keep p xs)
+  unfolding keep
+  each-keep P p [] e = tt
+  each-keep P p (x ∷ xs) e = go (p x) (each-keep P p xs (e .1))
+    where
+      go : (t : Bool) → Each P (keep p xs) → Each P (cond t (x ∷ keep p xs) (keep p xs))
+      go true h = (e .0, h)
+      go false h = h
+
+  -- what is kept passes the test
+  pub kept : (p : A → Bool) (xs : List A) → Each (λ x. p x ≡ true) (keep p xs)
+  unfolding keep
+  kept p [] = tt
+  kept p (x ∷ xs) = go (p x) refl (kept p xs)
+    where
+      go :
+          (t : Bool) → p x ≡ t → Each (λ y. p y ≡ true) (keep p xs) → Each (λ y. p y ≡ true) (cond t (x ∷ keep p xs) (keep p xs))
+      go true e h = (e, h)
+      go false e h = h
+
+  -- where all pass, all are kept
+  pub keep-all : (p : A → Bool) (xs : List A) → Each (λ x. p x ≡ true) xs → keep p xs ≡ xs
+  unfolding keep
+  keep-all p [] e = refl
+  keep-all p (x ∷ xs) e = keep-true p x xs (e .0) ∙ ap (λ (l : List A). x ∷ l) (keep-all p xs (e .1))
+
+  -- where none passes, none is kept
+  pub keep-none : (p : A → Bool) (xs : List A) → Each (λ x. p x ≡ false) xs → keep p xs ≡ []
+  unfolding keep
+  keep-none p [] e = refl
+  keep-none p (x ∷ xs) e = keep-false p x xs (e .0) ∙ keep-none p xs (e .1)
