@@ -1,0 +1,11 @@
+-- The auction's laws, from sums over the book to the whole of the price rule.
+pub mod Bools
+pub mod Sums
+pub mod Sides
+pub mod Runs
+pub mod Conditions
+pub mod Turning
+pub mod Spanning
+pub mod Ties
+pub mod Writing
+pub mod Signed

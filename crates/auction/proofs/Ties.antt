@@ -1,0 +1,244 @@
+-- The two tie rules on the qualifying prices: those of smallest difference lie together, and one of them is nearest.
+use Prim.Native.Nat.{ℕ, zero, suc, _+_, _-_, _≤_, _<_, min}
+use mathlib.Core.Path.{_≡_, refl, sym, ap, ap₂, _∙_}
+use mathlib.Core.Logic.{_⊎_, inl, inr, ⊎-elim}
+use mathlib.Core.Bool.{Bool, true, false}
+use mathlib.Core.List.{List, [], _∷_}
+use native.Mathlib.Nat.{le-refl, le-trans}
+use native.Mathlib.Decide.{decLt, decLe, ℕ-discrete}
+use native.Mathlib.Omega.{arith}
+use borrow.Author.Tests.{lt-ltb, le-ltb}
+use lib.ListN.{length, getD}
+use lib.Dec.{ltb}
+use Rattle.model.specs.declared.Order.{Order}
+use Rattle.model.specs.Choice.{if_then_else_}
+use Rattle.model.specs.Lists.{among, atLeast, from}
+use Rattle.model.specs.Auction.{distance, demand, supply, qualifying, leastDifference, leftBy}
+use Rattle.auction.specs.declared.Span.{Span}
+use Rattle.auction.specs.declared.Interest.{Interest}
+use Rattle.auction.specs.Interest.{interestAt}
+use Rattle.auction.specs.Spans.{ends, gap, flatter, nearestIn}
+use Rattle.auction.proofs.Sides.{pass-buys, pass-sells}
+use Rattle.auction.proofs.Runs.{Least, least-run}
+use Rattle.auction.proofs.Conditions.{inner-level}
+use Rattle.auction.proofs.Spanning.{Spans, SpanCases, span-cases, span-law}
+
+-- ---- where a function that is 0 strictly between lo and hi is least
+module _ (g : ℕ → ℕ) (lo hi m : ℕ) where
+  abbrev Low : ℕ → Type 0
+  Low low = ((low ≡ lo) × (g lo ≡ m)) ⊎ ((low ≡ lo + 1) × (m < g lo))
+
+  abbrev High : ℕ → Type 0
+  High high = ((high ≡ hi) × (g hi ≡ m)) ⊎ ((high + 1 ≡ hi) × (m < g hi))
+
+  least-ends : {low high : ℕ} → ((q : ℕ) → lo < q → q < hi → g q ≡ m) → Low low → High high → low ≤ high → g low ≡ m → Least g lo hi low high
+  least-ends {low} {high} inner l h some e =
+      record {
+        from-lo = ⊎-elim (λ k. omega arith) (λ k. omega arith) l;
+        some = some;
+        to-hi = ⊎-elim (λ k. omega arith) (λ k. omega arith) h;
+        same = λ q a b. at q a b ∙ sym e;
+        below = λ q a b. ⊎-elim (λ k. absurd (omega arith)) (λ k. let z : g q ≡ g lo = ap g (omega arith) in omega arith) l;
+        above = λ q a b. ⊎-elim (λ k. absurd (omega arith)) (λ k. let z : g q ≡ g hi = ap g (omega arith) in omega arith) h;
+      }
+    where
+      at : (q : ℕ) → low ≤ q → q ≤ high → g q ≡ m
+      at q a b = elim (decLe q lo) [
+        | yes k ↦ ⊎-elim (λ z. let f : q ≡ lo = omega arith in ap g f ∙ z .1) (λ z. absurd (omega arith)) l
+        | no k ↦ elim (decLe hi q) [
+          | yes k′ ↦ ⊎-elim (λ z. let f : q ≡ hi = omega arith in ap g f ∙ z .1) (λ z. absurd (omega arith)) h
+          | no k′ ↦ inner q (omega arith) (omega arith)
+        ]
+      ]
+
+  low-by-test : (g (lo + 1) < g lo → m < g lo) → (g lo ≤ g (lo + 1) → g lo ≡ m) → Low (if ltb (g (lo + 1)) (g lo) then lo + 1 else lo)
+  low-by-test move stay = elim (decLt (g (lo + 1)) (g lo)) [
+    | yes h ↦ rw (lt-ltb (g (lo + 1)) (g lo) h) (inr (refl, move h))
+    | no h ↦ let k : g lo ≤ g (lo + 1) = omega arith in rw (le-ltb (g (lo + 1)) (g lo) k) (inl (refl, stay k))
+  ]
+
+  high-by-test : lo < hi → (g (hi - 1) < g hi → m < g hi) → (g hi ≤ g (hi - 1) → g hi ≡ m) → High (if ltb (g (hi - 1)) (g hi) then hi - 1 else hi)
+  high-by-test l move stay = elim (decLt (g (hi - 1)) (g hi)) [
+    | yes h ↦ rw (lt-ltb (g (hi - 1)) (g hi) h) (inr (omega arith, move h))
+    | no h ↦ let k : g hi ≤ g (hi - 1) = omega arith in rw (le-ltb (g (hi - 1)) (g hi) k) (inl (refl, stay k))
+  ]
+
+module _ (g : ℕ → ℕ) (lo hi : ℕ) (ordered : lo < hi) (inner : (q : ℕ) → lo < q → q < hi → g q ≡ 0) where
+  abbrev lowOf : ℕ
+  lowOf = if ltb (g (lo + 1)) (g lo) then lo + 1 else lo
+
+  abbrev highOf : ℕ
+  highOf = if ltb (g (hi - 1)) (g hi) then hi - 1 else hi
+
+  -- prices between the two: the least is 0
+  wide : lo + 1 < hi → Least g lo hi lowOf highOf
+  wide h =
+      let a : g (lo + 1) ≡ 0 = inner (lo + 1) (omega arith) h in
+      let b : g (hi - 1) ≡ 0 = inner (hi - 1) (omega arith) (omega arith) in
+      let l : Low g lo hi 0 lowOf = low-by-test g lo hi 0 (λ k. omega arith) (λ k. omega arith) in
+      let r : High g lo hi 0 highOf = high-by-test g lo hi 0 ordered (λ k. omega arith) (λ k. omega arith) in
+      least-ends g lo hi 0 inner l r
+      (⊎-elim (λ x. ⊎-elim (λ y. omega arith) (λ y. omega arith) r) (λ x. ⊎-elim (λ y. omega arith) (λ y. omega arith) r) l)
+      (⊎-elim (λ x. ap g (x .0) ∙ x .1) (λ x. ap g (x .0) ∙ a) l)
+
+  -- no price between them: the least is the smaller of the two
+  narrow : lo + 1 ≡ hi → Least g lo hi lowOf highOf
+  narrow e =
+      let m : ℕ = min (g lo) (g hi) in
+      let a : g (lo + 1) ≡ g hi = ap g e in
+      let b : g (hi - 1) ≡ g lo = ap g (omega arith) in
+      let l : Low g lo hi m lowOf = low-by-test g lo hi m (λ k. omega arith) (λ k. omega arith) in
+      let r : High g lo hi m highOf = high-by-test g lo hi m ordered (λ k. omega arith) (λ k. omega arith) in
+      least-ends g lo hi m (λ q x y. absurd (omega arith)) l r
+      (⊎-elim (λ x. ⊎-elim (λ y. omega arith) (λ y. omega arith) r) (λ x. ⊎-elim (λ y. omega arith) (λ y. absurd (omega arith)) r) l)
+      (⊎-elim (λ x. ap g (x .0) ∙ x .1) (λ x. ⊎-elim (λ y. ap g (x .0) ∙ a ∙ y .1) (λ y. absurd (omega arith)) r) l)
+
+  pub least-between : Least g lo hi lowOf highOf
+  least-between = elim (decLt (lo + 1) hi) [ yes h ↦ wide h | no h ↦ narrow (omega arith) ]
+
+-- ---- the smallest difference
+pub gap-level : (os : List Order) (p : ℕ) → demand os p ≡ supply os p → gap os p ≡ 0
+unfolding gap distance
+gap-level os p e = omega arith
+
+pub least-alone : (g : ℕ → ℕ) (p : ℕ) → Least g p p p p
+least-alone g p =
+    record {
+      from-lo = le-refl p;
+      some = le-refl p;
+      to-hi = le-refl p;
+      same = λ q h k. ap g (omega arith);
+      below = λ q h k. absurd (omega arith);
+      above = λ q h k. absurd (omega arith);
+    }
+
+pub flattest : (os : List Order) {lo hi : ℕ} → Spans os lo hi → lo < hi → Least (gap os) lo hi (flatter os lo (lo + 1)) (flatter os hi (hi - 1))
+unfolding flatter
+flattest os {lo} {hi} s h =
+    least-between (gap os) lo hi h
+    (λ q k l. gap-level os q (inner-level os (s .each lo (le-refl lo) (s .some)) (s .each hi (s .some) (le-refl hi)) k l))
+
+-- ---- the nearest
+nearest-is : (ref a b : ℕ) → ((nearestIn ref a b ≡ a) × (ref < a)) ⊎ (((nearestIn ref a b ≡ b) × (a ≤ ref) × (b < ref)) ⊎ ((nearestIn ref a b ≡ ref) × (a ≤ ref) × (ref ≤ b)))
+unfolding nearestIn
+nearest-is ref a b = elim (decLt ref a) [
+  | yes k ↦ inl (rw (lt-ltb ref a k), k)
+  | no k ↦ elim (decLt b ref) [
+    | yes l ↦ inr (inl (rw (le-ltb ref a (omega arith), lt-ltb b ref l), omega arith, l))
+    | no l ↦ inr (inr (rw (le-ltb ref a (omega arith), le-ltb b ref (omega arith)), omega arith, omega arith))
+  ]
+]
+
+nearest-point : (ref a b n : ℕ) → a ≤ b → ((n ≡ a) × (ref < a)) ⊎ (((n ≡ b) × (a ≤ ref) × (b < ref)) ⊎ ((n ≡ ref) × (a ≤ ref) × (ref ≤ b))) → Least (λ p. distance p ref) a b n n
+unfolding distance
+nearest-point ref a b n h (inl k) =
+    record {
+      from-lo = omega arith;
+      some = le-refl n;
+      to-hi = omega arith;
+      same = λ q x y. let e : q ≡ n = omega arith in rw e;
+      below = λ q x y. absurd (omega arith);
+      above = λ q x y. omega arith;
+    }
+nearest-point ref a b n h (inr (inl k)) =
+    record {
+      from-lo = omega arith;
+      some = le-refl n;
+      to-hi = omega arith;
+      same = λ q x y. let e : q ≡ n = omega arith in rw e;
+      below = λ q x y. omega arith;
+      above = λ q x y. absurd (omega arith);
+    }
+nearest-point ref a b n h (inr (inr k)) =
+    record {
+      from-lo = omega arith;
+      some = le-refl n;
+      to-hi = omega arith;
+      same = λ q x y. let e : q ≡ n = omega arith in rw e;
+      below = λ q x y. omega arith;
+      above = λ q x y. omega arith;
+    }
+
+pub nearest-least : (ref a b : ℕ) → a ≤ b → Least (λ p. distance p ref) a b (nearestIn ref a b) (nearestIn ref a b)
+nearest-least ref a b h = nearest-point ref a b (nearestIn ref a b) h (nearest-is ref a b)
+
+-- ---- what is left of the qualifying prices
+one-run : (n : ℕ) → from n 1 ≡ n ∷ []
+unfolding from
+one-run n = refl
+
+none-least : (g : ℕ → ℕ) → atLeast g [] ≡ []
+unfolding atLeast
+none-least g = refl
+
+pub none-left : (os : List Order) (ref : ℕ) → qualifying os ≡ [] → leftBy os ref ≡ []
+unfolding leftBy leastDifference
+none-left os ref e =
+    rw (e, none-least (λ p. distance (demand os p) (supply os p))) (none-least (λ p. distance p ref))
+
+module _ (os : List Order) {lo hi : ℕ} (s : Spans os lo hi) where
+  -- the prices of smallest difference lie from one of them to another
+  pub record Flattest (low high : ℕ) : Type 0 where
+    pub least : Least (gap os) lo hi low high
+    pub list : leastDifference os ≡ from low (high + 1 - low)
+
+  to-flattest : {low high : ℕ} → Least (gap os) lo hi low high → Flattest low high
+  unfolding leastDifference gap
+  to-flattest {low} {high} l = record { least = l; list = rw (s .list) (least-run (gap os) lo hi low high l) }
+
+  pub flattest-one : lo ≡ hi → Flattest lo lo
+  flattest-one e = to-flattest (rw (← e) (least-alone (gap os) lo))
+
+  pub flattest-many : lo < hi → Flattest (flatter os lo (lo + 1)) (flatter os hi (hi - 1))
+  flattest-many h = to-flattest (flattest os s h)
+
+  pub left-is : (ref : ℕ) {low high : ℕ} → Flattest low high → leftBy os ref ≡ nearestIn ref low high ∷ []
+  unfolding leftBy
+  left-is ref {low} {high} f =
+      let n = nearestIn ref low high in
+      rw (f .list)
+      (least-run (λ p. distance p ref) low high n n (nearest-least ref low high (f .least .some)) ∙ one n)
+    where
+      one : (n : ℕ) → from n (n + 1 - n) ≡ n ∷ []
+      one n = let e : n + 1 - n ≡ 1 = omega arith in ap (from n) e ∙ one-run n
+
+-- ---- what the code answers
+-- a span of one price, or none
+pub price-alone : (os : List Order) (ref : ℕ) {s : Span} → s ≡ ends (qualifying os) → s .lo ≡ s .hi → s .lo ≡ getD (leftBy os ref) 0 0
+price-alone os ref {s} e same =
+    ⊎-elim
+    (λ k. rw (none-left os ref (k .2)) (k .0))
+    (λ k. rw (left-is os k ref (flattest-one os k same)) (sym (at-one ref (s .lo))))
+    (span-cases os e)
+  where
+    at-one : (ref p : ℕ) → nearestIn ref p p ≡ p
+    at-one ref p = let l = nearest-least ref p p (le-refl p) in omega (arith, l .from-lo, l .to-hi)
+
+pub price-among : (os : List Order) (ref : ℕ) {s : Span} {low high r : ℕ} → s ≡ ends (qualifying os) → (s .lo ≡ s .hi → ⊥) → low ≡ flatter os (s .lo) (s .lo + 1) → high ≡ flatter os (s .hi) (s .hi - 1) → r ≡ nearestIn ref low high → r ≡ getD (leftBy os ref) 0 0
+price-among os ref {s} e apart hl hh hr =
+    ⊎-elim
+    (λ k. absurd (apart (k .0 ∙ sym (k .1))))
+    (λ k. let l : s .lo < s .hi = omega (arith, k .some) in rw (left-is os k ref (flattest-many os k l)) (rw (hr, hl, hh)))
+    (span-cases os e)
+
+pub many-span : (os : List Order) {s : Span} → s ≡ ends (qualifying os) → (s .lo ≡ s .hi → ⊥) → (1 ≤ s .hi) × (s .lo ≤ 999_999)
+many-span os {s} e apart =
+    ⊎-elim (λ k. absurd (apart (k .0 ∙ sym (k .1)))) (λ k. (omega (arith, k .from-1, k .some), omega (arith, k .some, k .to-999999))) (span-cases os e)
+
+-- the absolute difference, of one pass
+pub gap-below : (os : List Order) (p : ℕ) {r : Interest} → r ≡ interestAt os p p → r .demand < r .supply → r .supply - r .demand ≡ gap os p
+unfolding gap distance
+gap-below os p e h = omega (arith, pass-buys os p p e, pass-sells os p p e)
+
+pub gap-above : (os : List Order) (p : ℕ) {r : Interest} → r ≡ interestAt os p p → r .supply ≤ r .demand → r .demand - r .supply ≡ gap os p
+unfolding gap distance
+gap-above os p e h = omega (arith, pass-buys os p p e, pass-sells os p p e)
+
+-- an end moves where the difference is smaller beside it
+pub end-moves : (os : List Order) (p q : ℕ) {a b : ℕ} → a ≡ gap os q → b ≡ gap os p → a < b → q ≡ flatter os p q
+unfolding flatter
+end-moves os p q ha hb h = rw (lt-ltb (gap os q) (gap os p) (omega arith))
+
+pub end-stays : (os : List Order) (p q : ℕ) {a b : ℕ} → a ≡ gap os q → b ≡ gap os p → b ≤ a → p ≡ flatter os p q
+unfolding flatter
+end-stays os p q ha hb h = rw (le-ltb (gap os q) (gap os p) (omega arith))

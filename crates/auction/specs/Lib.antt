@@ -1,0 +1,5 @@
+-- What the auction's functions say beside the definitions of the model.
+pub mod Interest
+pub mod Spans
+pub mod Rule
+pub mod Written

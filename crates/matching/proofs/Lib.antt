@@ -1,0 +1,7 @@
+-- The laws behind the functions of continuous trading, and those that callers cite.
+pub mod Prices
+pub mod Cuts
+pub mod Partners
+pub mod Tallies
+pub mod Sweeps
+pub mod Outcome

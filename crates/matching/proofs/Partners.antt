@@ -1,0 +1,141 @@
+-- Whom a taker trades with next, and the trade with it.
+use Prim.Native.Nat.{ℕ, _-_, _≤_, _<_, min}
+use mathlib.Core.Path.{_≡_, refl, sym, ap, _∙_}
+use mathlib.Core.Bool.{Bool, true, false, cond, _&&_, and-false}
+use mathlib.Core.List.{List, [], _∷_}
+use native.Mathlib.Omega.{arith}
+use lib.Dec.{ltb, eqb}
+use borrow.Author.Tests.{eq-eqb, ne-eqb, lt-ltb, le-ltb}
+use Rattle.model.specs.declared.Order.{Order}
+use Rattle.model.specs.declared.Trade.{Trade}
+use Rattle.model.specs.declared.Taker.{Taker}
+use Rattle.model.specs.Book.{queue, other}
+use Rattle.model.specs.Matching.{meets, tradeWith, sweep}
+use Rattle.book.specs.declared.Next.{Next}
+use Rattle.book.specs.declared.Next.the-variants.{At, Nothing}
+use Rattle.book.specs.Priority.{key, beyond, nextOf}
+use Rattle.matching.specs.Sweeping.{wants, partnerOf}
+
+-- ---- whether it trades
+
+-- it may trade at this price
+abbrev allows : Taker → ℕ → Bool
+allows t p = meets (t .side) (t .limit) p
+
+wants-nothing : (t : Taker) (q p : ℕ) → q ≡ 0 → wants t q p ≡ false
+unfolding wants
+wants-nothing t q p e =
+    let l : q ≤ 0 = omega arith in
+    rw (le-ltb 0 q l)
+
+wants-far : (t : Taker) (q p : ℕ) → allows t p ≡ false → wants t q p ≡ false
+unfolding wants
+wants-far t q p e = rw (e, and-false)
+
+wants-near : (t : Taker) (q p : ℕ) → (q ≡ 0 → ⊥) → allows t p ≡ true → wants t q p ≡ true
+unfolding wants
+wants-near t q p n e =
+    let l : 0 < q = omega arith in
+    rw (e, lt-ltb 0 q l)
+
+-- a trade is for some shares, at a price that the limit allows
+pub wants-allows : (t : Taker) (q p : ℕ) → wants t q p ≡ true → allows t p ≡ true
+unfolding wants
+wants-allows t q p e = go (ltb 0 q) (allows t p) e
+  where
+    go : (a b : Bool) → a && b ≡ true → b ≡ true
+    go true b e = e
+    go false b e = let z : _≡_ {A = ℕ} 0 1 = cc in absurd (omega arith)
+
+-- ---- the sweep, one order at a time
+
+pub sweep-nil : (t : Taker) (q : ℕ) → sweep t q [] ≡ []
+unfolding sweep
+sweep-nil t q = refl
+
+pub sweep-cons :
+    (t : Taker) (q : ℕ) (o : Order) (os : List Order)
+    → sweep t q (o ∷ os) ≡ cond (wants t q (o .price)) (tradeWith t q o ∷ sweep t (q - o .left) os) []
+unfolding sweep wants
+sweep-cons t q o os = refl
+
+pub sweep-none :
+    (t : Taker) (q : ℕ) (o : Order) (os : List Order) → wants t q (o .price) ≡ false → sweep t q (o ∷ os) ≡ []
+sweep-none t q o os e = sweep-cons t q o os ∙ rw e
+
+pub sweep-one :
+    (t : Taker) (q : ℕ) (o : Order) (os : List Order)
+    → wants t q (o .price) ≡ true
+    → sweep t q (o ∷ os) ≡ tradeWith t q o ∷ sweep t (q - o .left) os
+sweep-one t q o os e = sweep-cons t q o os ∙ rw e
+
+-- ---- with whom
+
+module _ (t : Taker) (q : ℕ) where
+  pub spent : (rest : List Order) → q ≡ 0 → Nothing ≡ partnerOf t q rest
+  unfolding partnerOf
+  spent [] e = refl
+  spent (o ∷ os) e = rw (wants-nothing t q (o .price) e)
+
+  pub nobody : (rest : List Order) (n : Next) → n ≡ nextOf rest → n ≡ Nothing → Nothing ≡ partnerOf t q rest
+  unfolding partnerOf nextOf
+  nobody [] n f e = refl
+  nobody (o ∷ os) n f e = let z : _≡_ {A = ℕ} 0 1 = cc in absurd (omega arith)
+
+  pub too-far :
+      (rest : List Order) (n : Next) (o : Order) (k : ℕ)
+      → n ≡ nextOf rest
+      → n ≡ At o k
+      → allows t (o .price) ≡ false
+      → Nothing ≡ partnerOf t q rest
+  unfolding partnerOf nextOf
+  too-far [] n o k f e m = refl
+  too-far (p ∷ os) n o k f e m =
+      let same : o ≡ p = cc in
+      rw (wants-far t q (p .price) (ap (λ (x : Order). allows t (x .price)) (sym same) ∙ m))
+
+  pub the-first :
+      (rest : List Order) (n : Next) (o : Order) (k : ℕ)
+      → n ≡ nextOf rest
+      → n ≡ At o k
+      → (q ≡ 0 → ⊥)
+      → allows t (o .price) ≡ true
+      → At o k ≡ partnerOf t q rest
+  unfolding partnerOf nextOf
+  the-first [] n o k f e z m = sym e ∙ f
+  the-first (p ∷ os) n o k f e z m =
+      let same : o ≡ p = cc in
+      rw (wants-near t q (p .price) z (ap (λ (x : Order). allows t (x .price)) (sym same) ∙ m)) (sym e ∙ f)
+
+pub on-the-other :
+    (taking side after : ℕ) (book : List Order) (n : Next)
+    → side ≡ other taking
+    → n ≡ nextOf (beyond after (queue side book))
+    → n ≡ nextOf (beyond after (queue (other taking) book))
+on-the-other taking side after book n e f = f ∙ ap (λ (s : ℕ). nextOf (beyond after (queue s book))) e
+
+-- ---- the trade
+
+module _ (t : Taker) (q : ℕ) (o : Order) where
+  pub trade-buy :
+      (n : ℕ)
+      → n ≡ min q (o .left)
+      → t .side ≡ 0
+      → _≡_ {A = Trade} (record { price = o .price; quantity = n; buyer = t .number; seller = o .number }) (tradeWith t q o)
+  unfolding tradeWith
+  trade-buy n e s = rw (eq-eqb (t .side) 0 s, e)
+
+  pub trade-sell :
+      (n : ℕ)
+      → n ≡ min q (o .left)
+      → (t .side ≡ 0 → ⊥)
+      → _≡_ {A = Trade} (record { price = o .price; quantity = n; buyer = o .number; seller = t .number }) (tradeWith t q o)
+  unfolding tradeWith
+  trade-sell n e s = rw (ne-eqb (t .side) 0 s, e)
+
+  -- it takes no more than what is left
+  pub trade-takes : (r : Trade) → r ≡ tradeWith t q o → r .quantity ≤ q
+  unfolding tradeWith
+  trade-takes r e =
+      let n : r .quantity ≡ min q (o .left) = ap (λ (x : Trade). x .quantity) e in
+      omega arith

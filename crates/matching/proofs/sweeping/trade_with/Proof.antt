@@ -1,0 +1,17 @@
+-- By the test on the side.
+use Rattle.matching.proofs.Partners.{trade-buy, trade-sell}
+use borrow.Author.Needs.{needs}
+use Rattle.matching.proofs.sweeping.trade_with.Statement.{statement}
+use Rattle.matching.proofs.sweeping.trade_with.Tie as tie
+
+least-requires : tie.Need-least-requires
+least-requires c κs = search needs
+
+returns : tie.Need-returns
+returns c = trade-buy _ _ _ _ (c .before .before .least .ensures) (c .if1 .taken)
+
+returns-2 : tie.Need-returns-2
+returns-2 c = trade-sell _ _ _ _ (c .before .before .least .ensures) (c .if1 .left)
+
+pub trade-with-spec : {M : Type 1} → statement M
+trade-with-spec = tie.close (tie.spec least-requires returns returns-2)

@@ -1,0 +1,2 @@
+-- What the functions of continuous trading say: an order on its way through the other side.
+pub mod Sweeping

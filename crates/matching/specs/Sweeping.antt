@@ -1,0 +1,43 @@
+-- An order on its way through the other side: the best prices of a queue, what trades come to, and one step of the way.
+use Prim.Native.Nat.{ℕ, _+_}
+use mathlib.Core.Bool.{Bool, _&&_}
+use mathlib.Core.List.{List, [], _∷_, map}
+use lib.ListN.{length, take}
+use lib.Dec.{ltb}
+use Rattle.model.specs.declared.Order.{Order}
+use Rattle.model.specs.declared.Trade.{Trade}
+use Rattle.model.specs.declared.Taker.{Taker}
+use Rattle.model.specs.Choice.{if_then_else_}
+use Rattle.model.specs.Lists.{keep, among, once}
+use Rattle.model.specs.Matching.{meets, filled, levels, lastPrice}
+use Rattle.book.specs.declared.Next.{Next}
+use Rattle.book.specs.declared.Next.the-variants.{At, Nothing}
+use Rattle.book.specs.Priority.{key}
+use Rattle.matching.specs.declared.Swept.{Swept}
+
+-- the n best prices of a queue, and its orders that stand at them
+unfoldable pub atBest : ℕ → List Order → List Order
+atBest n os = keep (λ o. among (take n (once (map (λ o. o .price) os))) (o .price)) os
+
+-- what a run of trades comes to
+unfoldable pub comesTo : List Trade → Swept
+comesTo ts = record { trades = length ts; filled = filled ts; levels = levels ts; last = lastPrice 0 ts }
+
+-- ---- one step
+
+-- a taker that wants q more trades at this price
+unfoldable pub wants : Taker → ℕ → ℕ → Bool
+wants t q p = ltb 0 q && meets (t .side) (t .limit) p
+
+-- whom it trades with next
+unfoldable pub partnerOf : Taker → ℕ → List Order → Next
+partnerOf t q [] = Nothing
+partnerOf t q (o ∷ os) = if wants t q (o .price) then At o (key o) else Nothing
+
+-- one trade more
+unfoldable pub withTrade : Swept → Trade → Swept
+withTrade s t = record { trades = s .trades + 1; filled = s .filled + t .quantity; levels = s .levels; last = t .price }
+
+-- one price more
+unfoldable pub withPrice : Swept → Swept
+withPrice s = record { trades = s .trades; filled = s .filled; levels = s .levels + 1; last = s .last }

@@ -1,0 +1,10 @@
+// Continuous trading: an order meets the other side of the book, best price first, then lowest number.
+pub mod sweeping;
+
+// What a run of trades comes to: how many, the shares filled, how many different prices, and the last price.
+pub struct Swept {
+    pub trades: usize,
+    pub filled: u64,
+    pub levels: u64,
+    pub last: u64,
+}

@@ -1,0 +1,163 @@
+// An order on its way through the other side, one resting order after the other. The book stays as it is.
+ghost use mathlib.Core.Path.{_≡_};
+ghost use Prim.Native.Nat.{_+_, _≤_, _<_, _^_, min};
+ghost use mathlib.Core.List.{[]};
+ghost use lib.ListN.{length};
+ghost use Rattle.model.specs.Book.{other, queue};
+ghost use Rattle.model.specs.Matching as matching;
+ghost use Rattle.book.specs.Rows.{bookOf, tradeRows};
+ghost use Rattle.book.specs.Standing.{Each, Fair, Standing};
+ghost use Rattle.book.specs.Priority.{beyond};
+ghost use Rattle.book.specs.Writing.{front};
+ghost use Rattle.matching.specs.Sweeping.{atBest, comesTo, partnerOf, withTrade, withPrice};
+use crate::Swept;
+use book::Next;
+use book::priority::next_after;
+use book::settling::put_trade_below;
+use model::Order;
+use model::Taker;
+use model::Trade;
+
+pub fn other_side(side: u64) -> u64
+    ensures { λ r. ⌜ r ≡ other side ⌝ }
+{
+    if side == 0 { 1 } else { 0 }
+}
+
+// A price that a buy with this limit may pay, or a sell take.
+pub fn meets(side: u64, limit: u64, price: u64) -> bool
+    ensures { λ r. ⌜ r ≡ matching.meets side limit price ⌝ }
+{
+    if side == 0 {
+        price <= limit
+    } else {
+        limit <= price
+    }
+}
+
+// Whom a taker that wants `left` more trades with next: the first past the key, if the limit allows its price.
+fn partner(rows: &[[u64; 5]], t: Taker, left: u64, after: u64) -> Next
+    requires { ⌜ Each Fair (bookOf (now rows)) ⌝ }
+    ensures { λ r. ⌜ r ≡ partnerOf t left (beyond after (queue (other (t .side)) (bookOf (now (rows .entry))))) ⌝ }
+{
+    if left == 0 {
+        return Next::Nothing;
+    }
+    let side = other_side(t.side);
+    let next = next_after(rows, side, after);
+    match next {
+        Next::Nothing => Next::Nothing,
+        Next::At { order, key } => {
+            if meets(t.side, t.limit, order.price) {
+                Next::At { order, key }
+            } else {
+                Next::Nothing
+            }
+        }
+    }
+}
+
+fn least(a: u64, b: u64) -> u64
+    ensures { λ r. ⌜ r ≡ min a b ⌝ }
+{
+    if a < b { a } else { b }
+}
+
+// The trade with a partner, at the partner's price.
+fn trade_with(t: Taker, left: u64, o: Order) -> Trade
+    ensures { λ r. ⌜ r ≡ matching.tradeWith t left o ⌝ }
+{
+    let quantity = least(left, o.left);
+    if t.side == 0 {
+        Trade {
+            price: o.price,
+            quantity,
+            buyer: t.number,
+            seller: o.number,
+        }
+    } else {
+        Trade {
+            price: o.price,
+            quantity,
+            buyer: o.number,
+            seller: t.number,
+        }
+    }
+}
+
+fn with_trade(s: Swept, t: Trade) -> Swept
+    requires { ⌜ s .trades + 1 < 2 ^ 64 ⌝ }
+    requires { ⌜ s .filled + t .quantity < 2 ^ 64 ⌝ }
+    ensures { λ r. ⌜ r ≡ withTrade s t ⌝ }
+{
+    Swept {
+        trades: s.trades + 1,
+        filled: s.filled + t.quantity,
+        levels: s.levels,
+        last: t.price,
+    }
+}
+
+fn with_price(s: Swept) -> Swept
+    requires { ⌜ s .levels + 1 < 2 ^ 64 ⌝ }
+    ensures { λ r. ⌜ r ≡ withPrice s ⌝ }
+{
+    Swept {
+        trades: s.trades,
+        filled: s.filled,
+        levels: s.levels + 1,
+        last: s.last,
+    }
+}
+
+// The trades of a taker with the `most` best prices of the other side: all are counted, and written while there is room.
+pub fn sweep(
+    rows: &[[u64; 5]],
+    trades: &mut [[u64; 4]],
+    room: usize,
+    t: Taker,
+    quantity: u64,
+    most: u64,
+) -> Swept
+    requires { ⌜ Standing (bookOf (now rows)) ⌝ }
+    requires { ⌜ room ≤ length (now trades) ⌝ }
+    ensures { λ r. ⌜ r ≡ comesTo (matching.sweep t quantity (atBest most (queue (other (t .side)) (bookOf (now (rows .entry)))))) ⌝ }
+    ensures { λ r. ⌜ now (trades .exit) ≡ front room (tradeRows (matching.sweep t quantity (atBest most (queue (other (t .side)) (bookOf (now (rows .entry))))))) (now (trades .entry)) ⌝ }
+{
+    let mut s = Swept {
+        trades: 0,
+        filled: 0,
+        levels: 0,
+        last: 0,
+    };
+    let mut left = quantity;
+    let mut after: u64 = 0;
+    'prices: while s.levels < most {
+        let first = partner(rows, t, left, after);
+        let Next::At {
+            order: best,
+            key: _,
+        } = first
+        else {
+            break 'prices;
+        };
+        let price = best.price;
+        s = with_price(s);
+        'orders: loop {
+            // Left where the quantity or the limit is spent, or nobody stands there any more.
+            let next = partner(rows, t, left, after);
+            let Next::At { order, key } = next else {
+                break 'prices;
+            };
+            if order.price != price {
+                break 'orders;
+            }
+            let trade = trade_with(t, left, order);
+            put_trade_below(&mut *trades, room, s.trades, trade);
+            s = with_trade(s, trade);
+            left -= trade.quantity;
+            after = key;
+        }
+    }
+    s
+}
