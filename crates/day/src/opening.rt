@@ -1,31 +1,15 @@
 // The opening of a day.
+use crate::figures::fresh_day;
 use book::settling::clear_rows;
 use limits::is_price;
-use model::Day;
 use model::OpenReply;
 ghost use mathlib.Core.Path.{_≡_};
 ghost use mathlib.Core.Bool.{_&&_};
-ghost use Rattle.model.specs.Figures.{freshDay};
 ghost use Rattle.model.specs.Limits.{isPrice};
 ghost use Rattle.model.specs.Sound.{isMark, hasPlaces};
 ghost use Rattle.model.specs.Calls.{openCall};
 ghost use Rattle.book.specs.Rows.{bookOf};
 ghost use Rattle.day.specs.Promises.{openLeft};
-
-fn fresh_day(close: u64, mark: u64) -> Day
-    ensures { λ r. ⌜ r ≡ freshDay close mark ⌝ }
-{
-    Day {
-        close,
-        limited: mark,
-        time: 0,
-        issued: 0,
-        shares: 0,
-        turnover: 0,
-        first: 0,
-        last: 0,
-    }
-}
 
 fn has_places(rows: &[[u64; 5]]) -> bool
     ensures { λ r. ⌜ r ≡ hasPlaces (bookOf (now (rows .entry))) ⌝ }

@@ -355,6 +355,16 @@ priority =
     ∷ "C 5 4" says "W 4 100"
     ∷ [])
 
+-- a sell's limit holds from below
+abbrev sellLimit : Scene
+sellLimit =
+    desk (untraded 1000 1 34_200 1) (order 1 5 100 1000 1 ∷ free ∷ free ∷ [])
+    at ("O 1 2 9 100 1010" says "A 2 0 100 0 0"
+    ∷ "O 0 0 8 300 1009" says "M 1000 100 3 1\nA 3 100 200 0 1"
+    ∷ "C 8 3" says "W 3 200"
+    ∷ "O 0 0 8 300 1010" says "M 1010 100 4 2\nA 4 100 200 0 1"
+    ∷ [])
+
 -- an order stops when its quantity is spent, and takes a last single share
 abbrev spent : Scene
 spent =
@@ -431,6 +441,7 @@ scenes =
     ∷ bestPrices
     ∷ ownBest
     ∷ priority
+    ∷ sellLimit
     ∷ spent
     ∷ notSound
     ∷ lineForms

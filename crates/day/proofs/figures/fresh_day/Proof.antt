@@ -1,8 +1,8 @@
--- `day::opening::fresh_day` meets its contract: the record itself. Assumes nothing.
+-- `day::figures::fresh_day` meets its contract: the record itself. Assumes nothing.
 use mathlib.Core.Path.{refl}
 use Rattle.model.specs.Figures.{freshDay}
-use Rattle.day.proofs.opening.fresh_day.Statement.{statement}
-use Rattle.day.proofs.opening.fresh_day.Tie as tie
+use Rattle.day.proofs.figures.fresh_day.Statement.{statement}
+use Rattle.day.proofs.figures.fresh_day.Tie as tie
 
 returns : tie.Need-returns
 unfolding freshDay
