@@ -19,6 +19,7 @@ use Rattle.book.specs.Rows.{orderOf, rowOf, bookOf, rowsOf}
 use Rattle.book.specs.Standing.{Each, Apart}
 use Rattle.book.specs.Places.{firstWith, lowestFree, placeOf}
 use Rattle.book.proofs.Lists.{each, keep-true, keep-false, keep-none}
+use Rattle.book.proofs.Memory.{book-set, rows-set}
 use Rattle.book.proofs.Queues.{live-number, and-both, ltb-same}
 
 -- ---- a walk from the first place on
@@ -125,6 +126,19 @@ rest-set o (p ∷ ps) = go (isLive p) (rest-set o ps)
         ≡ set (p ∷ ps) (cond (not b) 0 (suc (firstWith (λ x. not (isLive x)) ps))) o
     go true h = ap (λ (l : List Order). p ∷ l) h
     go false h = refl
+
+-- as rows
+pub rest-rows :
+    (o : Order) (rows rows′ : List (List ℕ)) (place : ℕ)
+    → place ≡ lowestFree (bookOf rows)
+    → rows′ ≡ set rows place (rowOf o)
+    → (rows′ ≡ set rows (lowestFree (bookOf rows)) (rowOf o)) × (bookOf rows′ ≡ rest o (bookOf rows))
+rest-rows o rows rows′ place p e =
+    let there : rows′ ≡ set rows (lowestFree (bookOf rows)) (rowOf o) = e ∙ ap (λ (n : ℕ). set rows n (rowOf o)) p in
+    (there, ap bookOf there ∙ book-set rows (lowestFree (bookOf rows)) o ∙ sym (rest-set o (bookOf rows)))
+
+pub rest-of-rows : (o : Order) (book : List Order) → set (rowsOf book) (lowestFree book) (rowOf o) ≡ rowsOf (rest o book)
+rest-of-rows o book = sym (rows-set book (lowestFree book) o) ∙ ap rowsOf (sym (rest-set o book))
 
 -- ---- an account's own order
 
