@@ -1,3 +1,4 @@
+pub mod AskedRules
 pub mod Openings
 pub mod ReadBack
 pub mod Tallies

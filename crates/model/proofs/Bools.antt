@@ -35,3 +35,7 @@ and-no b e = rw e
 
 pub and-yes : {a r : Bool} (b : Bool) → a ≡ true → r ≡ b → r ≡ (a && b)
 and-yes b e f = rw (e, f)
+
+-- a first test that is known to pass leaves the second
+pub and-true : {a b r : Bool} → a ≡ true → a && b ≡ r → b ≡ r
+and-true {a} {b} {r} e h = rw e at h

@@ -1,0 +1,59 @@
+-- `day::checks::number_refusal` meets its contract: each return is a law of the rules, from the tests on the way. Assumes nothing.
+use mathlib.Core.Path.{_≡_, sym, _∙_}
+use mathlib.Core.Bool.{true}
+use borrow.Author.Needs.{needs}
+use borrow.Author.Tests.{not-true, not-false}
+use Rattle.model.specs.Limits.{isQuantity, isPrice}
+use Rattle.model.proofs.Bools.{and-both, and-true}
+use Rattle.day.proofs.AskedRules.{number-quantity, number-price, number-unlimited, number-band, number-none}
+use Rattle.day.proofs.checks.number_refusal.Statement.{statement}
+use Rattle.day.proofs.checks.number_refusal.Tie as tie
+
+is-quantity-requires : tie.Need-is-quantity-requires
+is-quantity-requires c κs = search needs
+
+returns : tie.Need-returns
+returns c = number-quantity _ _ (sym (c .before .is-quantity .ensures) ∙ not-true _ (c .if1 .taken))
+
+-- past the first test the quantity is good, past the second the price
+quantity : (c : tie.Else1) → isQuantity (c .before .before .args .a .quantity) ≡ true
+quantity c = sym (c .before .is-quantity .ensures) ∙ not-false _ (c .if1 .left)
+
+is-price-requires : tie.Need-is-price-requires
+is-price-requires c κs = search needs
+
+returns-2 : tie.Need-returns-2
+returns-2 c =
+    number-price _ _ (quantity (c .before .before)) (sym (c .before .is-price .ensures) ∙ not-true _ (c .if2 .taken))
+
+price : (c : tie.Else2) → isPrice (c .before .before .before .before .args .a .price) ≡ true
+price c = sym (c .before .is-price .ensures) ∙ not-false _ (c .if2 .left)
+
+returns-3 : tie.Need-returns-3
+returns-3 c = number-unlimited _ _ (quantity (c .before .before .before .before)) (price (c .before .before)) (c .if3 .taken)
+
+in-band-requires : tie.Need-in-band-requires
+in-band-requires c κs = search needs
+
+returns-4 : tie.Need-returns-4
+returns-4 c =
+    number-band _ _ (quantity (c .before .before .before .before .before .before)) (price (c .before .before .before .before)) (c .before .before .if3 .left)
+    (and-true (and-both (c .before .before .before .before .before .before .before .before .pre) (price (c .before .before .before .before))) (sym (c .before .in-band .ensures) ∙ not-true _ (c .if4 .taken)))
+
+returns-5 : tie.Need-returns-5
+returns-5 c =
+    number-none _ _ (quantity (c .before .before .before .before .before .before)) (price (c .before .before .before .before)) (c .before .before .if3 .left)
+    (and-true (and-both (c .before .before .before .before .before .before .before .before .pre) (price (c .before .before .before .before))) (sym (c .before .in-band .ensures) ∙ not-false _ (c .if4 .left)))
+
+pub number-refusal-spec : {M : Type 1} → statement M
+number-refusal-spec =
+    tie.close
+    (tie.spec
+    is-quantity-requires
+    returns
+    is-price-requires
+    returns-2
+    returns-3
+    in-band-requires
+    returns-4
+    returns-5)

@@ -1,0 +1,47 @@
+-- An order's rules, in the groups in which the code goes through them: what is asked by itself, when it is asked, its numbers,
+-- and the book. Law `order-groups` says that these are document 01's rules, in its order.
+use Prim.Native.Nat.{ℕ}
+use mathlib.Core.Bool.{not, _&&_, _||_}
+use mathlib.Core.List.{List, [], _∷_, _++_}
+use lib.ListN.{length}
+use lib.Dec.{leb, ltb, eqb}
+use Rattle.model.specs.declared.Order.{Order}
+use Rattle.model.specs.declared.Asked.{Asked}
+use Rattle.model.specs.declared.Day.{Day}
+use Rattle.model.specs.Lists.{all}
+use Rattle.model.specs.Clock.{phaseAt, continuous, takesOrders}
+use Rattle.model.specs.Limits.{isPrice, isQuantity, inBand, inRange}
+use Rattle.model.specs.Book.{isLive}
+use Rattle.model.specs.Entry.{entryTrades, base}
+use Rattle.model.specs.Refusals.{Rule, _when_}
+
+unfoldable pub formRules : Asked → List Rule
+formRules a = 2 when (not (leb (a .side) 1 && leb (a .kind) 4)) ∷ 3 when (eqb (a .account) 0) ∷ []
+
+unfoldable pub hourRules : Day → Asked → List Rule
+hourRules d a =
+    4 when (not (takesOrders (d .time)))
+    ∷ 5 when (not (eqb (a .kind) 0) && (not (eqb (phaseAt (d .time)) continuous) || eqb (d .limited) 0))
+    ∷ []
+
+unfoldable pub numberRules : Day → Asked → List Rule
+numberRules d a =
+    6 when (not (isQuantity (a .quantity)))
+    ∷ 7 when (not (isPrice (a .price)))
+    ∷ 8 when (eqb (d .limited) 1 && not (inBand (d .close) (a .price)))
+    ∷ []
+
+-- all of these, before the book is looked at
+unfoldable pub askedRules : Day → Asked → List Rule
+askedRules d a = formRules a ++ (hourRules d a ++ numberRules d a)
+
+unfoldable pub bookRules : Day → Asked → List Order → ℕ → List Rule
+bookRules d a book room =
+    9 when
+    (eqb (a .kind) 0
+    && eqb (phaseAt (d .time)) continuous
+    && not (inRange (a .side) (base d (a .side) book) (a .price)))
+    ∷ 10 when (all isLive book)
+    ∷ 11 when (eqb (d .issued) 999_999)
+    ∷ 13 when (ltb room (length (entryTrades d a book)))
+    ∷ []
