@@ -8,3 +8,5 @@ pub mod Rewrites
 pub mod Settlements
 pub mod Finding
 pub mod Memory
+pub mod Kept
+pub mod Best
