@@ -1,4 +1,5 @@
 pub mod AskedRules
+pub mod BookRules
 pub mod Openings
 pub mod ReadBack
 pub mod Tallies

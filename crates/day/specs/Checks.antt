@@ -1,7 +1,7 @@
 -- An order's rules, in the groups in which the code goes through them: what is asked by itself, when it is asked, its numbers,
 -- and the book. Law `order-groups` says that these are document 01's rules, in its order.
 use Prim.Native.Nat.{ℕ}
-use mathlib.Core.Bool.{not, _&&_, _||_}
+use mathlib.Core.Bool.{Bool, not, _&&_, _||_}
 use mathlib.Core.List.{List, [], _∷_, _++_}
 use lib.ListN.{length}
 use lib.Dec.{leb, ltb, eqb}
@@ -34,6 +34,13 @@ numberRules d a =
 -- all of these, before the book is looked at
 unfoldable pub askedRules : Day → Asked → List Rule
 askedRules d a = formRules a ++ (hourRules d a ++ numberRules d a)
+
+-- a limit order in continuous trading that is outside its range
+abbrev pub outside : Day → Asked → List Order → Bool
+outside d a book =
+    eqb (a .kind) 0
+    && eqb (phaseAt (d .time)) continuous
+    && not (inRange (a .side) (base d (a .side) book) (a .price))
 
 unfoldable pub bookRules : Day → Asked → List Order → ℕ → List Rule
 bookRules d a book room =
