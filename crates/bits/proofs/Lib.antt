@@ -1,0 +1,3 @@
+pub mod WordLaws
+pub mod EndBits
+pub mod MapLaws

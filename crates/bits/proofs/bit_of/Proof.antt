@@ -1,0 +1,16 @@
+-- `bits::bit_of` meets its contract: a shift down, and the lowest bit. Assumes nothing.
+use mathlib.Core.Path.{refl}
+use borrow.Author.Needs.{needs}
+use Rattle.bits.specs.Words.{bit}
+use Rattle.bits.proofs.bit_of.Statement.{statement}
+use Rattle.bits.proofs.bit_of.Tie as tie
+
+shr-result : tie.Need-shr-result
+shr-result c = search needs
+
+returns : tie.Need-returns
+unfolding bit
+returns c = refl
+
+pub bit-of-spec : {M : Type 1} → statement M
+bit-of-spec = tie.close (tie.spec shr-result returns)

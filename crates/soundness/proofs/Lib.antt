@@ -1,0 +1,7 @@
+pub mod Says
+pub mod Clauses
+pub mod SoundDays
+pub mod Onward
+pub mod Totals
+pub mod Numbers
+pub mod Stages

@@ -1,0 +1,165 @@
+-- A sound day: the test and the record of its facts say the same, and its book stands. Assumes nothing.
+use Prim.Native.Nat.{ℕ, _≤_, _<_}
+use mathlib.Core.Path.{_≡_, refl, ap}
+use mathlib.Core.Logic.{⊎-elim}
+use mathlib.Core.Bool.{Bool, true, false, _&&_, _||_}
+use mathlib.Core.List.{List}
+use native.Mathlib.Omega.{arith}
+use native.Mathlib.Nat.{lt-of-not-le, not-le-of-lt}
+use lib.ListN.{length}
+use lib.Dec.{ltb, leb}
+use borrow.Author.Tests.{ltb-true, ltb-false, leb-true}
+use Rattle.model.specs.declared.Order.{Order}
+use Rattle.model.specs.declared.Day.{Day}
+use Rattle.model.specs.Book.{free}
+use Rattle.model.specs.Sound.{hasPlaces, isFree, isOrder, sound}
+use Rattle.model.proofs.Bools.{and-left, and-right}
+use Rattle.book.specs.Standing.{Each, Fair, Apart, Standing}
+use Rattle.book.proofs.Lists.{each, both}
+use Rattle.soundness.specs.SoundDay.{Rests, Place, Empty, SoundDay}
+use Rattle.soundness.proofs.Says.{Says, says-and, says-unless, says-too, says-not, says-all}
+use Rattle.soundness.proofs.Clauses.{says-place, says-between, says-empty, says-apart, says-crosses, says-figures, says-fit, says-traded, says-turnover}
+
+-- ---- an empty book: no number, so every place is free
+
+numberless : (d : Day) (o : Order) → Place d o → o .number ≡ 0 → o ≡ free
+numberless d o p n = ⊎-elim (λ e. e) (λ (r : Rests d o). absurd (omega (arith, r .numbered))) p
+
+free-number : (o : Order) → o ≡ free → o .number ≡ 0
+unfolding free
+free-number o e = ap (λ (x : Order). x .number) e
+
+emptied : (d : Day) (book : List Order) → Each (Place d) book → Each (λ o. o .number ≡ 0) book → Empty book
+emptied d book = both (Place d) (λ o. o .number ≡ 0) (λ o. o ≡ free) book (numberless d)
+
+-- ---- the hours
+
+module _ (book : List Order) (t : ℕ) where
+  outside :
+      (t < 33_300 → Empty book) → (54_000 ≤ t → Empty book) → ((33_300 ≤ t) × (t ≤ 53_999) → ⊥) → Empty book
+  outside early late n = go (ltb t 33_300) refl
+    where
+      go : (b : Bool) → ltb t 33_300 ≡ b → Empty book
+      go true e = early (ltb-true t 33_300 e)
+      go false e =
+          let l : 33_300 ≤ t = ltb-false t 33_300 e in
+          late (last (ltb t 54_000) refl l)
+        where
+          last : (b : Bool) → ltb t 54_000 ≡ b → 33_300 ≤ t → 54_000 ≤ t
+          last true f l = let h : t < 54_000 = ltb-true t 54_000 f in absurd (n (l, omega arith))
+          last false f l = ltb-false t 54_000 f
+
+-- ---- the test and the record
+
+pub says-sound : (d : Day) (book : List Order) → Says (sound d book) (SoundDay d book)
+unfolding sound
+says-sound d book =
+    says-too
+    (λ h.
+    let figures = h .0 .0 .0 .0 .0 .0 .0 in
+    let places = h .0 .0 .0 .0 .0 .0 .1 in
+    let hours = h .0 .0 .0 .0 .1 in
+    let crossed = h .0 .0 .0 .1 in
+    record {
+      close = figures .0;
+      limited = figures .1;
+      time = figures .2;
+      issued = figures .3;
+      places = places;
+      apart = h .0 .0 .0 .0 .0 .1;
+      early = λ l. emptied d book places (hours (λ w. not-le-of-lt l (w .0)));
+      late = λ l. emptied d book places (hours (λ w. not-le-of-lt l (w .1)));
+      uncrossed = λ a b m n. lt-of-not-le (λ l. crossed ((a, b), (m, n, l)));
+      shares = h .0 .0 .1;
+      untraded = h .0 .1 .0;
+      traded = h .0 .1 .1;
+      least = h .1 .0;
+      most = h .1 .1;
+    })
+    (λ s. (
+      (
+        (
+          (
+            (
+              (((s .close, s .limited, s .time, s .issued), s .places), s .apart),
+              λ n. each (λ o. o ≡ free) (λ o. o .number ≡ 0) book free-number (outside book (d .time) (s .early) (s .late) n),
+            ),
+            λ w. not-le-of-lt (s .uncrossed (w .0 .0) (w .0 .1) (w .1 .0) (w .1 .1)) (w .1 .2),
+          ),
+          s .shares,
+        ),
+        (s .untraded, s .traded),
+      ),
+      (s .least, s .most),
+    ))
+    (says-and
+    (says-and
+    (says-and
+    (says-and
+    (says-and
+    (says-and
+    (says-and (says-figures d) (says-all (λ o. isFree o || isOrder d o) (Place d) (says-place d) book))
+    (says-apart book))
+    (says-unless (says-between 33_300 53_999 (d .time)) (says-empty book)))
+    (says-not (says-and (says-between 33_900 53_819 (d .time)) (says-crosses book))))
+    (says-fit d book))
+    (says-traded d))
+    (says-turnover d))
+
+pub sound-day : (d : Day) (book : List Order) → sound d book ≡ true → SoundDay d book
+sound-day d book = says-sound d book .0
+
+pub day-sound : (d : Day) (book : List Order) → SoundDay d book → sound d book ≡ true
+day-sound d book = says-sound d book .1
+
+-- ---- what stands
+
+fair-free : Fair free
+unfolding free
+fair-free =
+    record {
+      side = omega arith;
+      price = omega arith;
+      number = omega arith;
+      left = omega arith;
+      none = λ _. refl;
+      some = λ n. absurd (n refl);
+      priced = λ n. absurd (n refl);
+    }
+
+pub fair-place : (d : Day) (o : Order) → d .issued ≤ 999_999 → Place d o → Fair o
+fair-place d o l p =
+    ⊎-elim
+    (λ e. rw e fair-free)
+    (λ (r : Rests d o).
+    let h = r .price in
+    let n : o .number ≡ 0 → ⊥ = λ (z : o .number ≡ 0). absurd (omega (arith, r .numbered)) in
+    record {
+      side = r .side;
+      price = h .high;
+      number = omega arith;
+      left = r .left;
+      none = λ z. absurd (n z);
+      some = λ _. r .some;
+      priced = λ _. h .low;
+    })
+    p
+
+pub standing :
+    (d : Day) (book : List Order)
+    → length book ≤ 4_096
+    → d .issued ≤ 999_999
+    → Each (Place d) book
+    → Apart book
+    → Standing book
+standing d book few l p a =
+    record { fair = each (Place d) Fair book (λ o h. fair-place d o l h) p; apart = a; few = few }
+
+pub few-places : (book : List Order) → hasPlaces book ≡ true → length book ≤ 4_096
+unfolding hasPlaces
+few-places book e = leb-true (length book) 4_096 (and-right (leb 1 (length book)) (leb (length book) 4_096) e)
+
+pub stands : (d : Day) (book : List Order) → (hasPlaces book && sound d book) ≡ true → Standing book
+stands d book e =
+    let s = sound-day d book (and-right (hasPlaces book) (sound d book) e) in
+    standing d book (few-places book (and-left (hasPlaces book) (sound d book) e)) (s .issued) (s .places) (s .apart)

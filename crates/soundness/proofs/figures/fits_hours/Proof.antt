@@ -1,0 +1,17 @@
+-- Inside the hours anything may rest, outside them nothing. Assumes nothing.
+use mathlib.Core.Path.{sym, _∙_}
+use borrow.Author.Needs.{needs}
+use Rattle.soundness.proofs.figures.fits_hours.Statement.{statement}
+use Rattle.soundness.proofs.figures.fits_hours.Tie as tie
+
+is-between-requires : tie.Need-is-between-requires
+is-between-requires c κs = search needs
+
+returns : tie.Need-returns
+returns c = rw (sym (c .before .is-between .ensures) ∙ c .if1 .taken)
+
+returns-2 : tie.Need-returns-2
+returns-2 c = rw (sym (c .before .is-between .ensures) ∙ c .if1 .left)
+
+pub fits-hours-spec : {M : Type 1} → statement M
+fits-hours-spec = tie.close (tie.spec is-between-requires returns returns-2)

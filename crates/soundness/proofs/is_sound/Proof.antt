@@ -1,0 +1,150 @@
+-- One clause after the other, each by the function that tests it. Behind the places the book stands, and the sum of its
+-- shares is known.
+use mathlib.Core.Path.{_≡_, sym, _∙_}
+use mathlib.Core.Bool.{_||_}
+use mathlib.Core.List.{List}
+use borrow.Author.Needs.{needs}
+use borrow.Author.Tests.{not-true, not-false}
+use Rattle.model.specs.declared.Order.{Order}
+use Rattle.model.specs.declared.Day.{Day}
+use Rattle.model.specs.Sound.{isEmpty, between, sharesFit, sound}
+use Rattle.book.specs.Rows.{bookOf}
+use Rattle.soundness.proofs.Stages.{Seated, seated-issued, seated-stands, still-to-pass, few-traded, resting-small, hours-by, fit-by}
+use Rattle.soundness.proofs.is_sound.Statement.{statement}
+use Rattle.soundness.proofs.is_sound.Tie as tie
+
+abbrev the-day : tie.Else3 → Day
+the-day c = c .before .before .before .before .before .before .args .day
+
+abbrev the-book : tie.Else3 → List Order
+the-book c = bookOf (c .before .before .before .before .before .before .args .rows .now)
+
+seated : (c : tie.Else3) → Seated (the-day c) (the-book c)
+seated c =
+    let c2 = c .before .before in
+    let c1 = c2 .before .before in
+    record {
+      counted = sym (c1 .before .has-places .ensures) ∙ not-false _ (c1 .if1 .left);
+      figures = sym (c2 .before .sound-figures .ensures) ∙ not-false _ (c2 .if2 .left);
+      places = sym (c .before .sound-places .ensures) ∙ not-false _ (c .if3 .left);
+    }
+
+hours :
+    (c : tie.After-fits-hours)
+    → (between 33_300 53_999 (the-day (c .before .before) .time) || isEmpty (the-book (c .before .before)))
+    ≡ c .fits-hours .result
+hours c = hours-by _ _ (seated (c .before .before)) _ (c .before .shares-left .ensures) _ (c .fits-hours .ensures)
+
+fit :
+    (c : tie.After-shares-fit)
+    → sharesFit (the-day (c .before .before .before .before .before .before)) (the-book (c .before .before .before .before .before .before))
+    ≡ c .shares-fit .result
+fit c =
+    let s = c .before .before .before .before .before in
+    fit-by _ _ (seated (s .before)) _ (s .shares-left .ensures) _ (c .shares-fit .ensures)
+
+has-places-requires : tie.Need-has-places-requires
+has-places-requires c κs = search needs
+
+returns : tie.Need-returns
+returns c = rw (sym (c .before .has-places .ensures) ∙ not-true _ (c .if1 .taken))
+
+sound-figures-requires : tie.Need-sound-figures-requires
+sound-figures-requires c κs = search needs
+
+returns-2 : tie.Need-returns-2
+unfolding sound
+returns-2 c =
+    let c1 = c .before .before in
+    rw
+    (sym (c1 .before .has-places .ensures) ∙ not-false _ (c1 .if1 .left), sym (c .before .sound-figures .ensures) ∙ not-true _ (c .if2 .taken))
+
+sound-places-requires : tie.Need-sound-places-requires
+sound-places-requires c κs = sym (c .before .sound-figures .ensures) ∙ not-false _ (c .if2 .left)
+
+returns-3 : tie.Need-returns-3
+unfolding sound
+returns-3 c =
+    let c2 = c .before .before in
+    let c1 = c2 .before .before in
+    rw
+    (sym (c1 .before .has-places .ensures) ∙ not-false _ (c1 .if1 .left), sym (c2 .before .sound-figures .ensures) ∙ not-false _ (c2 .if2 .left), sym (c .before .sound-places .ensures) ∙ not-true _ (c .if3 .taken))
+
+shares-left-requires : tie.Need-shares-left-requires
+shares-left-requires c κs = seated-stands _ _ (seated c)
+
+fits-hours-requires : tie.Need-fits-hours-requires
+fits-hours-requires c κs = search needs
+
+returns-4 : tie.Need-returns-4
+returns-4 c =
+    rw (still-to-pass _ _ (seated (c .before .before .before)), hours (c .before) ∙ not-true _ (c .if4 .taken))
+
+crosses-in-hours-requires : tie.Need-crosses-in-hours-requires
+crosses-in-hours-requires c κs = seated-stands _ _ (seated (c .before .before .before)) .fair
+
+returns-5 : tie.Need-returns-5
+returns-5 c =
+    let c4 = c .before .before in
+    rw
+    (still-to-pass _ _ (seated (c4 .before .before .before)), hours (c4 .before) ∙ not-false _ (c4 .if4 .left), sym (c .before .crosses-in-hours .ensures) ∙ c .if5 .taken)
+
+shares-fit-requires : tie.Need-shares-fit-requires
+shares-fit-requires c κs =
+    let s = c .before .before .before .before in
+    (seated-issued _ _ (seated (s .before)), resting-small _ _ (seated (s .before)) _ (s .shares-left .ensures))
+
+returns-6 : tie.Need-returns-6
+returns-6 c =
+    let c5 = c .before .before in
+    let c4 = c5 .before .before in
+    rw
+    (still-to-pass _ _ (seated (c4 .before .before .before)), hours (c4 .before) ∙ not-false _ (c4 .if4 .left), sym (c5 .before .crosses-in-hours .ensures) ∙ c5 .if5 .left, fit (c .before) ∙ not-true _ (c .if6 .taken))
+
+prices-fit-requires : tie.Need-prices-fit-requires
+prices-fit-requires c κs = search needs
+
+returns-7 : tie.Need-returns-7
+returns-7 c =
+    let c6 = c .before .before in
+    let c5 = c6 .before .before in
+    let c4 = c5 .before .before in
+    rw
+    (still-to-pass _ _ (seated (c4 .before .before .before)), hours (c4 .before) ∙ not-false _ (c4 .if4 .left), sym (c5 .before .crosses-in-hours .ensures) ∙ c5 .if5 .left, fit (c6 .before) ∙ not-false _ (c6 .if6 .left), sym (c .before .prices-fit .ensures) ∙ not-true _ (c .if7 .taken))
+
+turnover-fits-requires : tie.Need-turnover-fits-requires
+turnover-fits-requires c κs =
+    let c6 = c .before .before in
+    few-traded _ _ (seated (c6 .before .before .before .before .before .before .before)) (fit (c6 .before) ∙ not-false _ (c6 .if6 .left))
+
+returns-8 : tie.Need-returns-8
+returns-8 c =
+    let c7 = c .before in
+    let c6 = c7 .before .before in
+    let c5 = c6 .before .before in
+    let c4 = c5 .before .before in
+    rw
+    (still-to-pass _ _ (seated (c4 .before .before .before)), hours (c4 .before) ∙ not-false _ (c4 .if4 .left), sym (c5 .before .crosses-in-hours .ensures) ∙ c5 .if5 .left, fit (c6 .before) ∙ not-false _ (c6 .if6 .left), sym (c7 .before .prices-fit .ensures) ∙ not-false _ (c7 .if7 .left))
+    (c .turnover-fits .ensures)
+
+pub is-sound-spec : {M : Type 1} → statement M
+is-sound-spec =
+    tie.close
+    (tie.spec
+    has-places-requires
+    returns
+    sound-figures-requires
+    returns-2
+    sound-places-requires
+    returns-3
+    shares-left-requires
+    fits-hours-requires
+    returns-4
+    crosses-in-hours-requires
+    returns-5
+    shares-fit-requires
+    returns-6
+    prices-fit-requires
+    returns-7
+    turnover-fits-requires
+    returns-8)

@@ -1,0 +1,19 @@
+-- A span of the length, tested from below; the book has as many places as the rows. Assumes nothing.
+use mathlib.Core.Path.{refl}
+use lib.ListN.{length-map}
+use Rattle.model.specs.Sound.{hasPlaces}
+use Rattle.book.specs.Rows.{orderOf}
+use Rattle.limits.proofs.Spans.{too-low, from-low}
+use Rattle.soundness.proofs.places.has_places.Statement.{statement}
+use Rattle.soundness.proofs.places.has_places.Tie as tie
+
+returns : tie.Need-returns
+unfolding hasPlaces
+returns c = rw (length-map (c .before .args .rows .now) orderOf) (too-low _ _ _ (c .if1 .taken))
+
+returns-2 : tie.Need-returns-2
+unfolding hasPlaces
+returns-2 c = rw (length-map (c .before .args .rows .now) orderOf) (from-low _ _ _ (c .if1 .left) refl)
+
+pub has-places-spec : {M : Type 1} → statement M
+has-places-spec = tie.close (tie.spec returns returns-2)

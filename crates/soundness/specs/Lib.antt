@@ -1,0 +1,3 @@
+-- What the test of a day says beside the definition: the map of numbers used, and a sound day as one record of facts.
+pub mod Numbers
+pub mod SoundDay

@@ -1,0 +1,58 @@
+-- A sound day as one record of plain facts: all that a call may use once the test has passed.
+use Prim.Native.Nat.{ℕ, _+_, _*_, _≤_, _<_}
+use mathlib.Core.Path.{_≡_}
+use mathlib.Core.Logic.{_⊎_}
+use mathlib.Core.List.{List}
+use Rattle.model.specs.declared.Order.{Order}
+use Rattle.model.specs.declared.Day.{Day}
+use Rattle.model.specs.Lists.{total}
+use Rattle.model.specs.Book.{free, best}
+use Rattle.book.specs.Standing.{Each, Apart}
+
+pub record Price (p : ℕ) : Type 0 where
+  pub low : 1 ≤ p
+  pub high : p ≤ 999_999
+
+pub record InBand (close p : ℕ) : Type 0 where
+  pub low : 70 * close ≤ 100 * p
+  pub high : 100 * p ≤ 130 * close
+
+-- an order that rests: its number is among those issued, and on a limited day its price is in the band
+pub record Rests (d : Day) (o : Order) : Type 0 where
+  pub side : o .side ≤ 1
+  pub account : o .account ≡ 0 → ⊥
+  pub some : 1 ≤ o .left
+  pub left : o .left ≤ 1_000_000
+  pub price : Price (o .price)
+  pub band : (d .limited ≡ 0 → ⊥) → InBand (d .close) (o .price)
+  pub numbered : 1 ≤ o .number
+  pub issued : o .number ≤ d .issued
+
+abbrev pub Place : Day → Order → Type 0
+Place d o = (o ≡ free) ⊎ Rests d o
+
+abbrev pub Empty : List Order → Type 0
+Empty book = Each (λ o. o ≡ free) book
+
+pub record SoundDay (d : Day) (book : List Order) : Type 0 where
+  pub close : Price (d .close)
+  pub limited : d .limited ≤ 1
+  pub time : d .time ≤ 86_399
+  pub issued : d .issued ≤ 999_999
+  pub places : Each (Place d) book
+  -- one number, one order
+  pub apart : Apart book
+  pub early : d .time < 33_300 → Empty book
+  pub late : 54_000 ≤ d .time → Empty book
+  -- where both sides have an order, the best buy is below the best sell
+  pub uncrossed :
+      33_900 ≤ d .time
+      → d .time ≤ 53_819
+      → (best 0 book ≡ 0 → ⊥)
+      → (best 1 book ≡ 0 → ⊥)
+      → best 0 book < best 1 book
+  pub shares : 2 * d .shares + total (λ (o : Order). o .left) book ≤ 1_000_000 * d .issued
+  pub untraded : d .shares ≡ 0 → (d .first ≡ 0) × (d .last ≡ 0)
+  pub traded : (d .shares ≡ 0 → ⊥) → Price (d .first) × Price (d .last)
+  pub least : d .shares ≤ d .turnover
+  pub most : d .turnover ≤ 999_999 * d .shares

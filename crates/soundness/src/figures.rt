@@ -1,0 +1,81 @@
+// The day's own figures, and how they fit the shares that rest in the book.
+ghost use mathlib.Core.Path.{_≡_};
+ghost use Prim.Native.Nat.{_+_, _*_, _≤_};
+ghost use mathlib.Core.Bool.{_||_};
+ghost use lib.Dec.{leb, eqb};
+ghost use Rattle.model.specs.Sound.{soundFigures, between, pricesFit, turnoverFits};
+use limits::is_price;
+use model::Day;
+
+pub fn sound_figures(day: Day) -> bool
+    ensures { λ r. ⌜ r ≡ soundFigures day ⌝ }
+{
+    if !is_price(day.close) {
+        return false;
+    }
+    if day.limited > 1 {
+        return false;
+    }
+    if day.time > 86_399 {
+        return false;
+    }
+    day.issued <= 999_999
+}
+
+pub fn is_between(first: u64, last: u64, time: u64) -> bool
+    ensures { λ r. ⌜ r ≡ between first last time ⌝ }
+{
+    if time < first {
+        return false;
+    }
+    time <= last
+}
+
+// A book in which shares rest stands from 33,300 up to 54,000 only.
+pub fn fits_hours(time: u64, resting: u64) -> bool
+    ensures { λ r. ⌜ r ≡ (between 33_300 53_999 time || eqb resting 0) ⌝ }
+{
+    if is_between(33_300, 53_999, time) {
+        return true;
+    }
+    resting == 0
+}
+
+// Twice the shares traded plus all resting shares is at most 1,000,000 times the numbers issued. More than half of that
+// traded is too much by itself, and less than that cannot overflow.
+pub fn shares_fit(day: Day, resting: u64) -> bool
+    requires { ⌜ day .issued ≤ 999_999 ⌝ ∗ ⌜ resting ≤ 4_096_000_000 ⌝ }
+    ensures { λ r. ⌜ r ≡ leb (2 * day .shares + resting) (1_000_000 * day .issued) ⌝ }
+{
+    if 500_000 * day.issued < day.shares {
+        return false;
+    }
+    2 * day.shares + resting <= 1_000_000 * day.issued
+}
+
+// Last and first trade are both 0 when no share traded, else both prices.
+pub fn prices_fit(day: Day) -> bool
+    ensures { λ r. ⌜ r ≡ pricesFit day ⌝ }
+{
+    if day.shares == 0 {
+        if day.first != 0 {
+            return false;
+        }
+        return day.last == 0;
+    }
+    if !is_price(day.first) {
+        return false;
+    }
+    is_price(day.last)
+}
+
+// Turnover is between the shares traded and 999,999 times that.
+pub fn turnover_fits(day: Day) -> bool
+    requires { ⌜ day .shares ≤ 500_000_000_000 ⌝ }
+    ensures { λ r. ⌜ r ≡ turnoverFits day ⌝ }
+{
+    if day.turnover < day.shares {
+        return false;
+    }
+    day.turnover <= 999_999 * day.shares
+}

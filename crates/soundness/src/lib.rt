@@ -1,0 +1,47 @@
+// When a day is sound: what every call tests first, on any memory that it is lent. Nothing is assumed of the numbers, and
+// the tests stand in the order of the definition, so that each one keeps the products of the later ones small.
+pub mod figures;
+pub mod places;
+
+ghost use mathlib.Core.Path.{_≡_};
+ghost use mathlib.Core.Bool.{_&&_};
+ghost use Rattle.model.specs.Sound.{hasPlaces, sound};
+ghost use Rattle.book.specs.Rows.{bookOf};
+use crate::figures::fits_hours;
+use crate::figures::prices_fit;
+use crate::figures::shares_fit;
+use crate::figures::sound_figures;
+use crate::figures::turnover_fits;
+use crate::places::crosses_in_hours;
+use crate::places::has_places;
+use crate::places::shares_left;
+use crate::places::sound_places;
+use model::Day;
+
+pub fn is_sound(day: Day, rows: &[[u64; 5]]) -> bool
+    ensures { λ r. ⌜ r ≡ (hasPlaces (bookOf (now (rows .entry))) && sound day (bookOf (now (rows .entry)))) ⌝ }
+{
+    if !has_places(rows) {
+        return false;
+    }
+    if !sound_figures(day) {
+        return false;
+    }
+    if !sound_places(day, rows) {
+        return false;
+    }
+    let resting = shares_left(rows);
+    if !fits_hours(day.time, resting) {
+        return false;
+    }
+    if crosses_in_hours(day.time, rows) {
+        return false;
+    }
+    if !shares_fit(day, resting) {
+        return false;
+    }
+    if !prices_fit(day) {
+        return false;
+    }
+    turnover_fits(day)
+}
