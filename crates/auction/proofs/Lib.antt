@@ -9,3 +9,5 @@ pub mod Spanning
 pub mod Ties
 pub mod Writing
 pub mod Signed
+pub mod Crossing
+pub mod Rules

@@ -171,10 +171,13 @@ none-least : (g : ℕ → ℕ) → atLeast g [] ≡ []
 unfolding atLeast
 none-least g = refl
 
+pub none-flattest : (os : List Order) → qualifying os ≡ [] → leastDifference os ≡ []
+unfolding leastDifference
+none-flattest os e = rw e (none-least (λ p. distance (demand os p) (supply os p)))
+
 pub none-left : (os : List Order) (ref : ℕ) → qualifying os ≡ [] → leftBy os ref ≡ []
-unfolding leftBy leastDifference
-none-left os ref e =
-    rw (e, none-least (λ p. distance (demand os p) (supply os p))) (none-least (λ p. distance p ref))
+unfolding leftBy
+none-left os ref e = rw (none-flattest os e) (none-least (λ p. distance p ref))
 
 module _ (os : List Order) {lo hi : ℕ} (s : Spans os lo hi) where
   -- the prices of smallest difference lie from one of them to another
