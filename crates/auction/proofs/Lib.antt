@@ -11,3 +11,4 @@ pub mod Writing
 pub mod Signed
 pub mod Crossing
 pub mod Rules
+pub mod Stars
