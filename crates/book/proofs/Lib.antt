@@ -6,3 +6,5 @@ pub mod Nexts
 pub mod Written
 pub mod Rewrites
 pub mod Settlements
+pub mod Finding
+pub mod Memory

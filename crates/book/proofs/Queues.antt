@@ -31,7 +31,7 @@ use Rattle.book.proofs.Sorting.{
 
 -- ---- what standing on a side says
 
-and-both : (a b : Bool) → a && b ≡ true → (a ≡ true) × (b ≡ true)
+pub and-both : (a b : Bool) → a && b ≡ true → (a ≡ true) × (b ≡ true)
 and-both true b e = (refl, e)
 and-both false b e = let z : _≡_ {A = ℕ} 0 1 = cc in absurd (omega arith)
 
@@ -56,7 +56,7 @@ on-side side o e = eqb-true (o .side) side (and-both (isLive o) (eqb (o .side) s
 
 -- ---- ahead is the smaller key
 
-ltb-same : (a b c d : ℕ) → (a < b → c < d) → (b ≤ a → d ≤ c) → ltb a b ≡ ltb c d
+pub ltb-same : (a b c d : ℕ) → (a < b → c < d) → (b ≤ a → d ≤ c) → ltb a b ≡ ltb c d
 ltb-same a b c d f g = go (ltb a b) refl
   where
     go : (t : Bool) → ltb a b ≡ t → t ≡ ltb c d

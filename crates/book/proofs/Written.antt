@@ -36,7 +36,7 @@ puts-one room place t ts l = refl
 
 -- ---- all of them
 
-front-nil : (n : ℕ) (l : List (List ℕ)) → front n [] l ≡ l
+pub front-nil : (n : ℕ) (l : List (List ℕ)) → front n [] l ≡ l
 unfolding front
 front-nil zero l = refl
 front-nil (suc n) l = refl

@@ -1,4 +1,5 @@
 // The book as rows of memory: reading and setting one place or one trade. Nothing above this crate knows what a row holds.
+pub mod places;
 pub mod priority;
 pub mod settling;
 

@@ -5,3 +5,4 @@ pub mod Partners
 pub mod Tallies
 pub mod Sweeps
 pub mod Outcome
+pub mod Entries

@@ -1,0 +1,132 @@
+-- An order on entry: its prices through the best prices as numbers, and its trades as one sweep.
+use Prim.Native.Nat.{ℕ, zero, suc, _+_, _≤_, _<_, min, max}
+use mathlib.Core.Path.{_≡_, refl, sym, ap, _∙_}
+use mathlib.Core.Bool.{Bool, true, false, cond, not, _&&_, and-false}
+use mathlib.Core.List.{List, [], _∷_}
+use native.Mathlib.Omega.{arith}
+use native.Mathlib.Numerals.{add-one}
+use lib.ListN.{length}
+use lib.Dec.{leb, eqb}
+use borrow.Author.Tests.{eq-eqb, ne-eqb}
+use Rattle.model.specs.declared.Order.{Order}
+use Rattle.model.specs.declared.Asked.{Asked}
+use Rattle.model.specs.declared.Trade.{Trade}
+use Rattle.model.specs.declared.Taker.{Taker}
+use Rattle.model.specs.declared.Day.{Day}
+use Rattle.model.specs.Clock.{phaseAt, continuous}
+use Rattle.model.specs.Book.{queue, best, other}
+use Rattle.model.specs.Matching.{sweep, atFiveBest, filled, lastPrice}
+use Rattle.model.specs.Figures.{nextNumber}
+use Rattle.model.specs.Entry.{bestWithin, entryPrice, opposite, entryTrades, restPrice}
+use Rattle.book.specs.Rows.{tradeRows}
+use Rattle.book.specs.Standing.{Standing}
+use Rattle.book.specs.Writing.{front}
+use Rattle.book.proofs.Written.{front-nil}
+use Rattle.matching.specs.declared.Swept.{Swept}
+use Rattle.matching.specs.Sweeping.{atBest, comesTo}
+use Rattle.matching.specs.Entering.{bestFor, entryAt, restAt, mostPrices}
+use Rattle.matching.proofs.Cuts.{five-best, unbounded}
+
+-- ---- the prices
+
+module _ (a : Asked) (book : List Order) where
+  pub entry-price : entryPrice a book ≡ entryAt a (best (a .side) book) (best (other (a .side)) book)
+  unfolding entryPrice bestWithin entryAt bestFor
+  entry-price = refl
+
+  pub rest-price :
+      (ts : List Trade)
+      → restPrice a ts book
+      ≡ restAt a (best (a .side) book) (best (other (a .side)) book) (filled ts) (lastPrice 0 ts)
+  unfolding restPrice bestWithin restAt bestFor
+  rest-price ts =
+      ap
+      (λ (p : ℕ).
+      cond (eqb (a .kind) 3) 0
+      (cond (eqb (a .kind) 4) (cond (eqb (filled ts) 0) (bestWithin a (a .side) book) (lastPrice 0 ts)) p))
+      entry-price
+
+  -- ---- the orders that it may trade with
+
+  pub opposite-best :
+      Standing book → opposite a book ≡ atBest (mostPrices (a .kind)) (queue (other (a .side)) book)
+  unfolding opposite mostPrices
+  opposite-best s = go (leb 3 (a .kind))
+    where
+      go :
+          (b : Bool)
+          → cond b (atFiveBest (queue (other (a .side)) book)) (queue (other (a .side)) book)
+          ≡ atBest (cond b 5 4_096) (queue (other (a .side)) book)
+      go true = sym (five-best (queue (other (a .side)) book))
+      go false = sym (unbounded (other (a .side)) book s)
+
+-- ---- the trades
+
+module _ (d : Day) (a : Asked) (book : List Order) (phase : ℕ) (now : phase ≡ phaseAt (d .time)) where
+  other-phase : (phase ≡ 4 → ⊥) → entryTrades d a book ≡ []
+  unfolding entryTrades continuous
+  other-phase n = rw (ne-eqb (phaseAt (d .time)) 4 (λ e. n (now ∙ e)))
+
+  no-price : entryPrice a book ≡ 0 → entryTrades d a book ≡ []
+  unfolding entryTrades
+  no-price e = rw (eq-eqb (entryPrice a book) 0 e, and-false)
+
+  as-sweep :
+      phase ≡ 4
+      → (entryPrice a book ≡ 0 → ⊥)
+      → entryTrades d a book
+      ≡ sweep (record { side = a .side; number = nextNumber d; limit = entryPrice a book }) (a .quantity) (opposite a book)
+  unfolding entryTrades continuous
+  as-sweep p n = rw (eq-eqb (phaseAt (d .time)) 4 (sym now ∙ p), ne-eqb (entryPrice a book) 0 n)
+
+  -- ---- what `enter_trades` gives
+
+  -- the tally, and the trade list
+  abbrev Entered : ℕ → Swept → List (List ℕ) → List (List ℕ) → Type 0
+  Entered room s l₀ l = (s ≡ comesTo (entryTrades d a book)) × (l ≡ front room (tradeRows (entryTrades d a book)) l₀)
+
+  none-entered :
+      (room : ℕ) (s : Swept) (l : List (List ℕ)) → entryTrades d a book ≡ [] → s ≡ comesTo [] → Entered room s l l
+  none-entered room s l z e =
+      (e ∙ ap comesTo (sym z), sym (ap (λ (ts : List Trade). front room (tradeRows ts) l) z ∙ front-nil room l))
+
+  pub outside : (room : ℕ) (s : Swept) (l : List (List ℕ)) → (phase ≡ 4 → ⊥) → s ≡ comesTo [] → Entered room s l l
+  outside room s l n = none-entered room s l (other-phase n)
+
+  module _ (own others price side : ℕ) (o : own ≡ best (a .side) book) (w : others ≡ best side book) (v : side ≡ other (a .side)) (p : price ≡ entryAt a own others) where
+    priced : price ≡ entryPrice a book
+    priced =
+        p
+        ∙ ap (λ (x : ℕ). entryAt a x others) o
+        ∙ ap (entryAt a (best (a .side) book)) (w ∙ ap (λ (x : ℕ). best x book) v)
+        ∙ sym (entry-price a book)
+
+    pub unpriced : (room : ℕ) (s : Swept) (l : List (List ℕ)) → price ≡ 0 → s ≡ comesTo [] → Entered room s l l
+    unpriced room s l z = none-entered room s l (no-price (sym priced ∙ z))
+
+    pub entered :
+        (room most : ℕ) (s : Swept) (l₀ l : List (List ℕ)) (t : Taker)
+        → Standing book
+        → phase ≡ 4
+        → (price ≡ 0 → ⊥)
+        → t ≡ record { side = a .side; number = d .issued + 1; limit = price }
+        → most ≡ mostPrices (a .kind)
+        → (s ≡ comesTo (sweep t (a .quantity) (atBest most (queue (other (a .side)) book))))
+        × (l ≡ front room (tradeRows (sweep t (a .quantity) (atBest most (queue (other (a .side)) book)))) l₀)
+        → Entered room s l₀ l
+    unfolding nextNumber
+    entered room most s l₀ l t standing f n e m r =
+        let all : sweep t (a .quantity) (atBest most (queue (other (a .side)) book)) ≡ entryTrades d a book =
+        ap (λ (k : ℕ). sweep t (a .quantity) (atBest k (queue (other (a .side)) book))) m
+        ∙ ap (sweep t (a .quantity)) (sym (opposite-best a book standing))
+        ∙ ap (λ (x : Taker). sweep x (a .quantity) (opposite a book))
+        (e
+        ∙ ap
+        (λ (x : ℕ). record { side = a .side; number = d .issued + 1; limit = x })
+        priced
+        ∙ ap
+        (λ (x : ℕ). record { side = a .side; number = x; limit = entryPrice a book })
+        (add-one (d .issued)))
+        ∙ sym (as-sweep f (λ z. n (priced ∙ z)))
+        in
+        (r .0 ∙ ap comesTo all, r .1 ∙ ap (λ (ts : List Trade). front room (tradeRows ts) l₀) all)

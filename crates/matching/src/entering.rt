@@ -1,0 +1,137 @@
+// What an order does on entry, by its kind: its price, its trades, and where what is left rests.
+ghost use mathlib.Core.Path.{_≡_};
+ghost use Prim.Native.Nat.{_≤_};
+ghost use mathlib.Core.List.{[]};
+ghost use lib.ListN.{length, set};
+ghost use Rattle.model.specs.Clock.{phaseAt};
+ghost use Rattle.model.specs.Matching as matching;
+ghost use Rattle.model.specs.Entry.{entryTrades};
+ghost use Rattle.book.specs.Rows.{bookOf, rowOf, tradeRows};
+ghost use Rattle.book.specs.Standing.{Standing};
+ghost use Rattle.book.specs.Places.{lowestFree};
+ghost use Rattle.book.specs.Writing.{front};
+ghost use Rattle.matching.specs.Sweeping.{comesTo};
+ghost use Rattle.matching.specs.Entering.{bestFor, entryAt, restAt, mostPrices};
+use crate::Swept;
+use crate::sweeping::other_side;
+use crate::sweeping::sweep;
+use book::places::lowest_free;
+use book::priority::best_price;
+use book::put_order;
+use model::Asked;
+use model::Day;
+use model::Order;
+use model::Taker;
+
+// The price itself, or the limit where the price is beyond it.
+pub fn within(side: u64, limit: u64, price: u64) -> u64
+    ensures { λ r. ⌜ r ≡ matching.within side limit price ⌝ }
+{
+    if side == 0 {
+        if price < limit { price } else { limit }
+    } else {
+        if limit < price { price } else { limit }
+    }
+}
+
+// A best price within the order's limit, 0 where the side is empty.
+pub fn best_for(a: Asked, best: u64) -> u64
+    ensures { λ r. ⌜ r ≡ bestFor a best ⌝ }
+{
+    if best == 0 {
+        return 0;
+    }
+    within(a.side, a.price, best)
+}
+
+// The price at which an order enters, 0 where it has none: from the best prices of its own side and of the other side.
+pub fn entry_price(a: Asked, own: u64, opposite: u64) -> u64
+    ensures { λ r. ⌜ r ≡ entryAt a own opposite ⌝ }
+{
+    if a.kind == 1 {
+        return best_for(a, opposite);
+    }
+    if a.kind == 2 {
+        return best_for(a, own);
+    }
+    a.price
+}
+
+// The price at which what is left of it rests, 0 where it is withdrawn. The best prices are those on entry.
+pub fn rest_price(a: Asked, own: u64, opposite: u64, s: Swept) -> u64
+    ensures { λ r. ⌜ r ≡ restAt a own opposite (s .filled) (s .last) ⌝ }
+{
+    if a.kind == 3 {
+        return 0;
+    }
+    if a.kind == 4 {
+        if s.filled == 0 {
+            return best_for(a, own);
+        }
+        return s.last;
+    }
+    entry_price(a, own, opposite)
+}
+
+// A book has at most 4,096 places, so no more prices than that.
+fn most_prices(kind: u64) -> u64
+    ensures { λ r. ⌜ r ≡ mostPrices kind ⌝ }
+{
+    if 3 <= kind { 5 } else { 4_096 }
+}
+
+fn nothing_yet() -> Swept
+    ensures { λ r. ⌜ r ≡ comesTo [] ⌝ }
+{
+    Swept {
+        trades: 0,
+        filled: 0,
+        levels: 0,
+        last: 0,
+    }
+}
+
+// The trades of an order on entry: none outside continuous trading, none without a price. All are counted, and written
+// while there is room.
+pub fn enter_trades(
+    rows: &[[u64; 5]],
+    trades: &mut [[u64; 4]],
+    room: usize,
+    d: Day,
+    phase: u64,
+    a: Asked,
+) -> Swept
+    requires { ⌜ Standing (bookOf (now rows)) ⌝ }
+    requires { ⌜ room ≤ length (now trades) ⌝ }
+    requires { ⌜ phase ≡ phaseAt (d .time) ⌝ }
+    requires { ⌜ d .issued ≤ 999_999 ⌝ }
+    ensures { λ r. ⌜ r ≡ comesTo (entryTrades d a (bookOf (now (rows .entry)))) ⌝ }
+    ensures { λ r. ⌜ now (trades .exit) ≡ front room (tradeRows (entryTrades d a (bookOf (now (rows .entry))))) (now (trades .entry)) ⌝ }
+{
+    if phase != 4 {
+        return nothing_yet();
+    }
+    let own = best_price(rows, a.side);
+    let opposite = best_price(rows, other_side(a.side));
+    let price = entry_price(a, own, opposite);
+    if price == 0 {
+        return nothing_yet();
+    }
+    let t = Taker {
+        side: a.side,
+        number: d.issued + 1,
+        limit: price,
+    };
+    sweep(rows, &mut *trades, room, t, a.quantity, most_prices(a.kind))
+}
+
+// A new rest goes to the lowest free place; a full book stays as it is.
+pub fn rest_order(rows: &mut [[u64; 5]], o: Order)
+    ensures { λ _. ⌜ now (rows .exit) ≡ set (now (rows .entry)) (lowestFree (bookOf (now (rows .entry)))) (rowOf o) ⌝ }
+    ensures { λ _. ⌜ bookOf (now (rows .exit)) ≡ matching.rest o (bookOf (now (rows .entry))) ⌝ }
+{
+    let place = lowest_free(rows);
+    if place < rows.len() {
+        put_order(&mut *rows, place, o);
+    }
+}
