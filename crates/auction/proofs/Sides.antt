@@ -1,5 +1,5 @@
 -- Demand and supply: how they move with the price, how they split at a price, their bounds, and the pass that adds them up.
-use Prim.Native.Nat.{ℕ, zero, suc, _+_, _-_, _≤_, _<_}
+use Prim.Native.Nat.{ℕ, zero, suc, _+_, _-_, _≤_, _<_, min}
 use mathlib.Core.Path.{_≡_, refl, sym, ap, ap₂, _∙_}
 use mathlib.Core.Logic.{_⊎_, inl, inr, ⊎-elim}
 use mathlib.Core.Bool.{Bool, true, false, not, _&&_}
@@ -16,7 +16,7 @@ use Rattle.model.specs.declared.Order.{Order}
 use Rattle.model.specs.Choice.{if_then_else_}
 use Rattle.model.specs.Book.{standsOn}
 use Rattle.model.specs.Matching.{meets}
-use Rattle.model.specs.Auction.{sharesOf, demand, supply, buysAbove, sellsBelow, buysAt, sellsAt}
+use Rattle.model.specs.Auction.{sharesOf, demand, supply, volume, buysAbove, sellsBelow, buysAt, sellsAt}
 use Rattle.book.specs.Rows.{orderOf, bookOf}
 use Rattle.book.specs.Standing.{Fair, Standing}
 use Rattle.book.proofs.Queues.{on-live}
@@ -213,3 +213,7 @@ pass-buys os least most e = ap (λ r. r .demand) e
 pub pass-sells : (os : List Order) (least most : ℕ) {r : Interest} → r ≡ interestAt os least most → r .supply ≡ supply os most
 unfolding interestAt
 pass-sells os least most e = ap (λ r. r .supply) e
+
+pub pass-volume : (os : List Order) (p : ℕ) {v : ℕ} {r : Interest} → r ≡ interestAt os p p → v ≡ min (r .demand) (r .supply) → v ≡ volume os p
+unfolding volume
+pass-volume os p e hv = hv ∙ ap₂ min (pass-buys os p p e) (pass-sells os p p e)

@@ -1,0 +1,2 @@
+-- What the pairing's functions say beside the definitions of the model.
+pub mod Heads
