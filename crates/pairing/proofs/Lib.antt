@@ -2,3 +2,4 @@
 pub mod Turns
 pub mod Waiting
 pub mod Dealing
+pub mod Grants
