@@ -54,14 +54,13 @@ Fresh n os = Each (λ (p : Order). p .number ≡ n → n ≡ 0) os
 set-apart : (os : List Order) (i : ℕ) (o : Order) → Fresh (o .number) os → Apart os → Apart (set os i o)
 set-apart [] i o f a = tt
 set-apart (p ∷ os) zero o f a = (f .1, a .1)
-set-apart (p ∷ os) (suc i) o f a =
-    (
-      set-each (λ (x : Order). x .number ≡ p .number → p .number ≡ 0) os i o (λ e. sym e ∙ f .0 (sym e)) (a .0),
-      set-apart os i o (f .1) (a .1),
-    )
+set-apart (p ∷ os) (suc i) o f a = (
+  set-each (λ (x : Order). x .number ≡ p .number → p .number ≡ 0) os i o (λ e. sym e ∙ f .0 (sym e)) (a .0),
+  set-apart os i o (f .1) (a .1),
+)
 
 pub standing-set :
-  (book : List Order) (place : ℕ) (o : Order) → Fair o → Fresh (o .number) book → Standing book → Standing (set book place o)
+    (book : List Order) (place : ℕ) (o : Order) → Fair o → Fresh (o .number) book → Standing book → Standing (set book place o)
 standing-set book place o h f s =
     record {
       fair = set-each Fair book place o h (s .fair);
@@ -92,26 +91,25 @@ unfolding lessBy
 less-by q o = go (ltb q (o .left)) refl
   where
     go :
-      (b : Bool)
-      → ltb q (o .left) ≡ b
-      → (cond b
-          (record { side = o .side; account = o .account; left = o .left - q; price = o .price; number = o .number })
-          free
-          ≡ free)
+        (b : Bool)
+        → ltb q (o .left) ≡ b
+        → (cond b
+        (record { side = o .side; account = o .account; left = o .left - q; price = o .price; number = o .number })
+        free
+        ≡ free)
         ⊎ (Less o
-            (cond b
-            (record { side = o .side; account = o .account; left = o .left - q; price = o .price; number = o .number })
-            free)
-          × (cond b
-              (record { side = o .side; account = o .account; left = o .left - q; price = o .price; number = o .number })
-              free
-              .left
-              + q
-              ≡ o .left))
+        (cond b
+        (record { side = o .side; account = o .account; left = o .left - q; price = o .price; number = o .number })
+        free)
+        × (cond b
+        (record { side = o .side; account = o .account; left = o .left - q; price = o .price; number = o .number })
+        free
+        .left
+        + q
+        ≡ o .left))
     go true e =
         let l : q < o .left = ltb-true q (o .left) e in
-        inr
-        (
+        inr (
           record { side = refl; price = refl; number = refl; left = omega arith; some = omega arith },
           omega arith,
         )
@@ -145,8 +143,8 @@ module _ (ts : List Trade) where
   after-less o = go (less-by (filledOf (o .number) ts) o)
     where
       go :
-        (after o ≡ free) ⊎ (Less o (after o) × (after o .left + filledOf (o .number) ts ≡ o .left))
-        → (after o ≡ free) ⊎ Less o (after o)
+          (after o ≡ free) ⊎ (Less o (after o) × (after o .left + filledOf (o .number) ts ≡ o .left))
+          → (after o ≡ free) ⊎ Less o (after o)
       go (inl e) = inl e
       go (inr l) = inr (l .0)
 
@@ -197,8 +195,7 @@ standing-cleared book h =
 
     all-apart : (os : List Order) → Apart (map (λ (o : Order). free) os)
     all-apart [] = tt
-    all-apart (o ∷ os) =
-        (
-          every (λ (p : Order). p .number ≡ free .number → free .number ≡ 0) (map (λ (x : Order). free) os) (λ p e. free-number),
-          all-apart os,
-        )
+    all-apart (o ∷ os) = (
+      every (λ (p : Order). p .number ≡ free .number → free .number ≡ 0) (map (λ (x : Order). free) os) (λ p e. free-number),
+      all-apart os,
+    )
