@@ -8,3 +8,6 @@ pub mod Rewrites
 pub mod Settlements
 pub mod Finding
 pub mod Memory
+pub mod Kept
+pub mod Best
+pub mod Shares

@@ -6,3 +6,4 @@ pub mod Tallies
 pub mod Sweeps
 pub mod Outcome
 pub mod Entries
+pub mod Situations
