@@ -9,3 +9,6 @@ pub mod Spanning
 pub mod Ties
 pub mod Writing
 pub mod Signed
+pub mod Crossing
+pub mod Rules
+pub mod Stars

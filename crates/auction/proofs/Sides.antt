@@ -1,5 +1,5 @@
 -- Demand and supply: how they move with the price, how they split at a price, their bounds, and the pass that adds them up.
-use Prim.Native.Nat.{ℕ, zero, suc, _+_, _-_, _≤_, _<_}
+use Prim.Native.Nat.{ℕ, zero, suc, _+_, _-_, _≤_, _<_, min}
 use mathlib.Core.Path.{_≡_, refl, sym, ap, ap₂, _∙_}
 use mathlib.Core.Logic.{_⊎_, inl, inr, ⊎-elim}
 use mathlib.Core.Bool.{Bool, true, false, not, _&&_}
@@ -14,11 +14,12 @@ use lib.Seq.{drop-cons}
 use lib.Dec.{leb, ltb, eqb, leb·suc-suc}
 use Rattle.model.specs.declared.Order.{Order}
 use Rattle.model.specs.Choice.{if_then_else_}
-use Rattle.model.specs.Book.{isLive, standsOn}
+use Rattle.model.specs.Book.{standsOn}
 use Rattle.model.specs.Matching.{meets}
-use Rattle.model.specs.Auction.{sharesOf, demand, supply, buysAbove, sellsBelow, buysAt, sellsAt}
+use Rattle.model.specs.Auction.{sharesOf, demand, supply, volume, buysAbove, sellsBelow, buysAt, sellsAt}
 use Rattle.book.specs.Rows.{orderOf, bookOf}
 use Rattle.book.specs.Standing.{Fair, Standing}
+use Rattle.book.proofs.Queues.{on-live}
 use Rattle.auction.specs.declared.Interest.{Interest}
 use Rattle.auction.specs.Interest.{tradesFor, brings, interest, interestAt}
 use Rattle.auction.proofs.Bools.{true-or-false, not-both, and-left, and-right, and-mono}
@@ -131,11 +132,6 @@ demand-bound os p s = rw (← interest-buys os p) (interest-bound os 0 p s)
 pub supply-bound : (os : List Order) (p : ℕ) → Standing os → supply os p ≤ 4_096_000_000
 supply-bound os p s = rw (← interest-sells os p) (interest-bound os 1 p s)
 
--- an order of a side has a number
-pub side-live : (side : ℕ) (o : Order) → standsOn side o ≡ true → o .number ≡ 0 → ⊥
-unfolding standsOn isLive
-side-live side o e z = not-both (and-left (isLive o) (eqb (o .side) side) e) (rw z)
-
 -- nobody buys above the dearest price, nobody sells below the cheapest
 pub demand-top : (os : List Order) → Standing os → demand os 1_000_000 ≡ 0
 unfolding demand
@@ -157,7 +153,7 @@ supply-bottom os s = shares-none (λ o. standsOn 1 o && leb (o .price) 0) none o
         (λ t. absurd
         (omega (
           arith,
-          f .priced (side-live 1 o (and-left (standsOn 1 o) (leb (o .price) 0) t)),
+          f .priced (on-live 1 o (and-left (standsOn 1 o) (leb (o .price) 0) t)),
           leb-true (o .price) 0 (and-right (standsOn 1 o) (leb (o .price) 0) t),
         )))
         (λ t. t)
@@ -217,3 +213,7 @@ pass-buys os least most e = ap (λ r. r .demand) e
 pub pass-sells : (os : List Order) (least most : ℕ) {r : Interest} → r ≡ interestAt os least most → r .supply ≡ supply os most
 unfolding interestAt
 pass-sells os least most e = ap (λ r. r .supply) e
+
+pub pass-volume : (os : List Order) (p : ℕ) {v : ℕ} {r : Interest} → r ≡ interestAt os p p → v ≡ min (r .demand) (r .supply) → v ≡ volume os p
+unfolding volume
+pass-volume os p e hv = hv ∙ ap₂ min (pass-buys os p p e) (pass-sells os p p e)

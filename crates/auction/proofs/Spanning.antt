@@ -59,39 +59,39 @@ module _ (os : List Order) {lo end : ℕ} (s : lo ≡ turnOf os 1) (b : end ≡ 
 abbrev pub SpanCases : List Order → ℕ → ℕ → Type 0
 SpanCases os lo hi = ((lo ≡ 0) × (hi ≡ 0) × (qualifying os ≡ [])) ⊎ Spans os lo hi
 
-turns-cases : (os : List Order) {lo end : ℕ} → Turns os 1 lo → Turns os 0 end → (lo < end → SpanCases os lo (end - 1)) × (end ≤ lo → qualifying os ≡ [])
+pub turns-span : (os : List Order) {lo end : ℕ} → Turns os 1 lo → Turns os 0 end → lo < end → Spans os lo (end - 1)
+turns-span os {lo} {end} s b h =
+    let e : end - lo ≡ end - 1 + 1 - lo = omega arith in
+    record {
+      from-1 = s .from-1;
+      some = omega arith;
+      to-999999 = omega (arith, b .to-1000000);
+      list = between-turns os s b ∙ ap (from lo) e;
+      each = λ p k l.
+          turned-qualifies os p
+          (record { from-1 = omega (arith, s .from-1); to-999999 = omega (arith, b .to-1000000) })
+          (s .after p k (omega (arith, b .to-1000000)))
+          (b .before p (omega (arith, s .from-1)) (omega arith));
+    }
+
+pub turns-none : (os : List Order) {lo end : ℕ} → Turns os 1 lo → Turns os 0 end → end ≤ lo → qualifying os ≡ []
 unfolding from
-turns-cases os {lo} {end} s b = (
-  λ h.
-      let e : end - lo ≡ end - 1 + 1 - lo = omega arith in
-      inr
-      (record {
-        from-1 = s .from-1;
-        some = omega arith;
-        to-999999 = omega (arith, b .to-1000000);
-        list = between-turns os s b ∙ ap (from lo) e;
-        each = λ p k l.
-            turned-qualifies os p
-            (record { from-1 = omega (arith, s .from-1); to-999999 = omega (arith, b .to-1000000) })
-            (s .after p k (omega (arith, b .to-1000000)))
-            (b .before p (omega (arith, s .from-1)) (omega arith));
-      }),
-  λ h. let e : end - lo ≡ 0 = omega arith in between-turns os s b ∙ ap (from lo) e,
-)
+turns-none os {lo} {end} s b h =
+    let e : end - lo ≡ 0 = omega arith in
+    between-turns os s b ∙ ap (from lo) e
 
 pub span-cases : (os : List Order) {s : Span} → s ≡ ends (qualifying os) → SpanCases os (s .lo) (s .hi)
 span-cases os {s} e =
     let lo = turnOf os 1 in
     let end = turnOf os 0 in
-    let c = turns-cases os (turn-law os 1) (turn-law os 0) in
     elim (decLt lo end) [
       | yes h ↦
           let f : s ≡ record { lo = lo; hi = end - 1 } = e ∙ sym (some-span os refl refl h) in
-          rw f (c .0 h)
+          rw f (inr (turns-span os (turn-law os 1) (turn-law os 0) h))
       | no h ↦
           let k : end ≤ lo = omega arith in
           let f : s ≡ record { lo = 0; hi = 0 } = e ∙ sym (no-span os refl refl k) in
-          rw f (inl (refl, refl, c .1 k))
+          rw f (inl (refl, refl, turns-none os (turn-law os 1) (turn-law os 0) k))
     ]
 
 -- every book has its span

@@ -162,6 +162,10 @@ nearest-point ref a b n h (inr (inr k)) =
 pub nearest-least : (ref a b : ℕ) → a ≤ b → Least (λ p. distance p ref) a b (nearestIn ref a b) (nearestIn ref a b)
 nearest-least ref a b h = nearest-point ref a b (nearestIn ref a b) h (nearest-is ref a b)
 
+-- of one price it is that price
+pub nearest-same : (ref p : ℕ) → nearestIn ref p p ≡ p
+nearest-same ref p = let l = nearest-least ref p p (le-refl p) in omega (arith, l .from-lo, l .to-hi)
+
 -- ---- what is left of the qualifying prices
 one-run : (n : ℕ) → from n 1 ≡ n ∷ []
 unfolding from
@@ -171,10 +175,13 @@ none-least : (g : ℕ → ℕ) → atLeast g [] ≡ []
 unfolding atLeast
 none-least g = refl
 
+pub none-flattest : (os : List Order) → qualifying os ≡ [] → leastDifference os ≡ []
+unfolding leastDifference
+none-flattest os e = rw e (none-least (λ p. distance (demand os p) (supply os p)))
+
 pub none-left : (os : List Order) (ref : ℕ) → qualifying os ≡ [] → leftBy os ref ≡ []
-unfolding leftBy leastDifference
-none-left os ref e =
-    rw (e, none-least (λ p. distance (demand os p) (supply os p))) (none-least (λ p. distance p ref))
+unfolding leftBy
+none-left os ref e = rw (none-flattest os e) (none-least (λ p. distance p ref))
 
 module _ (os : List Order) {lo hi : ℕ} (s : Spans os lo hi) where
   -- the prices of smallest difference lie from one of them to another
@@ -208,11 +215,8 @@ pub price-alone : (os : List Order) (ref : ℕ) {s : Span} → s ≡ ends (quali
 price-alone os ref {s} e same =
     ⊎-elim
     (λ k. rw (none-left os ref (k .2)) (k .0))
-    (λ k. rw (left-is os k ref (flattest-one os k same)) (sym (at-one ref (s .lo))))
+    (λ k. rw (left-is os k ref (flattest-one os k same)) (sym (nearest-same ref (s .lo))))
     (span-cases os e)
-  where
-    at-one : (ref p : ℕ) → nearestIn ref p p ≡ p
-    at-one ref p = let l = nearest-least ref p p (le-refl p) in omega (arith, l .from-lo, l .to-hi)
 
 pub price-among : (os : List Order) (ref : ℕ) {s : Span} {low high r : ℕ} → s ≡ ends (qualifying os) → (s .lo ≡ s .hi → ⊥) → low ≡ flatter os (s .lo) (s .lo + 1) → high ≡ flatter os (s .hi) (s .hi - 1) → r ≡ nearestIn ref low high → r ≡ getD (leftBy os ref) 0 0
 price-among os ref {s} e apart hl hh hr =
@@ -221,9 +225,9 @@ price-among os ref {s} e apart hl hh hr =
     (λ k. let l : s .lo < s .hi = omega (arith, k .some) in rw (left-is os k ref (flattest-many os k l)) (rw (hr, hl, hh)))
     (span-cases os e)
 
-pub many-span : (os : List Order) {s : Span} → s ≡ ends (qualifying os) → (s .lo ≡ s .hi → ⊥) → (1 ≤ s .hi) × (s .lo ≤ 999_999)
+pub many-span : (os : List Order) {s : Span} → s ≡ ends (qualifying os) → (s .lo ≡ s .hi → ⊥) → (s .lo < s .hi) × (s .hi ≤ 999_999)
 many-span os {s} e apart =
-    ⊎-elim (λ k. absurd (apart (k .0 ∙ sym (k .1)))) (λ k. (omega (arith, k .from-1, k .some), omega (arith, k .some, k .to-999999))) (span-cases os e)
+    ⊎-elim (λ k. absurd (apart (k .0 ∙ sym (k .1)))) (λ k. (omega (arith, k .some), k .to-999999)) (span-cases os e)
 
 -- the absolute difference, of one pass
 pub gap-below : (os : List Order) (p : ℕ) {r : Interest} → r ≡ interestAt os p p → r .demand < r .supply → r .supply - r .demand ≡ gap os p

@@ -35,7 +35,7 @@ covered-all a b e = leb-true b a (and-right (leb 1 a) (leb b a) e)
 
 -- ---- each side
 module _ (os : List Order) (p : ℕ) where
-  sells-turned : turned os 1 p ≡ true → SellsCover os p
+  pub sells-turned : turned os 1 p ≡ true → SellsCover os p
   unfolding turned
   sells-turned e =
       record {
@@ -43,11 +43,11 @@ module _ (os : List Order) (p : ℕ) where
         cover = covered-all (supply os p) (demand os (p + 1)) e;
       }
 
-  turned-sells : SellsCover os p → turned os 1 p ≡ true
+  pub turned-sells : SellsCover os p → turned os 1 p ≡ true
   unfolding turned
   turned-sells s = covered-yes (supply os p) (demand os (p + 1)) (s .some) (s .cover)
 
-  buys-unturned : turned os 0 p ≡ false → BuysCover os p
+  pub buys-unturned : turned os 0 p ≡ false → BuysCover os p
   unfolding turned
   buys-unturned e =
       let t = not-false (covered (demand os p) (supply os (p - 1))) e in
@@ -56,7 +56,7 @@ module _ (os : List Order) (p : ℕ) where
         cover = covered-all (demand os p) (supply os (p - 1)) t;
       }
 
-  unturned-buys : BuysCover os p → turned os 0 p ≡ false
+  pub unturned-buys : BuysCover os p → turned os 0 p ≡ false
   unfolding turned
   unturned-buys s = rw (covered-yes (demand os p) (supply os (p - 1)) (s .some) (s .cover))
 

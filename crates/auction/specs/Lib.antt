@@ -3,3 +3,4 @@ pub mod Interest
 pub mod Spans
 pub mod Rule
 pub mod Written
+pub mod Stars

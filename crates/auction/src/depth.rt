@@ -2,7 +2,8 @@
 use crate::Interest;
 use model::Order;
 ghost use mathlib.Core.Path.{_≡_};
-ghost use Rattle.model.specs.Auction.{demand, supply};
+ghost use Prim.Native.Nat.{min};
+ghost use Rattle.model.specs.Auction.{demand, supply, volume};
 ghost use Rattle.book.specs.Rows.{bookOf};
 ghost use Rattle.book.specs.Standing.{Standing};
 ghost use Rattle.auction.specs.Interest.{brings, interestAt};
@@ -62,4 +63,22 @@ pub fn supply_at(rows: &[[u64; 5]], p: u64) -> u64
 {
     let both = interest_at(rows, p, p);
     both.supply
+}
+
+pub fn smaller(a: u64, b: u64) -> u64
+    ensures { λ r. ⌜ r ≡ min a b ⌝ }
+{
+    if a < b {
+        return a;
+    }
+    b
+}
+
+// What can trade at p: the smaller of the two.
+pub fn volume_at(rows: &[[u64; 5]], p: u64) -> u64
+    requires { ⌜ Standing (bookOf (now rows)) ⌝ }
+    ensures { λ r. ⌜ r ≡ volume (bookOf (now (rows .entry))) p ⌝ }
+{
+    let both = interest_at(rows, p, p);
+    smaller(both.demand, both.supply)
 }

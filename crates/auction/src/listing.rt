@@ -24,10 +24,10 @@ fn write_run(first: u64, hi: u64, prices: &mut [u64]) -> Listed
         p += 1;
         i += 1;
     }
-    if hi < p {
-        return Listed { count: i, next: 0 };
+    if p <= hi {
+        return Listed { count: i, next: p };
     }
-    Listed { count: i, next: p }
+    Listed { count: i, next: 0 }
 }
 
 // As many of them as fit stand at the front of the lent list, the rest of which stays.
@@ -36,11 +36,13 @@ pub fn list_prices(rows: &[[u64; 5]], asked: u64, prices: &mut [u64]) -> Listed
     ensures { λ r. ⌜ (r ≡ listed (due asked (bookOf (now (rows .entry)))) (now (prices .entry))) × (now (prices .exit) ≡ written (due asked (bookOf (now (rows .entry)))) (now (prices .entry))) ⌝ }
 {
     let span = span_of(rows);
-    if span.lo == 0 {
+    let lo = span.lo;
+    let hi = span.hi;
+    if lo == 0 {
         return Listed { count: 0, next: 0 };
     }
-    if asked < span.lo {
-        return write_run(span.lo, span.hi, prices);
+    if asked < lo {
+        return write_run(lo, hi, prices);
     }
-    write_run(asked, span.hi, prices)
+    write_run(asked, hi, prices)
 }

@@ -15,10 +15,12 @@ fn gap_at(rows: &[[u64; 5]], p: u64) -> u64
     ensures { λ r. ⌜ r ≡ gap (bookOf (now (rows .entry))) p ⌝ }
 {
     let both = interest_at(rows, p, p);
-    if both.demand < both.supply {
-        return both.supply - both.demand;
+    let demand = both.demand;
+    let supply = both.supply;
+    if demand < supply {
+        return supply - demand;
     }
-    both.demand - both.supply
+    demand - supply
 }
 
 // An end of the qualifying prices, or its neighbour where the difference is smaller there.
@@ -51,11 +53,14 @@ pub fn auction_price(rows: &[[u64; 5]], reference: u64) -> u64
     ensures { λ r. ⌜ r ≡ getD (leftBy (bookOf (now (rows .entry))) reference) 0 0 ⌝ }
 {
     let span = span_of(rows);
-    if span.lo == span.hi {
-        return span.lo;
+    let lo = span.lo;
+    let hi = span.hi;
+    // none, or one alone
+    if lo == hi {
+        return lo;
     }
-    // all prices strictly between the ends have difference 0, so only an end can be worse than its neighbour
-    let low = flatter(rows, span.lo, span.lo + 1);
-    let high = flatter(rows, span.hi, span.hi - 1);
+    // strictly between the ends the difference is 0, so only an end can have more than its neighbour
+    let low = flatter(rows, lo, lo + 1);
+    let high = flatter(rows, hi, hi - 1);
     nearest(reference, low, high)
 }

@@ -1,8 +1,9 @@
 // The auction report: price, volume and signed surplus.
 use crate::depth::interest_at;
+use crate::depth::smaller;
 use model::ReportReply;
 ghost use mathlib.Core.Path.{_≡_};
-ghost use Prim.Native.Nat.{_≤_, min};
+ghost use Prim.Native.Nat.{_≤_};
 ghost use lib.IntN.{subℕ};
 ghost use Rattle.model.specs.AuctionCalls.{reportAt};
 ghost use Rattle.book.specs.Rows.{bookOf};
@@ -14,15 +15,6 @@ fn surplus_of(demand: u64, supply: u64) -> i64
     ensures { λ r. ⌜ r ≡ subℕ demand supply ⌝ }
 {
     (demand as i64) - (supply as i64)
-}
-
-fn smaller(a: u64, b: u64) -> u64
-    ensures { λ r. ⌜ r ≡ min a b ⌝ }
-{
-    if a < b {
-        return a;
-    }
-    b
 }
 
 // The report at the price that the auction would have; all zero at 0, where nothing qualifies.

@@ -10,3 +10,4 @@ pub mod Finding
 pub mod Memory
 pub mod Kept
 pub mod Best
+pub mod Shares

@@ -1,10 +1,11 @@
--- Laws of the parts of a list that a test keeps, and of what holds for each element.
-use Prim.Native.Nat.{ℕ, suc, _+_, _≤_}
+-- Laws of the parts of a list that a test keeps, of what holds for each element, and of totals.
+use Prim.Native.Nat.{ℕ, zero, suc, _+_, _≤_, _<_}
 use mathlib.Core.Path.{_≡_, refl, sym, ap, _∙_}
 use mathlib.Core.Bool.{Bool, true, false, cond, _&&_}
 use mathlib.Core.List.{List, [], _∷_, map}
 use native.Mathlib.Omega.{arith}
-use lib.ListN.{length}
+use native.Mathlib.Nat.{not-suc-le-zero, le-of-suc-le-suc}
+use lib.ListN.{length, getD, set}
 use Rattle.model.specs.Lists.{keep, total}
 use Rattle.book.specs.Standing.{Each}
 
@@ -85,3 +86,38 @@ module _ {A : Type 0} where
   unfolding keep
   keep-none p [] e = refl
   keep-none p (x ∷ xs) e = keep-false p x xs (e .0) ∙ keep-none p xs (e .1)
+
+  -- ---- totals
+
+  pub total-same : (f g : A → ℕ) (xs : List A) → Each (λ x. f x ≡ g x) xs → total f xs ≡ total g xs
+  unfolding total
+  total-same f g [] e = refl
+  total-same f g (x ∷ xs) e = omega (arith, e .0, total-same f g xs (e .1))
+
+  pub total-add : (f g : A → ℕ) (xs : List A) → total (λ x. f x + g x) xs ≡ total f xs + total g xs
+  unfolding total
+  total-add f g [] = refl
+  total-add f g (x ∷ xs) = omega (arith, total-add f g xs)
+
+  pub total-zero : (f : A → ℕ) (xs : List A) → Each (λ x. f x ≡ 0) xs → total f xs ≡ 0
+  unfolding total
+  total-zero f [] e = refl
+  total-zero f (x ∷ xs) e = omega (arith, e .0, total-zero f xs (e .1))
+
+  pub total-keep : (f : A → ℕ) (p : A → Bool) (xs : List A) → total f (keep p xs) ≤ total f xs
+  unfolding total keep
+  total-keep f p [] = omega arith
+  total-keep f p (x ∷ xs) = go (p x) (total-keep f p xs)
+    where
+      go :
+          (b : Bool) → total f (keep p xs) ≤ total f xs → total f (cond b (x ∷ keep p xs) (keep p xs)) ≤ f x + total f xs
+      go true h = omega arith
+      go false h = omega arith
+
+  -- another element at a place
+  pub total-set :
+      (f : A → ℕ) (xs : List A) (i : ℕ) (x d : A) → i < length xs → total f (set xs i x) + f (getD xs i d) ≡ total f xs + f x
+  unfolding total
+  total-set f [] i x d h = absurd (not-suc-le-zero h)
+  total-set f (y ∷ xs) zero x d h = omega arith
+  total-set f (y ∷ xs) (suc i) x d h = omega (arith, total-set f xs i x d (le-of-suc-le-suc h))

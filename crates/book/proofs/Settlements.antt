@@ -23,7 +23,7 @@ unfolding filledOf filled keep total
 filled-none n = refl
 
 -- one trade
-pub part : ℕ → Trade → ℕ
+unfoldable pub part : ℕ → Trade → ℕ
 part n t = cond (isIn n t) (t .quantity) 0
 
 pub filled-cons : (n : ℕ) (t : Trade) (ts : List Trade) → filledOf n (t ∷ ts) ≡ part n t + filledOf n ts

@@ -44,13 +44,13 @@ same-length-2 : tie.Need-same-length-2 Inv-loop μ-loop
 same-length-2 c = search needs
 
 returns-2 : tie.Need-returns-2 Inv-loop μ-loop
-returns-2 c = filled-full _ _ _ (c .before .before .loop .inv) (c .if2 .taken)
+returns-2 c = filled-out _ _ _ (c .before .before .loop .inv) (omega arith) (c .if2 .taken)
 
 same-length-3 : tie.Need-same-length-3 Inv-loop μ-loop
 same-length-3 c = search needs
 
 returns-3 : tie.Need-returns-3 Inv-loop μ-loop
-returns-3 c = filled-out _ _ _ (c .before .before .loop .inv) (omega arith) (c .if2 .left)
+returns-3 c = filled-full _ _ _ (c .before .before .loop .inv) (c .if2 .left)
 
 pub write-run-spec : {M : Type 1} → statement M
 write-run-spec =

@@ -9,16 +9,16 @@ span-of-requires : tie.Need-span-of-requires
 span-of-requires c κs = search needs
 
 returns : tie.Need-returns
-returns c = price-alone _ _ (c .before .before .span-of .ensures) (c .if1 .taken)
+returns c = price-alone _ _ (c .before .span-of .ensures) (c .if1 .taken)
 
 add-flatter : tie.Need-add-flatter
-add-flatter c = omega (arith, many-span _ (c .before .before .before .span-of .ensures) (c .before .if1 .left))
+add-flatter c = omega (arith, many-span _ (c .before .span-of .ensures) (c .if1 .left))
 
 flatter-requires : tie.Need-flatter-requires
 flatter-requires c κs = search needs
 
 sub-flatter : tie.Need-sub-flatter
-sub-flatter c = omega (arith, many-span _ (c .before .before .before .before .before .span-of .ensures) (c .before .before .before .if1 .left))
+sub-flatter c = omega (arith, many-span _ (c .before .before .span-of .ensures) (c .before .if1 .left))
 
 flatter-requires-2 : tie.Need-flatter-requires-2
 flatter-requires-2 c κs = search needs
@@ -28,8 +28,8 @@ nearest-requires c κs = search needs
 
 returns-2 : tie.Need-returns-2
 returns-2 c =
-    price-among _ _ (c .before .before .before .before .before .before .before .span-of .ensures) (c .before .before .before .before .before .if1 .left)
-    (c .before .before .before .flatter .ensures) (c .before .flatter2 .ensures) (c .nearest .ensures)
+    price-among _ _ (c .before .before .before .before .span-of .ensures) (c .before .before .before .if1 .left)
+    (c .before .before .flatter .ensures) (c .before .flatter2 .ensures) (c .nearest .ensures)
 
 pub auction-price-spec : {M : Type 1} → statement M
 auction-price-spec =

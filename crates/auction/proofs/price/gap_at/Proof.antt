@@ -11,10 +11,10 @@ sub-result : tie.Need-sub-result
 sub-result c = search needs
 
 returns : tie.Need-returns
-returns c = gap-below _ _ (c .before .before .before .interest-at .ensures) (c .before .if1 .taken)
+returns c = gap-below _ _ (c .before .interest-at .ensures) (c .if1 .taken)
 
 returns-2 : tie.Need-returns-2
-returns-2 c = gap-above _ _ (c .before .before .before .interest-at .ensures) (c .before .if1 .left)
+returns-2 c = gap-above _ _ (c .before .interest-at .ensures) (c .if1 .left)
 
 pub gap-at-spec : {M : Type 1} → statement M
 gap-at-spec = tie.close (tie.spec interest-at-requires sub-result returns returns-2)

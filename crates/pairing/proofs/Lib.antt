@@ -1,0 +1,5 @@
+-- The pairing's laws: one turn, the loop that takes one turn after the other, and what the trades come to.
+pub mod Turns
+pub mod Waiting
+pub mod Dealing
+pub mod Grants
