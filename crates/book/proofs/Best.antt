@@ -1,15 +1,14 @@
--- Who is in a queue and in which order, what the best price says of the others, and when buys reach sells.
+-- Who is in a queue and in which order, and what the best price says of the others.
 use Prim.Native.Nat.{ℕ, zero, suc, _+_, _-_, _*_, _≤_, _<_}
 use mathlib.Core.Path.{_≡_, refl, sym, ap, _∙_}
-use mathlib.Core.Bool.{Bool, true, false, cond, not, _&&_}
+use mathlib.Core.Bool.{Bool, true, false, cond}
 use mathlib.Core.List.{List, [], _∷_, nil≢cons}
 use native.Mathlib.Omega.{arith}
-use lib.Dec.{leb, ltb, eqb}
-use borrow.Author.Tests.{eq-eqb, ne-eqb, eqb-true, eqb-false, lt-ltb, le-ltb, lt-leb, leb-false}
+use lib.Dec.{eqb}
+use borrow.Author.Tests.{eqb-true, eqb-false, lt-ltb, le-ltb}
 use Rattle.model.specs.declared.Order.{Order}
 use Rattle.model.specs.Lists.{keep}
 use Rattle.model.specs.Book.{standsOn, better, ahead, queue, headPrice, best}
-use Rattle.model.specs.Sound.{crosses}
 use Rattle.book.specs.Standing.{Each, Fair, Standing}
 use Rattle.book.specs.Priority.{rank, key}
 use Rattle.book.proofs.Lists.{both, each, every, each-keep, kept}
@@ -157,78 +156,3 @@ module _ (side : ℕ) (book : List Order) where
       go (o ∷ os) e =
           let no : best side book ≡ 0 → ⊥ = λ z. absurd (nil≢cons (sym (empty-best f z) ∙ e)) in
           every (λ p. best side book ≡ 0 → ⊥) (o ∷ os) (λ p. no)
-
--- ---- buys and sells
-
--- every buy is below every sell
-abbrev pub Uncrossed : List Order → Type 0
-Uncrossed book =
-    Each
-    (λ (b : Order). standsOn 0 b ≡ true → Each (λ (s : Order). standsOn 1 s ≡ true → b .price < s .price) book)
-    book
-
-buy-best : (p q : ℕ) → p ≤ 999_999 → rank 0 q ≤ rank 0 p → p ≤ q
-unfolding rank
-buy-best p q hp l = omega arith
-
-sell-best : (p q : ℕ) → rank 1 q ≤ rank 1 p → q ≤ p
-unfolding rank
-sell-best p q l = l
-
-module _ (book : List Order) where
-  apart-best : crosses book ≡ false → (best 0 book ≡ 0 → ⊥) → (best 1 book ≡ 0 → ⊥) → best 0 book < best 1 book
-  unfolding crosses
-  apart-best c n m =
-      leb-false (best 1 book) (best 0 book)
-      (sym (rw (ne-eqb (best 0 book) 0 n, ne-eqb (best 1 book) 0 m)) ∙ c)
-
-  pub uncrossed : Standing book → crosses book ≡ false → Uncrossed book
-  uncrossed s c =
-      both (λ b. standsOn 0 b ≡ true → rank 0 (best 0 book) ≤ rank 0 (b .price)) Near
-      (λ b. standsOn 0 b ≡ true → Each (λ r. standsOn 1 r ≡ true → b .price < r .price) book) book
-      (λ b l h t. sells b (l t) (h .0) (h .1 t))
-      (best-first 0 book s)
-      (both Fair (λ b. standsOn 0 b ≡ true → best 0 book ≡ 0 → ⊥) Near book (λ b f n. (f .price, n)) (s .fair) (has-best 0 book (s .fair)))
-    where
-      Near : Order → Type 0
-      Near b = (b .price ≤ 999_999) × (standsOn 0 b ≡ true → best 0 book ≡ 0 → ⊥)
-
-      sells :
-          (b : Order)
-          → rank 0 (best 0 book) ≤ rank 0 (b .price)
-          → b .price ≤ 999_999
-          → (best 0 book ≡ 0 → ⊥)
-          → Each (λ r. standsOn 1 r ≡ true → b .price < r .price) book
-      sells b l h n =
-          both (λ r. standsOn 1 r ≡ true → rank 1 (best 1 book) ≤ rank 1 (r .price)) (λ r. standsOn 1 r ≡ true → best 1 book ≡ 0 → ⊥)
-          (λ r. standsOn 1 r ≡ true → b .price < r .price) book
-          (λ r k m t.
-          let low : best 0 book < best 1 book = apart-best c n (m t) in
-          let buys : b .price ≤ best 0 book = buy-best (b .price) (best 0 book) h l in
-          let over : best 1 book ≤ r .price = sell-best (r .price) (best 1 book) (k t) in
-          omega arith)
-          (best-first 1 book s)
-          (has-best 1 book (s .fair))
-
-  pub not-crossed : Uncrossed book → crosses book ≡ false
-  unfolding crosses
-  not-crossed u = go (eqb (best 0 book) 0) refl (eqb (best 1 book) 0) refl
-    where
-      go :
-          (a : Bool)
-          → eqb (best 0 book) 0 ≡ a
-          → (b : Bool)
-          → eqb (best 1 book) 0 ≡ b
-          → not a && not b && leb (best 1 book) (best 0 book) ≡ false
-      go true e b f = refl
-      go false e true f = refl
-      go false e false f =
-          let below : Each (λ r. standsOn 1 r ≡ true → best 0 book < r .price) book =
-          best-has 0 book (λ p. Each (λ r. standsOn 1 r ≡ true → p < r .price) book)
-          (on-each (λ b. Each (λ r. standsOn 1 r ≡ true → b .price < r .price) book) 0 book u)
-          (eqb-false (best 0 book) 0 e)
-          in
-          let low : best 0 book < best 1 book =
-          best-has 1 book (λ p. best 0 book < p) (on-each (λ r. best 0 book < r .price) 1 book below) (eqb-false (best 1 book) 0 f)
-          in
-          lt-leb (best 1 book) (best 0 book) low

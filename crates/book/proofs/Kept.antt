@@ -41,8 +41,7 @@ free-number = refl
 
 -- ---- one place changed
 
--- another order at a place: its number is 0, or none of the others has it
-set-each : (P : Order → Type 0) (os : List Order) (i : ℕ) (o : Order) → P o → Each P os → Each P (set os i o)
+pub set-each : (P : Order → Type 0) (os : List Order) (i : ℕ) (o : Order) → P o → Each P os → Each P (set os i o)
 set-each P [] i o h e = tt
 set-each P (p ∷ os) zero o h e = (h, e .1)
 set-each P (p ∷ os) (suc i) o h e = (e .0, set-each P os i o h (e .1))

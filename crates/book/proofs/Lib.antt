@@ -10,4 +10,5 @@ pub mod Finding
 pub mod Memory
 pub mod Kept
 pub mod Best
+pub mod Crossing
 pub mod Shares

@@ -54,6 +54,11 @@ pub on-side : (side : ℕ) (o : Order) → standsOn side o ≡ true → o .side 
 unfolding standsOn
 on-side side o e = eqb-true (o .side) side (and-both (isLive o) (eqb (o .side) side) e .1)
 
+pub same-stand : (side : ℕ) (o p : Order) → o .side ≡ p .side → o .number ≡ p .number → standsOn side o ≡ standsOn side p
+unfolding standsOn isLive
+same-stand side o p s n =
+    ap (λ (x : ℕ). not (eqb x 0) && eqb (o .side) side) n ∙ ap (λ (x : ℕ). not (eqb (p .number) 0) && eqb x side) s
+
 -- ---- ahead is the smaller key
 
 pub ltb-same : (a b c d : ℕ) → (a < b → c < d) → (b ≤ a → d ≤ c) → ltb a b ≡ ltb c d

@@ -33,33 +33,33 @@ of-none n g os e =
     total-zero (λ o. cond (eqb (o .number) n) (g o) 0) os
     (each (λ o. o .number ≡ n → ⊥) (λ o. cond (eqb (o .number) n) (g o) 0 ≡ 0) os (λ o h. rw (ne-eqb (o .number) n h)) e)
 
-of-cons : (n : ℕ) (g : Order → ℕ) (o : Order) (os : List Order) → ofNumber n g (o ∷ os) ≡ cond (eqb (o .number) n) (g o) 0 + ofNumber n g os
+pub of-cons : (n : ℕ) (g : Order → ℕ) (o : Order) (os : List Order) → ofNumber n g (o ∷ os) ≡ cond (eqb (o .number) n) (g o) 0 + ofNumber n g os
 unfolding ofNumber total
 of-cons n g o os = refl
 
--- a live order is the only one with its number
-pub of-only :
-    (g : Order → ℕ) (book : List Order)
-    → Apart book
-    → Each (λ o. (o .number ≡ 0 → ⊥) → ofNumber (o .number) g book ≡ g o) book
-of-only g [] a = tt
-of-only g (o ∷ os) a = (
-  λ n.
-      let none : ofNumber (o .number) g os ≡ 0 =
-      of-none (o .number) g os
-      (each (λ p. p .number ≡ o .number → o .number ≡ 0) (λ p. p .number ≡ o .number → ⊥) os (λ p f e. n (f e)) (a .0))
-      in
-      let one : cond (eqb (o .number) (o .number)) (g o) 0 ≡ g o = rw (eq-eqb (o .number) (o .number) refl) in
-      omega (arith, of-cons (o .number) g o os),
-  both (λ p. p .number ≡ o .number → o .number ≡ 0) (λ p. (p .number ≡ 0 → ⊥) → ofNumber (p .number) g os ≡ g p)
-      (λ p. (p .number ≡ 0 → ⊥) → ofNumber (p .number) g (o ∷ os) ≡ g p) os
-      (λ p f h n.
-      let other : o .number ≡ p .number → ⊥ = λ e. n (sym e ∙ f (sym e)) in
-      let zero : cond (eqb (o .number) (p .number)) (g o) 0 ≡ 0 = rw (ne-eqb (o .number) (p .number) other) in
-      omega (arith, of-cons (p .number) g o os, h n))
-      (a .0)
-      (of-only g os (a .1)),
-)
+-- an order, where it is live, is the only one with its number
+abbrev pub Only : List Order → Order → Type 0
+Only book o = (o .number ≡ 0 → ⊥) → (g : Order → ℕ) → ofNumber (o .number) g book ≡ g o
+
+pub each-only : (book : List Order) → Apart book → Each (Only book) book
+each-only [] a = tt
+each-only (o ∷ os) a =
+    (
+      λ n g.
+        let none : ofNumber (o .number) g os ≡ 0 =
+            of-none (o .number) g os
+            (each (λ p. p .number ≡ o .number → o .number ≡ 0) (λ p. p .number ≡ o .number → ⊥) os (λ p f e. n (f e)) (a .0))
+        in
+        let one : cond (eqb (o .number) (o .number)) (g o) 0 ≡ g o = rw (eq-eqb (o .number) (o .number) refl) in
+        omega (arith, of-cons (o .number) g o os),
+      both (λ p. p .number ≡ o .number → o .number ≡ 0) (Only os) (Only (o ∷ os)) os
+        (λ p f h n g.
+          let other : o .number ≡ p .number → ⊥ = λ e. n (sym e ∙ f (sym e)) in
+          let zero : cond (eqb (o .number) (p .number)) (g o) 0 ≡ 0 = rw (ne-eqb (o .number) (p .number) other) in
+          omega (arith, of-cons (p .number) g o os, h n g))
+        (a .0)
+        (each-only os (a .1)),
+    )
 
 -- ---- what trades fill, over the book
 

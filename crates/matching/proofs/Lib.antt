@@ -7,3 +7,6 @@ pub mod Sweeps
 pub mod Outcome
 pub mod Entries
 pub mod Situations
+pub mod Trades
+pub mod Fills
+pub mod Remainders
