@@ -108,25 +108,24 @@ module _ (ts : List Trade) where
 
   -- what holds for the prices of a side holds after the trades
   pub settle-prices :
-    (side : ℕ) (P : ℕ → Type 0) (os : List Order)
-    → Each (λ o. standsOn side o ≡ true → P (o .price)) os
-    → Each (λ o. standsOn side o ≡ true → P (o .price)) (settle ts os)
+      (side : ℕ) (P : ℕ → Type 0) (os : List Order)
+      → Each (λ o. standsOn side o ≡ true → P (o .price)) os
+      → Each (λ o. standsOn side o ≡ true → P (o .price)) (settle ts os)
   unfolding settle
   settle-prices side P [] e = tt
-  settle-prices side P (o ∷ os) e =
-      (
-        λ t. let s : Less o (after ts o) × (standsOn side o ≡ true) = stood side o t in rw (sym (s .0 .price)) (e .0 (s .1)),
-        settle-prices side P os (e .1),
-      )
+  settle-prices side P (o ∷ os) e = (
+    λ t. let s : Less o (after ts o) × (standsOn side o ≡ true) = stood side o t in rw (sym (s .0 .price)) (e .0 (s .1)),
+    settle-prices side P os (e .1),
+  )
 
   pub uncrossed-settle : (book : List Order) → Uncrossed book → Uncrossed (settle ts book)
   uncrossed-settle book u =
       settle-prices 0 (λ p. Each (λ (s : Order). standsOn 1 s ≡ true → p < s .price) (settle ts book)) book
       (each (λ (b : Order). standsOn 0 b ≡ true → Each (λ (s : Order). standsOn 1 s ≡ true → b .price < s .price) book)
-        (λ (b : Order). standsOn 0 b ≡ true → Each (λ (s : Order). standsOn 1 s ≡ true → b .price < s .price) (settle ts book))
-        book
-        (λ b f t. settle-prices 1 (λ p. b .price < p) book (f t))
-        u)
+      (λ (b : Order). standsOn 0 b ≡ true → Each (λ (s : Order). standsOn 1 s ≡ true → b .price < s .price) (settle ts book))
+      book
+      (λ b f t. settle-prices 1 (λ p. b .price < p) book (f t))
+      u)
 
 -- ---- after a new rest
 
@@ -163,27 +162,27 @@ module _ (x : Order) (book : List Order) (unmet : Unmet (x .side) (x .price) boo
   above-each : (b : Bool) → standsOn 1 x ≡ b → Each (λ (o : Order). standsOn 0 o ≡ true → standsOn 1 x ≡ true → o .price < x .price) book
   above-each true e =
       each (λ (o : Order). standsOn 0 o ≡ true → o .price < x .price)
-        (λ (o : Order). standsOn 0 o ≡ true → standsOn 1 x ≡ true → o .price < x .price) book
-        (λ o f t u. f t)
-        (above e)
+      (λ (o : Order). standsOn 0 o ≡ true → standsOn 1 x ≡ true → o .price < x .price) book
+      (λ o f t u. f t)
+      (above e)
   above-each false e =
       every (λ (o : Order). standsOn 0 o ≡ true → standsOn 1 x ≡ true → o .price < x .price) book
-        (λ o t u. absurd (let z : _≡_ {A = ℕ} 0 1 = cc in omega arith))
+      (λ o t u. absurd (let z : _≡_ {A = ℕ} 0 1 = cc in omega arith))
 
   pub uncrossed-rest : Uncrossed book → Uncrossed (rest x book)
   uncrossed-rest u =
       rw (rest-set x book)
       (set-each (λ (b : Order). standsOn 0 b ≡ true → Each (λ (s : Order). standsOn 1 s ≡ true → b .price < s .price) (set book i x)) book
-        i x
-        (λ t.
-          set-each (λ (s : Order). standsOn 1 s ≡ true → x .price < s .price) book i x (λ v. absurd (one-side t v)) (below t))
-        (both (λ (b : Order). standsOn 0 b ≡ true → Each (λ (s : Order). standsOn 1 s ≡ true → b .price < s .price) book)
-          (λ (b : Order). standsOn 0 b ≡ true → standsOn 1 x ≡ true → b .price < x .price)
-          (λ (b : Order). standsOn 0 b ≡ true → Each (λ (s : Order). standsOn 1 s ≡ true → b .price < s .price) (set book i x))
-          book
-          (λ b f g t. set-each (λ (s : Order). standsOn 1 s ≡ true → b .price < s .price) book i x (g t) (f t))
-          u
-          (above-each (standsOn 1 x) refl)))
+      i x
+      (λ t.
+      set-each (λ (s : Order). standsOn 1 s ≡ true → x .price < s .price) book i x (λ v. absurd (one-side t v)) (below t))
+      (both (λ (b : Order). standsOn 0 b ≡ true → Each (λ (s : Order). standsOn 1 s ≡ true → b .price < s .price) book)
+      (λ (b : Order). standsOn 0 b ≡ true → standsOn 1 x ≡ true → b .price < x .price)
+      (λ (b : Order). standsOn 0 b ≡ true → Each (λ (s : Order). standsOn 1 s ≡ true → b .price < s .price) (set book i x))
+      book
+      (λ b f g t. set-each (λ (s : Order). standsOn 1 s ≡ true → b .price < s .price) book i x (g t) (f t))
+      u
+      (above-each (standsOn 1 x) refl)))
     where
       i : ℕ
       i = lowestFree book
@@ -206,23 +205,23 @@ sell-unmet price os u =
 
 -- the own best price, where every buy is below every sell
 pub best-unmet :
-  (side : ℕ) (book : List Order) → side ≤ 1 → (best side book ≡ 0 → ⊥) → Uncrossed book → Unmet side (best side book) book
+    (side : ℕ) (book : List Order) → side ≤ 1 → (best side book ≡ 0 → ⊥) → Uncrossed book → Unmet side (best side book) book
 best-unmet side book h n u = go (eqb side 0) refl
   where
     buys : (best 0 book ≡ 0 → ⊥) → Unmet 0 (best 0 book) book
     buys n =
         buy-unmet (best 0 book) book
         (best-has 0 book (λ p. Each (λ s. standsOn 1 s ≡ true → p < s .price) book)
-          (on-each (λ b. Each (λ s. standsOn 1 s ≡ true → b .price < s .price) book) 0 book u)
-          n)
+        (on-each (λ b. Each (λ s. standsOn 1 s ≡ true → b .price < s .price) book) 0 book u)
+        n)
 
     sells : (best 1 book ≡ 0 → ⊥) → Unmet 1 (best 1 book) book
     sells n =
         sell-unmet (best 1 book) book
         (each (λ (b : Order). standsOn 0 b ≡ true → Each (λ s. standsOn 1 s ≡ true → b .price < s .price) book)
-          (λ (b : Order). standsOn 0 b ≡ true → b .price < best 1 book) book
-          (λ b f t. best-has 1 book (λ p. b .price < p) (on-each (λ s. b .price < s .price) 1 book (f t)) n)
-          u)
+        (λ (b : Order). standsOn 0 b ≡ true → b .price < best 1 book) book
+        (λ b f t. best-has 1 book (λ p. b .price < p) (on-each (λ s. b .price < s .price) 1 book (f t)) n)
+        u)
 
     go : (b : Bool) → eqb side 0 ≡ b → Unmet side (best side book) book
     go true e =
@@ -245,9 +244,9 @@ unmet-within-one side limit p q e = go (eqb side 0) e
 pub unmet-within : (side limit p : ℕ) (os : List Order) → Unmet side p os → Unmet side (within side limit p) os
 unmet-within side limit p os u =
     each (λ (o : Order). standsOn (other side) o ≡ true → meets side p (o .price) ≡ false)
-      (λ (o : Order). standsOn (other side) o ≡ true → meets side (within side limit p) (o .price) ≡ false) os
-      (λ o f t. unmet-within-one side limit p (o .price) (f t))
-      u
+    (λ (o : Order). standsOn (other side) o ≡ true → meets side (within side limit p) (o .price) ≡ false) os
+    (λ o f t. unmet-within-one side limit p (o .price) (f t))
+    u
 
 -- after trades nobody meets what nobody met
 pub unmet-settle : (ts : List Trade) (side p : ℕ) (book : List Order) → Unmet side p book → Unmet side p (settle ts book)

@@ -65,7 +65,7 @@ fn left_after(trades: &[[u64; 4]], n: usize, number: u64, left: u64) -> u64
     rest
 }
 
-fn free_place() -> Order
+pub fn free_place() -> Order
     ensures { λ r. ⌜ r ≡ free ⌝ }
 {
     Order {

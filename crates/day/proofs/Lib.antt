@@ -1,5 +1,6 @@
 pub mod AskedRules
 pub mod BookRules
+pub mod Cancels
 pub mod Openings
-pub mod ReadBack
+pub mod Readiness
 pub mod Tallies

@@ -1,3 +1,4 @@
 pub mod Checks
 pub mod Figures
 pub mod Promises
+pub mod Ready

@@ -3,6 +3,7 @@ use crate::figures::fresh_day;
 use book::settling::clear_rows;
 use limits::is_price;
 use model::OpenReply;
+use soundness::places::has_places;
 ghost use mathlib.Core.Path.{_≡_};
 ghost use mathlib.Core.Bool.{_&&_};
 ghost use Rattle.model.specs.Limits.{isPrice};
@@ -10,18 +11,6 @@ ghost use Rattle.model.specs.Sound.{isMark, hasPlaces};
 ghost use Rattle.model.specs.Calls.{openCall};
 ghost use Rattle.book.specs.Rows.{bookOf};
 ghost use Rattle.day.specs.Promises.{openLeft};
-
-fn has_places(rows: &[[u64; 5]]) -> bool
-    ensures { λ r. ⌜ r ≡ hasPlaces (bookOf (now (rows .entry))) ⌝ }
-{
-    if rows.len() < 1 {
-        return false;
-    }
-    if 4_096 < rows.len() {
-        return false;
-    }
-    true
-}
 
 // Previous close, mark and places are what a day can have.
 fn may_open(close: u64, mark: u64, rows: &[[u64; 5]]) -> bool

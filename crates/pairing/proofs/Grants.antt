@@ -91,11 +91,12 @@ module _ (n : ℕ) where
   head-granted q s ss h = elim (decLt q (s .left)) [
     | yes l ↦
         rw (head-stays q s ss l)
-        (omega
-        (arith,
-        granted-next (record { number = s .number; left = s .left - q }) ss,
-        granted-next s ss,
-        parts (eqb (s .number) n) q (s .left) h))
+        (omega (
+          arith,
+          granted-next (record { number = s .number; left = s .left - q }) ss,
+          granted-next s ss,
+          parts (eqb (s .number) n) q (s .left) h,
+        ))
     | no l ↦
         let e : q ≡ s .left = omega arith in
         rw (head-goes q s ss (omega arith), e) (sym (granted-next s ss))
