@@ -7,7 +7,7 @@ use lib.Dec.{eqb}
 use borrow.Author.Tests.{eqb-true, eqb-false}
 use Rattle.model.specs.declared.Order.{Order}
 use Rattle.model.specs.declared.Day.{Day}
-use Rattle.model.specs.Lists.{any, total}
+use Rattle.model.specs.Lists.{all, any, total}
 use Rattle.model.specs.Limits.{isPrice, inBand}
 use Rattle.model.specs.Book.{free, isLive, best}
 use Rattle.model.specs.Sound.{isMark, mayStand, soundFigures, isFree, isOrder, ownNumbers, isEmpty, crosses, between, sharesFit, pricesFit, turnoverFits}
@@ -102,30 +102,43 @@ pub says-empty : (book : List Order) → Says (isEmpty book) (Each (λ o. o .num
 unfolding isEmpty
 says-empty book = says-all (λ o. not (isLive o)) (λ o. o .number ≡ 0) says-idle book
 
--- no other order has an order's number: nothing is said of a free place
+-- another place has not an order's number: nothing is said where the first is free
+abbrev pub Beside : Order → Order → Type 0
+Beside o p = p .number ≡ o .number → o .number ≡ 0
+
 says-lone :
     (o : Order) (os : List Order)
-    → Says (not (isLive o && any (λ p. eqb (p .number) (o .number)) os)) (Each (λ p. p .number ≡ o .number → o .number ≡ 0) os)
+    → Says (not (isLive o && any (λ p. eqb (p .number) (o .number)) os)) (Each (Beside o) os)
 says-lone o os = go (isLive o) refl
   where
     go :
         (t : Bool)
         → isLive o ≡ t
-        → Says (not (t && any (λ p. eqb (p .number) (o .number)) os)) (Each (λ p. p .number ≡ o .number → o .number ≡ 0) os)
+        → Says (not (t && any (λ p. eqb (p .number) (o .number)) os)) (Each (Beside o) os)
     go false e = (
-      λ _. every (λ p. p .number ≡ o .number → o .number ≡ 0) os (λ p _. says-idle o .0 (ap not e)),
+      λ _. every (Beside o) os (λ p _. says-idle o .0 (ap not e)),
       λ _. refl,
     )
     go true e =
         says-too
-        (each (λ p. p .number ≡ o .number → ⊥) (λ p. p .number ≡ o .number → o .number ≡ 0) os (λ p n q. absurd (n q)))
-        (each (λ p. p .number ≡ o .number → o .number ≡ 0) (λ p. p .number ≡ o .number → ⊥) os (λ p z q. says-live o .0 e (z q)))
+        (each (λ p. p .number ≡ o .number → ⊥) (Beside o) os (λ p n q. absurd (n q)))
+        (each (Beside o) (λ p. p .number ≡ o .number → ⊥) os (λ p z q. says-live o .0 e (z q)))
         (says-none (λ p. eqb (p .number) (o .number)) (λ p. p .number ≡ o .number) (λ p. says-eq (p .number) (o .number)) os)
 
 pub says-apart : (book : List Order) → Says (ownNumbers book) (Apart book)
 unfolding ownNumbers
 says-apart [] = (λ e. tt, λ h. refl)
 says-apart (o ∷ os) = says-and (says-lone o os) (says-apart os)
+
+-- each place free or an order, and each order with its own number
+abbrev pub sits : Day → Order → Bool
+sits d o = isFree o || isOrder d o
+
+abbrev pub whole : Day → List Order → Bool
+whole d book = all (sits d) book && ownNumbers book
+
+pub says-whole : (d : Day) (book : List Order) → Says (whole d book) (Each (Place d) book × Apart book)
+says-whole d book = says-and (says-all (sits d) (Place d) (says-place d) book) (says-apart book)
 
 pub says-crosses : (book : List Order) → Says (crosses book) ((best 0 book ≡ 0 → ⊥) × (best 1 book ≡ 0 → ⊥) × (best 1 book ≤ best 0 book))
 unfolding crosses

@@ -2,7 +2,7 @@
 -- Assumes nothing.
 use Prim.Native.Nat.{ℕ, _+_, _/_, _≤_, _<_}
 use mathlib.Core.Path.{_≡_, refl, sym, ap, _∙_}
-use mathlib.Core.Bool.{Bool, true, false, not, _&&_, _||_}
+use mathlib.Core.Bool.{Bool, true, false, not, _&&_}
 use mathlib.Core.List.{List, [], _∷_}
 use native.Mathlib.Omega.{arith}
 use lib.Dec.{eqb}
@@ -12,7 +12,7 @@ use Rattle.model.specs.declared.Order.{Order}
 use Rattle.model.specs.declared.Day.{Day}
 use Rattle.model.specs.Lists.{all}
 use Rattle.model.specs.Book.{isLive}
-use Rattle.model.specs.Sound.{isFree, isOrder, ownNumbers}
+use Rattle.model.specs.Sound.{ownNumbers}
 use Rattle.model.proofs.Bools.{not-both}
 use Rattle.bits.specs.Maps.{hasBit, marked}
 use Rattle.bits.proofs.MapLaws.{empty-map, marked-itself, marked-other, length-marked}
@@ -22,20 +22,22 @@ use Rattle.book.proofs.Lists.{each, both, every}
 use Rattle.soundness.specs.Numbers.{noNumbers}
 use Rattle.soundness.specs.SoundDay.{Place}
 use Rattle.soundness.proofs.Says.{Says, fails, says-itself, says-and, says-not, says-all, says-same}
-use Rattle.soundness.proofs.Clauses.{says-place, says-live, says-apart}
+use Rattle.soundness.proofs.Clauses.{Beside, sits, whole, says-place, says-live, says-whole}
 use Rattle.soundness.proofs.SoundDays.{fair-place}
 use Rattle.soundness.proofs.Onward.{onward}
 
-abbrev pub sits : Day → Order → Bool
-sits d o = isFree o || isOrder d o
-
 -- the test that is still to be made: of these places, with those numbers used before them
 unfoldable pub still : Day → List ℕ → List Order → Bool
-still d used os = all (sits d) os && ownNumbers os && all (λ o. not (isLive o && hasBit used (o .number))) os
+still d used os = whole d os && all (λ o. not (isLive o && hasBit used (o .number))) os
 
 -- an order whose number is not yet used
 abbrev New : List ℕ → Order → Type 0
 New used o = (o .number ≡ 0 → ⊥) × (hasBit used (o .number) ≡ true) → ⊥
+
+says-used :
+    (used : List ℕ) (o : Order)
+    → Says (isLive o && hasBit used (o .number)) ((o .number ≡ 0 → ⊥) × (hasBit used (o .number) ≡ true))
+says-used used o = says-and (says-live o) (says-itself (hasBit used (o .number)))
 
 says-still :
     (d : Day) (used : List ℕ) (os : List Order)
@@ -43,13 +45,13 @@ says-still :
 unfolding still
 says-still d used os =
     says-and
-    (says-and (says-all (sits d) (Place d) (says-place d) os) (says-apart os))
-    (says-all (λ o. not (isLive o && hasBit used (o .number))) (New used) (λ o. says-not (says-and (says-live o) (says-itself (hasBit used (o .number))))) os)
+    (says-whole d os)
+    (says-all (λ o. not (isLive o && hasBit used (o .number))) (New used) (λ o. says-not (says-used used o)) os)
 
 -- ---- one number more
 
 module _ (used : List ℕ) (o : Order) (p : Order) where
-  new-apart : o .number / 64 < length used → New (marked used (o .number)) p → p .number ≡ o .number → o .number ≡ 0
+  new-apart : o .number / 64 < length used → New (marked used (o .number)) p → Beside o p
   new-apart l n e = go (eqb (o .number) 0) refl
     where
       go : (t : Bool) → eqb (o .number) 0 ≡ t → o .number ≡ 0
@@ -58,11 +60,11 @@ module _ (used : List ℕ) (o : Order) (p : Order) where
           let live : o .number ≡ 0 → ⊥ = eqb-false (o .number) 0 z in
           absurd (n (λ q. live (sym e ∙ q), ap (hasBit (marked used (o .number))) e ∙ marked-itself used (o .number) l))
 
-  new-before : (p .number ≡ o .number → o .number ≡ 0) → New (marked used (o .number)) p → New used p
+  new-before : Beside o p → New (marked used (o .number)) p → New used p
   new-before a n h =
       n (h .0, marked-other used (o .number) (p .number) (λ e. h .0 (sym e ∙ a (sym e))) ∙ h .1)
 
-  new-after : (p .number ≡ o .number → o .number ≡ 0) → New used p → New (marked used (o .number)) p
+  new-after : Beside o p → New used p → New (marked used (o .number)) p
   new-after a n h =
       n (h .0, sym (marked-other used (o .number) (p .number) (λ e. h .0 (sym e ∙ a (sym e)))) ∙ h .1)
 
@@ -75,7 +77,7 @@ module _ (d : Day) (used : List ℕ) (o : Order) (os : List Order) where
   used-twice u =
       fails
       (says-still d used (o ∷ os))
-      (λ h. h .1 .0 (says-and (says-live o) (says-itself (hasBit used (o .number))) .0 u))
+      (λ h. h .1 .0 (says-used used o .0 u))
 
   -- a sound place with a number of its own: the test goes on behind it, with that number used
   pub used-once :
@@ -85,28 +87,25 @@ module _ (d : Day) (used : List ℕ) (o : Order) (os : List Order) where
       → still d (marked used (o .number)) os ≡ still d used (o ∷ os)
   used-once e u l =
       let new : New used o = λ (w : (o .number ≡ 0 → ⊥) × (hasBit used (o .number) ≡ true)).
-      not-both (says-and (says-live o) (says-itself (hasBit used (o .number))) .1 w) u
+      not-both (says-used used o .1 w) u
       in
       says-same
       (λ h.
-      let apart = each (New (marked used (o .number))) (λ p. p .number ≡ o .number → o .number ≡ 0) os (λ p. new-apart used o p l) (h .1) in (
+      let apart = each (New (marked used (o .number))) (Beside o) os (λ p. new-apart used o p l) (h .1) in (
         ((says-place d o .0 e, h .0 .0), (apart, h .0 .1)),
         (
           new,
-          both (λ p. p .number ≡ o .number → o .number ≡ 0) (New (marked used (o .number))) (New used) os (new-before used o) apart (h .1),
+          both (Beside o) (New (marked used (o .number))) (New used) os (new-before used o) apart (h .1),
         ),
       ))
       (λ h. (
         (h .0 .0 .1, h .0 .1 .1),
-        both (λ p. p .number ≡ o .number → o .number ≡ 0) (New used) (New (marked used (o .number))) os (new-after used o) (h .0 .1 .0) (h .1 .1),
+        both (Beside o) (New used) (New (marked used (o .number))) os (new-after used o) (h .0 .1 .0) (h .1 .1),
       ))
       (says-still d (marked used (o .number)) os)
       (says-still d used (o ∷ os))
 
 -- ---- the loop: what is still to be tested is the whole test
-
-abbrev pub whole : Day → List Order → Bool
-whole d book = all (sits d) book && ownNumbers book
 
 pub record Tested (d : Day) (rows : List (List ℕ)) (used : List ℕ) (i : ℕ) : Type 0 where
   pub words : length used ≡ 15_625
@@ -127,7 +126,7 @@ tested-none d rows used e =
           (λ h. h .0)
           (λ h. (h, every (New noNumbers) (bookOf rows) none-used))
           (says-still d noNumbers (bookOf rows))
-          (says-and (says-all (sits d) (Place d) (says-place d) (bookOf rows)) (says-apart (bookOf rows)));
+          (says-whole d (bookOf rows));
     }
 
 module _ (d : Day) (rows : List (List ℕ)) (used : List ℕ) (i : ℕ) (t : Tested d rows used i) where

@@ -44,13 +44,16 @@ module _ {P Q : Type 0} where
   says-same {a = true} f g s t = sym (t .1 (f (s .0 refl)))
   says-same {a = false} f g s t = sym (not-true-false (λ e. not-both (s .1 (g (t .0 e))) refl))
 
--- a test fails where what it says cannot be, and passes where it is so
-module _ {P : Type 0} {b : Bool} (s : Says b P) where
-  pub fails : (P → ⊥) → false ≡ b
-  fails n = sym (not-true-false (λ e. n (s .0 e)))
+-- a first test that passes, or fails, beside a second
+pub or-yes : {a : Bool} (b : Bool) → a ≡ true → true ≡ (a || b)
+or-yes b e = rw e
 
-  pub passes : P → true ≡ b
-  passes p = sym (s .1 p)
+pub or-no : {a r : Bool} (b : Bool) → a ≡ false → r ≡ b → r ≡ (a || b)
+or-no b e f = rw (e, f)
+
+-- a test fails where what it says cannot be
+pub fails : {P : Type 0} {b : Bool} → Says b P → (P → ⊥) → false ≡ b
+fails s n = sym (not-true-false (λ e. n (s .0 e)))
 
 pub says-itself : (b : Bool) → Says b (b ≡ true)
 says-itself b = (λ e. e, λ e. e)

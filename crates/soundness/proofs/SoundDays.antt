@@ -41,13 +41,7 @@ module _ (book : List Order) (t : ℕ) where
     where
       go : (b : Bool) → ltb t 33_300 ≡ b → Empty book
       go true e = early (ltb-true t 33_300 e)
-      go false e =
-          let l : 33_300 ≤ t = ltb-false t 33_300 e in
-          late (last (ltb t 54_000) refl l)
-        where
-          last : (b : Bool) → ltb t 54_000 ≡ b → 33_300 ≤ t → 54_000 ≤ t
-          last true f l = let h : t < 54_000 = ltb-true t 54_000 f in absurd (n (l, omega arith))
-          last false f l = ltb-false t 54_000 f
+      go false e = late (lt-of-not-le (λ h. n (ltb-false t 33_300 e, h)))
 
 -- ---- the test and the record
 

@@ -11,12 +11,9 @@ use Rattle.model.specs.declared.Day.{Day}
 use Rattle.model.specs.Lists.{total}
 use Rattle.model.specs.Sound.{hasPlaces, soundFigures, isEmpty, crosses, between, sharesFit, pricesFit, turnoverFits, sound}
 use Rattle.book.specs.Standing.{Standing}
-use Rattle.soundness.specs.SoundDay.{Place}
-use Rattle.soundness.proofs.Says.{says-and, says-all}
-use Rattle.soundness.proofs.Clauses.{says-place, says-apart, says-figures, says-fit}
+use Rattle.soundness.proofs.Clauses.{whole, says-whole, says-figures, says-fit}
 use Rattle.soundness.proofs.SoundDays.{standing, few-places}
 use Rattle.soundness.proofs.Totals.{empty-is, shares-within}
-use Rattle.soundness.proofs.Numbers.{sits, whole}
 
 -- the tests on the day's figures and on each place have passed
 pub record Seated (d : Day) (book : List Order) : Type 0 where
@@ -30,7 +27,7 @@ module _ (d : Day) (book : List Order) (s : Seated d book) where
 
   pub seated-stands : Standing book
   seated-stands =
-      let h = says-and (says-all (sits d) (Place d) (says-place d) book) (says-apart book) .0 (s .places) in
+      let h = says-whole d book .0 (s .places) in
       standing d book (few-places book (s .counted)) seated-issued (h .0) (h .1)
 
   -- what is left of the test

@@ -22,13 +22,13 @@ pub fn sound_figures(day: Day) -> bool
     day.issued <= 999_999
 }
 
-pub fn is_between(first: u64, last: u64, time: u64) -> bool
-    ensures { λ r. ⌜ r ≡ between first last time ⌝ }
+pub fn is_between(least: u64, most: u64, n: u64) -> bool
+    ensures { λ r. ⌜ r ≡ between least most n ⌝ }
 {
-    if time < first {
+    if n < least {
         return false;
     }
-    time <= last
+    n <= most
 }
 
 // A book in which shares rest stands from 33,300 up to 54,000 only.

@@ -18,6 +18,7 @@ use crate::places::shares_left;
 use crate::places::sound_places;
 use model::Day;
 
+// Whether the day is sound, and its book has 1 to 4,096 places.
 pub fn is_sound(day: Day, rows: &[[u64; 5]]) -> bool
     ensures { λ r. ⌜ r ≡ (hasPlaces (bookOf (now (rows .entry))) && sound day (bookOf (now (rows .entry)))) ⌝ }
 {

@@ -73,22 +73,13 @@ fn is_order(day: Day, o: Order) -> bool
     if o.account == 0 {
         return false;
     }
-    if o.left < 1 {
-        return false;
-    }
-    if o.left > 1_000_000 {
+    if !is_between(1, 1_000_000, o.left) {
         return false;
     }
     if !may_stand(day, o.price) {
         return false;
     }
-    if o.number < 1 {
-        return false;
-    }
-    if o.number > day.issued {
-        return false;
-    }
-    true
+    is_between(1, day.issued, o.number)
 }
 
 fn place_is_sound(day: Day, o: Order) -> bool

@@ -1,13 +1,13 @@
 -- One clause after the other, each by the function that tests it. Behind the places the book stands, and the sum of its
 -- shares is known.
 use mathlib.Core.Path.{_≡_, sym, _∙_}
-use mathlib.Core.Bool.{_||_}
+use mathlib.Core.Bool.{Bool, true, not, _&&_, _||_}
 use mathlib.Core.List.{List}
 use borrow.Author.Needs.{needs}
 use borrow.Author.Tests.{not-true, not-false}
 use Rattle.model.specs.declared.Order.{Order}
 use Rattle.model.specs.declared.Day.{Day}
-use Rattle.model.specs.Sound.{isEmpty, between, sharesFit, sound}
+use Rattle.model.specs.Sound.{hasPlaces, soundFigures, isEmpty, crosses, between, sharesFit, pricesFit, turnoverFits, sound}
 use Rattle.book.specs.Rows.{bookOf}
 use Rattle.soundness.proofs.Stages.{Seated, seated-issued, seated-stands, still-to-pass, few-traded, resting-small, hours-by, fit-by}
 use Rattle.soundness.proofs.is_sound.Statement.{statement}
@@ -19,13 +19,22 @@ the-day c = c .before .before .before .before .before .before .args .day
 abbrev the-book : tie.Else3 → List Order
 the-book c = bookOf (c .before .before .before .before .before .before .args .rows .now)
 
+abbrev the-test : tie.Else3 → Bool
+the-test c = hasPlaces (the-book c) && sound (the-day c) (the-book c)
+
+-- past a test, what it tested has passed, and the rest of the definition is left to pass
+
+places-pass : (c : tie.Else1) → hasPlaces (bookOf (c .before .before .args .rows .now)) ≡ true
+places-pass c = sym (c .before .has-places .ensures) ∙ not-false _ (c .if1 .left)
+
+figures-pass : (c : tie.Else2) → soundFigures (c .before .before .before .before .args .day) ≡ true
+figures-pass c = sym (c .before .sound-figures .ensures) ∙ not-false _ (c .if2 .left)
+
 seated : (c : tie.Else3) → Seated (the-day c) (the-book c)
 seated c =
-    let c2 = c .before .before in
-    let c1 = c2 .before .before in
     record {
-      counted = sym (c1 .before .has-places .ensures) ∙ not-false _ (c1 .if1 .left);
-      figures = sym (c2 .before .sound-figures .ensures) ∙ not-false _ (c2 .if2 .left);
+      counted = places-pass (c .before .before .before .before);
+      figures = figures-pass (c .before .before);
       places = sym (c .before .sound-places .ensures) ∙ not-false _ (c .if3 .left);
     }
 
@@ -35,13 +44,34 @@ hours :
     ≡ c .fits-hours .result
 hours c = hours-by _ _ (seated (c .before .before)) _ (c .before .shares-left .ensures) _ (c .fits-hours .ensures)
 
+past-hours :
+    (c : tie.Else4)
+    → let p = c .before .before .before in
+    the-test p
+    ≡ (not (between 33_900 53_819 (the-day p .time) && crosses (the-book p))
+    && sharesFit (the-day p) (the-book p)
+    && pricesFit (the-day p)
+    && turnoverFits (the-day p))
+past-hours c = rw (still-to-pass _ _ (seated (c .before .before .before)), hours (c .before) ∙ not-false _ (c .if4 .left))
+
+past-crossing :
+    (c : tie.Else5)
+    → let p = c .before .before .before .before .before in
+    the-test p ≡ (sharesFit (the-day p) (the-book p) && pricesFit (the-day p) && turnoverFits (the-day p))
+past-crossing c = rw (past-hours (c .before .before), sym (c .before .crosses-in-hours .ensures) ∙ c .if5 .left)
+
 fit :
     (c : tie.After-shares-fit)
-    → sharesFit (the-day (c .before .before .before .before .before .before)) (the-book (c .before .before .before .before .before .before))
-    ≡ c .shares-fit .result
+    → let p = c .before .before .before .before .before .before in sharesFit (the-day p) (the-book p) ≡ c .shares-fit .result
 fit c =
     let s = c .before .before .before .before .before in
     fit-by _ _ (seated (s .before)) _ (s .shares-left .ensures) _ (c .shares-fit .ensures)
+
+past-shares :
+    (c : tie.Else6)
+    → let p = c .before .before .before .before .before .before .before in
+    the-test p ≡ (pricesFit (the-day p) && turnoverFits (the-day p))
+past-shares c = rw (past-crossing (c .before .before), fit (c .before) ∙ not-false _ (c .if6 .left))
 
 has-places-requires : tie.Need-has-places-requires
 has-places-requires c κs = search needs
@@ -54,21 +84,16 @@ sound-figures-requires c κs = search needs
 
 returns-2 : tie.Need-returns-2
 unfolding sound
-returns-2 c =
-    let c1 = c .before .before in
-    rw
-    (sym (c1 .before .has-places .ensures) ∙ not-false _ (c1 .if1 .left), sym (c .before .sound-figures .ensures) ∙ not-true _ (c .if2 .taken))
+returns-2 c = rw (places-pass (c .before .before), sym (c .before .sound-figures .ensures) ∙ not-true _ (c .if2 .taken))
 
 sound-places-requires : tie.Need-sound-places-requires
-sound-places-requires c κs = sym (c .before .sound-figures .ensures) ∙ not-false _ (c .if2 .left)
+sound-places-requires c κs = figures-pass c
 
 returns-3 : tie.Need-returns-3
 unfolding sound
 returns-3 c =
     let c2 = c .before .before in
-    let c1 = c2 .before .before in
-    rw
-    (sym (c1 .before .has-places .ensures) ∙ not-false _ (c1 .if1 .left), sym (c2 .before .sound-figures .ensures) ∙ not-false _ (c2 .if2 .left), sym (c .before .sound-places .ensures) ∙ not-true _ (c .if3 .taken))
+    rw (places-pass (c2 .before .before), figures-pass c2, sym (c .before .sound-places .ensures) ∙ not-true _ (c .if3 .taken))
 
 shares-left-requires : tie.Need-shares-left-requires
 shares-left-requires c κs = seated-stands _ _ (seated c)
@@ -84,10 +109,7 @@ crosses-in-hours-requires : tie.Need-crosses-in-hours-requires
 crosses-in-hours-requires c κs = seated-stands _ _ (seated (c .before .before .before)) .fair
 
 returns-5 : tie.Need-returns-5
-returns-5 c =
-    let c4 = c .before .before in
-    rw
-    (still-to-pass _ _ (seated (c4 .before .before .before)), hours (c4 .before) ∙ not-false _ (c4 .if4 .left), sym (c .before .crosses-in-hours .ensures) ∙ c .if5 .taken)
+returns-5 c = rw (past-hours (c .before .before), sym (c .before .crosses-in-hours .ensures) ∙ c .if5 .taken)
 
 shares-fit-requires : tie.Need-shares-fit-requires
 shares-fit-requires c κs =
@@ -95,22 +117,13 @@ shares-fit-requires c κs =
     (seated-issued _ _ (seated (s .before)), resting-small _ _ (seated (s .before)) _ (s .shares-left .ensures))
 
 returns-6 : tie.Need-returns-6
-returns-6 c =
-    let c5 = c .before .before in
-    let c4 = c5 .before .before in
-    rw
-    (still-to-pass _ _ (seated (c4 .before .before .before)), hours (c4 .before) ∙ not-false _ (c4 .if4 .left), sym (c5 .before .crosses-in-hours .ensures) ∙ c5 .if5 .left, fit (c .before) ∙ not-true _ (c .if6 .taken))
+returns-6 c = rw (past-crossing (c .before .before), fit (c .before) ∙ not-true _ (c .if6 .taken))
 
 prices-fit-requires : tie.Need-prices-fit-requires
 prices-fit-requires c κs = search needs
 
 returns-7 : tie.Need-returns-7
-returns-7 c =
-    let c6 = c .before .before in
-    let c5 = c6 .before .before in
-    let c4 = c5 .before .before in
-    rw
-    (still-to-pass _ _ (seated (c4 .before .before .before)), hours (c4 .before) ∙ not-false _ (c4 .if4 .left), sym (c5 .before .crosses-in-hours .ensures) ∙ c5 .if5 .left, fit (c6 .before) ∙ not-false _ (c6 .if6 .left), sym (c .before .prices-fit .ensures) ∙ not-true _ (c .if7 .taken))
+returns-7 c = rw (past-shares (c .before .before), sym (c .before .prices-fit .ensures) ∙ not-true _ (c .if7 .taken))
 
 turnover-fits-requires : tie.Need-turnover-fits-requires
 turnover-fits-requires c κs =
@@ -118,14 +131,7 @@ turnover-fits-requires c κs =
     few-traded _ _ (seated (c6 .before .before .before .before .before .before .before)) (fit (c6 .before) ∙ not-false _ (c6 .if6 .left))
 
 returns-8 : tie.Need-returns-8
-returns-8 c =
-    let c7 = c .before in
-    let c6 = c7 .before .before in
-    let c5 = c6 .before .before in
-    let c4 = c5 .before .before in
-    rw
-    (still-to-pass _ _ (seated (c4 .before .before .before)), hours (c4 .before) ∙ not-false _ (c4 .if4 .left), sym (c5 .before .crosses-in-hours .ensures) ∙ c5 .if5 .left, fit (c6 .before) ∙ not-false _ (c6 .if6 .left), sym (c7 .before .prices-fit .ensures) ∙ not-false _ (c7 .if7 .left))
-    (c .turnover-fits .ensures)
+returns-8 c = rw (past-shares (c .before .before .before), sym (c .before .before .prices-fit .ensures) ∙ not-false _ (c .before .if7 .left)) (c .turnover-fits .ensures)
 
 pub is-sound-spec : {M : Type 1} → statement M
 is-sound-spec =

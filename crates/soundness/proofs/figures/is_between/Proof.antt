@@ -1,4 +1,4 @@
--- A span of seconds, tested from below. Assumes nothing.
+-- A span, tested from below. Assumes nothing.
 use mathlib.Core.Path.{refl}
 use Rattle.model.specs.Sound.{between}
 use Rattle.limits.proofs.Spans.{too-low, from-low}

@@ -1,6 +1,7 @@
 -- Free, or an order. Assumes nothing.
 use mathlib.Core.Path.{sym, _∙_}
 use borrow.Author.Needs.{needs}
+use Rattle.soundness.proofs.Says.{or-yes, or-no}
 use Rattle.soundness.proofs.places.place_is_sound.Statement.{statement}
 use Rattle.soundness.proofs.places.place_is_sound.Tie as tie
 
@@ -8,13 +9,13 @@ is-free-requires : tie.Need-is-free-requires
 is-free-requires c κs = search needs
 
 returns : tie.Need-returns
-returns c = rw (sym (c .before .is-free .ensures) ∙ c .if1 .taken)
+returns c = or-yes _ (sym (c .before .is-free .ensures) ∙ c .if1 .taken)
 
 is-order-requires : tie.Need-is-order-requires
 is-order-requires c κs = search needs
 
 returns-2 : tie.Need-returns-2
-returns-2 c = rw (sym (c .before .before .is-free .ensures) ∙ c .before .if1 .left, c .is-order .ensures)
+returns-2 c = or-no _ (sym (c .before .before .is-free .ensures) ∙ c .before .if1 .left) (c .is-order .ensures)
 
 pub place-is-sound-spec : {M : Type 1} → statement M
 place-is-sound-spec = tie.close (tie.spec is-free-requires returns is-order-requires returns-2)
