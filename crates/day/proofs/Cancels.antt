@@ -89,10 +89,10 @@ module _ (d : Day) (account number : ℕ) (rows : List (List ℕ)) where
         unfolding cancelCall
         cancel-accepted {own} {after} a f g =
             let l : own .left ≡ total (λ o. o .left) (keep (isOwn account number) book) =
-                ap (λ (o : Order). o .left) (f ∙ ap (λ (k : ℕ). orderOf (getD rows k [])) e ∙ book-at rows _)
-                ∙ sym (cancel-left account number book a) in
+            ap (λ (o : Order). o .left) (f ∙ ap (λ (k : ℕ). orderOf (getD rows k [])) e ∙ book-at rows _)
+            ∙ sym (cancel-left account number book a) in
             let b : bookOf after ≡ map (λ o. if isOwn account number o then free else o) book =
-                ap bookOf (g ∙ ap (λ (k : ℕ). set rows k (rowOf free)) e)
-                ∙ book-set rows _ free
-                ∙ sym (cancel-set account number book a) in
+            ap bookOf (g ∙ ap (λ (k : ℕ). set rows k (rowOf free)) e)
+            ∙ book-set rows _ free
+            ∙ sym (cancel-set account number book a) in
             rw (eq-eqb rules 0 (sym r ∙ z), l, b)

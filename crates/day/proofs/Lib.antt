@@ -1,4 +1,5 @@
 pub mod AskedRules
+pub mod AuctionLaws
 pub mod BookRules
 pub mod Cancels
 pub mod Openings

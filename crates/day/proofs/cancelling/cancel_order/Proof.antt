@@ -16,7 +16,7 @@ same-length : tie.Need-same-length
 same-length c = search needs
 
 returns : tie.Need-returns
-returns c = 
+returns c =
     let a = c .before .before .before .args in
     cancel-refused (a .d) (a .account) (a .number) (a .rows .now) (c .before .cancel-refusal .ensures) (c .if1 .taken)
 
@@ -24,7 +24,7 @@ place-of-requires : tie.Need-place-of-requires
 place-of-requires c κs = search needs
 
 order-at-requires : tie.Need-order-at-requires
-order-at-requires c κs = 
+order-at-requires c κs =
     let a = c .before .before .before .before .before .before .args in
     let r = c .before .before .before .before .cancel-refusal .ensures in
     cancel-place (a .d) (a .account) (a .number) (a .rows .now) r (c .before .before .before .if1 .left)
@@ -34,7 +34,7 @@ free-place-requires : tie.Need-free-place-requires
 free-place-requires c κs = search needs
 
 put-order-requires : tie.Need-put-order-requires
-put-order-requires c κs = 
+put-order-requires c κs =
     let a = c .before .before .before .before .before .before .before .before .before .args in
     let r = c .before .before .before .before .before .before .before .cancel-refusal .ensures in
     cancel-place (a .d) (a .account) (a .number) (a .rows .now) r (c .before .before .before .before .before .before .if1 .left)
@@ -44,7 +44,7 @@ same-length-2 : tie.Need-same-length-2
 same-length-2 c = search needs
 
 returns-2 : tie.Need-returns-2
-returns-2 c = 
+returns-2 c =
     let a = c .before .before .before .before .before .before .before .before .before .before .before .args in
     let r = c .before .before .before .before .before .before .before .before .before .cancel-refusal .ensures in
     let z = c .before .before .before .before .before .before .before .before .if1 .left in

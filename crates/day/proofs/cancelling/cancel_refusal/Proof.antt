@@ -15,7 +15,7 @@ is-sound-requires : tie.Need-is-sound-requires
 is-sound-requires c κs = search needs
 
 returns : tie.Need-returns
-returns c = 
+returns c =
     let a = c .before .before .args in
     cancel-unsound (a .d) (a .account) (a .number) (a .rows .now)
     (is-unsound _ _ (c .before .is-sound .ensures) (not-true _ (c .if1 .taken)))
@@ -28,7 +28,7 @@ takes-cancels-requires : tie.Need-takes-cancels-requires
 takes-cancels-requires c κs = search needs
 
 returns-2 : tie.Need-returns-2
-returns-2 c = 
+returns-2 c =
     let a = c .before .before .before .before .args in
     cancel-shut (a .d) (a .account) (a .number) (a .rows .now) (sound (c .before .before))
     (sym (c .before .takes-cancels .ensures) ∙ not-true _ (c .if2 .taken))
@@ -40,14 +40,14 @@ place-of-requires : tie.Need-place-of-requires
 place-of-requires c κs = search needs
 
 returns-3 : tie.Need-returns-3
-returns-3 c = 
+returns-3 c =
     let a = c .before .before .before .before .before .before .args in
     cancel-unknown (a .d) (a .account) (a .number) (a .rows .now) (sound (c .before .before .before .before)) (taken (c .before .before))
     (c .before .place-of .ensures)
     (c .if3 .taken)
 
 returns-4 : tie.Need-returns-4
-returns-4 c = 
+returns-4 c =
     let a = c .before .before .before .before .before .before .args in
     cancel-none (a .d) (a .account) (a .number) (a .rows .now) (sound (c .before .before .before .before)) (taken (c .before .before))
     (c .before .place-of .ensures)
