@@ -43,23 +43,22 @@ Only book o = (o .number ≡ 0 → ⊥) → (g : Order → ℕ) → ofNumber (o 
 
 pub each-only : (book : List Order) → Apart book → Each (Only book) book
 each-only [] a = tt
-each-only (o ∷ os) a =
-    (
-      λ n g.
-        let none : ofNumber (o .number) g os ≡ 0 =
-            of-none (o .number) g os
-            (each (λ p. p .number ≡ o .number → o .number ≡ 0) (λ p. p .number ≡ o .number → ⊥) os (λ p f e. n (f e)) (a .0))
-        in
-        let one : cond (eqb (o .number) (o .number)) (g o) 0 ≡ g o = rw (eq-eqb (o .number) (o .number) refl) in
-        omega (arith, of-cons (o .number) g o os),
-      both (λ p. p .number ≡ o .number → o .number ≡ 0) (Only os) (Only (o ∷ os)) os
-        (λ p f h n g.
-          let other : o .number ≡ p .number → ⊥ = λ e. n (sym e ∙ f (sym e)) in
-          let zero : cond (eqb (o .number) (p .number)) (g o) 0 ≡ 0 = rw (ne-eqb (o .number) (p .number) other) in
-          omega (arith, of-cons (p .number) g o os, h n g))
-        (a .0)
-        (each-only os (a .1)),
-    )
+each-only (o ∷ os) a = (
+  λ n g.
+      let none : ofNumber (o .number) g os ≡ 0 =
+      of-none (o .number) g os
+      (each (λ p. p .number ≡ o .number → o .number ≡ 0) (λ p. p .number ≡ o .number → ⊥) os (λ p f e. n (f e)) (a .0))
+      in
+      let one : cond (eqb (o .number) (o .number)) (g o) 0 ≡ g o = rw (eq-eqb (o .number) (o .number) refl) in
+      omega (arith, of-cons (o .number) g o os),
+  both (λ p. p .number ≡ o .number → o .number ≡ 0) (Only os) (Only (o ∷ os)) os
+      (λ p f h n g.
+      let other : o .number ≡ p .number → ⊥ = λ e. n (sym e ∙ f (sym e)) in
+      let zero : cond (eqb (o .number) (p .number)) (g o) 0 ≡ 0 = rw (ne-eqb (o .number) (p .number) other) in
+      omega (arith, of-cons (p .number) g o os, h n g))
+      (a .0)
+      (each-only os (a .1)),
+)
 
 -- ---- what trades fill, over the book
 

@@ -63,15 +63,15 @@ module _ (a : Asked) (book : List Order) where
 -- ---- the trades
 
 module _ (d : Day) (a : Asked) (book : List Order) (phase : ℕ) (now : phase ≡ phaseAt (d .time)) where
-  other-phase : (phase ≡ 4 → ⊥) → entryTrades d a book ≡ []
+  pub other-phase : (phase ≡ 4 → ⊥) → entryTrades d a book ≡ []
   unfolding entryTrades continuous
   other-phase n = rw (ne-eqb (phaseAt (d .time)) 4 (λ e. n (now ∙ e)))
 
-  no-price : entryPrice a book ≡ 0 → entryTrades d a book ≡ []
+  pub no-price : entryPrice a book ≡ 0 → entryTrades d a book ≡ []
   unfolding entryTrades
   no-price e = rw (eq-eqb (entryPrice a book) 0 e, and-false)
 
-  as-sweep :
+  pub as-sweep :
       phase ≡ 4
       → (entryPrice a book ≡ 0 → ⊥)
       → entryTrades d a book

@@ -36,8 +36,8 @@ module _ (t : Taker) where
       mine = ne-eqb (t .number) n (λ e. h (sym e))
 
       go :
-        (b : Bool)
-        → eqb (cond b (t .number) (o .number)) n || eqb (cond b (o .number) (t .number)) n ≡ eqb (o .number) n
+          (b : Bool)
+          → eqb (cond b (t .number) (o .number)) n || eqb (cond b (o .number) (t .number)) n ≡ eqb (o .number) n
       go true = rw mine
       go false = rw mine (or-false (eqb (o .number) n))
 
@@ -55,15 +55,16 @@ module _ (t : Taker) where
       rw (sweep-cons t q o os) (go (wants t q (o .price)) (fills-held (q - o .left) n os h))
     where
       go :
-        (w : Bool)
-        → filledOf n (sweep t (q - o .left) os) ≤ held n os
-        → filledOf n (cond w (tradeWith t q o ∷ sweep t (q - o .left) os) []) ≤ held n (o ∷ os)
+          (w : Bool)
+          → filledOf n (sweep t (q - o .left) os) ≤ held n os
+          → filledOf n (cond w (tradeWith t q o ∷ sweep t (q - o .left) os) []) ≤ held n (o ∷ os)
       go true i =
-          omega
-          (arith,
-          filled-cons n (tradeWith t q o) (sweep t (q - o .left) os),
-          part-held q n o h,
-          of-cons n (λ (x : Order). x .left) o os)
+          omega (
+            arith,
+            filled-cons n (tradeWith t q o) (sweep t (q - o .left) os),
+            part-held q n o h,
+            of-cons n (λ (x : Order). x .left) o os,
+          )
       go false i = omega (arith, filled-none n)
 
 -- ---- in a book that stands, for a taker whose number no order of it has
@@ -86,18 +87,19 @@ module _ (t : Taker) (q n side : ℕ) (book : List Order) (standing : Standing b
       (queue side book)
       (each-queue (λ o. P o × (standsOn side o ≡ true)) side book
       (both P (λ o. standsOn side o ≡ true) (λ o. P o × (standsOn side o ≡ true)) (keep (standsOn side) book) (λ o a b. (a, b))
-        (each-keep P (standsOn side) book e)
-        (kept (standsOn side) book)))
+      (each-keep P (standsOn side) book e)
+      (kept (standsOn side) book)))
 
   held-met : (m : ℕ) → held m met ≤ held m book
   unfolding atBest ofNumber
   held-met m =
       let f : Order → ℕ = λ o. cond (eqb (o .number) m) (o .left) 0 in
-      omega
-      (arith,
-      total-keep f (λ o. among (take n (once (map (λ o. o .price) (queue side book)))) (o .price)) (queue side book),
-      total-queue f side book,
-      total-keep f (standsOn side) book)
+      omega (
+        arith,
+        total-keep f (λ o. among (take n (once (map (λ o. o .price) (queue side book)))) (o .price)) (queue side book),
+        total-queue f side book,
+        total-keep f (standsOn side) book,
+      )
 
   live-met : Each (λ o. o .number ≡ 0 → ⊥) met
   live-met =
@@ -108,71 +110,73 @@ module _ (t : Taker) (q n side : ℕ) (book : List Order) (standing : Standing b
   pub fills-within : Each (λ o. filledOf (o .number) (sweep t q met) ≤ o .left) book
   fills-within =
       both (Only book) (λ o. o .number ≡ t .number → ⊥) (λ o. filledOf (o .number) (sweep t q met) ≤ o .left) book
-        (λ o f g. pick o f g (eqb (o .number) 0) refl)
-        (each-only book (standing .apart))
-        (new .fresh)
+      (λ o f g. pick o f g (eqb (o .number) 0) refl)
+      (each-only book (standing .apart))
+      (new .fresh)
     where
       pick :
-        (o : Order)
-        → Only book o
-        → (o .number ≡ t .number → ⊥)
-        → (b : Bool)
-        → eqb (o .number) 0 ≡ b
-        → filledOf (o .number) (sweep t q met) ≤ o .left
+          (o : Order)
+          → Only book o
+          → (o .number ≡ t .number → ⊥)
+          → (b : Bool)
+          → eqb (o .number) 0 ≡ b
+          → filledOf (o .number) (sweep t q met) ≤ o .left
       pick o f g true e =
           let z : held (o .number) met ≡ 0 =
-              ap (λ (m : ℕ). held m met) (eqb-true (o .number) 0 e) ∙ of-none 0 (λ (x : Order). x .left) met live-met
+          ap (λ (m : ℕ). held m met) (eqb-true (o .number) 0 e) ∙ of-none 0 (λ (x : Order). x .left) met live-met
           in
           omega (arith, fills-held t q (o .number) met g)
       pick o f g false e =
-          omega
-          (arith,
-          fills-held t q (o .number) met g,
-          held-met (o .number),
-          f (eqb-false (o .number) 0 e) (λ (x : Order). x .left))
+          omega (
+            arith,
+            fills-held t q (o .number) met g,
+            held-met (o .number),
+            f (eqb-false (o .number) 0 e) (λ (x : Order). x .left),
+          )
 
   -- a trade is between the taker, who has nothing in the book, and one order of it
   pub stakes : Each (λ r. (r .buyer ≡ r .seller → ⊥) × (stake book r ≡ r .quantity)) (sweep t q met)
   stakes =
       each-trade t (λ r. (r .buyer ≡ r .seller → ⊥) × (stake book r ≡ r .quantity)) q met
       (each (λ o. (Only book o × (o .number ≡ t .number → ⊥)) × (standsOn side o ≡ true))
-        (λ o. (r : Trade) → Deal t o r → (r .buyer ≡ r .seller → ⊥) × (stake book r ≡ r .quantity)) met
-        (λ o h r d. one o r (h .0 .0 (on-live side o (h .1)) (λ x. r .quantity)) (h .0 .1) d)
-        (of-met (λ o. Only book o × (o .number ≡ t .number → ⊥))
-        (both (Only book) (λ o. o .number ≡ t .number → ⊥) (λ o. Only book o × (o .number ≡ t .number → ⊥)) book (λ o a b. (a, b))
-          (each-only book (standing .apart))
-          (new .fresh))))
+      (λ o. (r : Trade) → Deal t o r → (r .buyer ≡ r .seller → ⊥) × (stake book r ≡ r .quantity)) met
+      (λ o h r d. one o r (h .0 .0 (on-live side o (h .1)) (λ x. r .quantity)) (h .0 .1) d)
+      (of-met (λ o. Only book o × (o .number ≡ t .number → ⊥))
+      (both (Only book) (λ o. o .number ≡ t .number → ⊥) (λ o. Only book o × (o .number ≡ t .number → ⊥)) book (λ o a b. (a, b))
+      (each-only book (standing .apart))
+      (new .fresh))))
     where
       none : (r : Trade) → ofNumber (t .number) (λ (x : Order). r .quantity) book ≡ 0
       none r = of-none (t .number) (λ (x : Order). r .quantity) book (new .fresh)
 
       one :
-        (o : Order) (r : Trade)
-        → ofNumber (o .number) (λ x. r .quantity) book ≡ r .quantity
-        → (o .number ≡ t .number → ⊥)
-        → Deal t o r
-        → (r .buyer ≡ r .seller → ⊥) × (stake book r ≡ r .quantity)
+          (o : Order) (r : Trade)
+          → ofNumber (o .number) (λ x. r .quantity) book ≡ r .quantity
+          → (o .number ≡ t .number → ⊥)
+          → Deal t o r
+          → (r .buyer ≡ r .seller → ⊥) × (stake book r ≡ r .quantity)
       one o r h m d = go (eqb (t .side) 0) (d .buyer) (d .seller)
         where
           go :
-            (b : Bool)
-            → r .buyer ≡ cond b (t .number) (o .number)
-            → r .seller ≡ cond b (o .number) (t .number)
-            → (r .buyer ≡ r .seller → ⊥) × (stake book r ≡ r .quantity)
+              (b : Bool)
+              → r .buyer ≡ cond b (t .number) (o .number)
+              → r .seller ≡ cond b (o .number) (t .number)
+              → (r .buyer ≡ r .seller → ⊥) × (stake book r ≡ r .quantity)
           go true x y = (λ e. m (sym y ∙ sym e ∙ x), rw (x, y) (omega (arith, h, none r)))
           go false x y = (λ e. m (sym x ∙ e ∙ y), rw (x, y) (omega (arith, h, none r)))
 
   -- what rests afterwards and what was traded are what rested before
   pub shares-kept :
-    total (λ o. o .left) (settle (sweep t q met) book) + filled (sweep t q met) ≡ total (λ o. o .left) book
+      total (λ o. o .left) (settle (sweep t q met) book) + filled (sweep t q met) ≡ total (λ o. o .left) book
   unfolding filled
   shares-kept =
       let ts : List Trade = sweep t q met in
       let both-parts : Each (λ r. (r .buyer ≡ r .seller → ⊥) × (stake book r ≡ r .quantity)) ts = stakes in
-      omega
-      (arith,
-      settle-total ts book fills-within,
-      filled-stakes ts book
-      (each (λ r. (r .buyer ≡ r .seller → ⊥) × (stake book r ≡ r .quantity)) (λ r. r .buyer ≡ r .seller → ⊥) ts (λ r h. h .0) both-parts),
-      total-same (stake book) (λ r. r .quantity) ts
-      (each (λ r. (r .buyer ≡ r .seller → ⊥) × (stake book r ≡ r .quantity)) (λ r. stake book r ≡ r .quantity) ts (λ r h. h .1) both-parts))
+      omega (
+        arith,
+        settle-total ts book fills-within,
+        filled-stakes ts book
+            (each (λ r. (r .buyer ≡ r .seller → ⊥) × (stake book r ≡ r .quantity)) (λ r. r .buyer ≡ r .seller → ⊥) ts (λ r h. h .0) both-parts),
+        total-same (stake book) (λ r. r .quantity) ts
+            (each (λ r. (r .buyer ≡ r .seller → ⊥) × (stake book r ≡ r .quantity)) (λ r. stake book r ≡ r .quantity) ts (λ r h. h .1) both-parts),
+      )

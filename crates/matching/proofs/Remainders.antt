@@ -21,34 +21,35 @@ use Rattle.book.proofs.Settlements.{part, filled-cons}
 use Rattle.matching.specs.Sweeping.{wants}
 use Rattle.matching.proofs.Cuts.{cutSame, cutLevels, same-nil, levels-none, levels-nil, levels-cons, cut-here, cut-away, Worsens, pricesOf, worse}
 use Rattle.matching.proofs.Partners.{sweep-none, sweep-one}
+use Rattle.matching.proofs.Trades.{filled-nil, filled-more}
 
 -- ---- worse prices than one that the limit does not allow
 
 module _ (side limit : ℕ) where
   still-beyond :
-    (p r : ℕ)
-    → p ≤ 999_999
-    → r ≤ 999_999
-    → rank (other side) p ≤ rank (other side) r
-    → meets side limit p ≡ false
-    → meets side limit r ≡ false
+      (p r : ℕ)
+      → p ≤ 999_999
+      → r ≤ 999_999
+      → rank (other side) p ≤ rank (other side) r
+      → meets side limit p ≡ false
+      → meets side limit r ≡ false
   unfolding meets other rank
   still-beyond p r hp hr l e = go (eqb side 0) l e
     where
       go :
-        (b : Bool)
-        → cond (eqb (cond b 1 0) 0) (1_000_000 - p) p ≤ cond (eqb (cond b 1 0) 0) (1_000_000 - r) r
-        → cond b (leb p limit) (leb limit p) ≡ false
-        → cond b (leb r limit) (leb limit r) ≡ false
+          (b : Bool)
+          → cond (eqb (cond b 1 0) 0) (1_000_000 - p) p ≤ cond (eqb (cond b 1 0) 0) (1_000_000 - r) r
+          → cond b (leb p limit) (leb limit p) ≡ false
+          → cond b (leb r limit) (leb limit r) ≡ false
       go true l e = lt-leb r limit (omega (arith, leb-false p limit e))
       go false l e = lt-leb limit r (omega (arith, leb-false limit p e))
 
   all-beyond :
-    (p : ℕ) (os : List Order)
-    → p ≤ 999_999
-    → meets side limit p ≡ false
-    → Worsens (other side) (rank (other side) p) (pricesOf os)
-    → Each (λ o. meets side limit (o .price) ≡ false) os
+      (p : ℕ) (os : List Order)
+      → p ≤ 999_999
+      → meets side limit p ≡ false
+      → Worsens (other side) (rank (other side) p) (pricesOf os)
+      → Each (λ o. meets side limit (o .price) ≡ false) os
   all-beyond p [] hp e w = tt
   all-beyond p (o ∷ os) hp e w =
       let here : meets side limit (o .price) ≡ false = still-beyond p (o .price) hp (w .1) (w .0) e in
@@ -69,8 +70,8 @@ with-itself t q o = go (eqb (t .side) 0)
     same = eq-eqb (o .number) (o .number) refl
 
     go :
-      (b : Bool)
-      → eqb (cond b (t .number) (o .number)) (o .number) || eqb (cond b (o .number) (t .number)) (o .number) ≡ true
+        (b : Bool)
+        → eqb (cond b (t .number) (o .number)) (o .number) || eqb (cond b (o .number) (t .number)) (o .number) ≡ true
     go true = rw same (or-true (eqb (t .number) (o .number)))
     go false = rw same
 
@@ -92,47 +93,37 @@ module _ (t : Taker) where
   unfolding tradeWith
   taken q o = refl
 
-  filled-more : (r : Trade) (ts : List Trade) → filled (r ∷ ts) ≡ r .quantity + filled ts
-  unfolding filled total
-  filled-more r ts = refl
-
-  filled-nil : filled [] ≡ 0
-  unfolding filled total
-  filled-nil = refl
-
   pub left-over :
-    (a q : ℕ) (os : List Order)
-    → Worsens (other (t .side)) a (pricesOf os)
-    → filled (sweep t q os) < q
-    → Each (Gone (sweep t q os)) os
+      (a q : ℕ) (os : List Order)
+      → Worsens (other (t .side)) a (pricesOf os)
+      → filled (sweep t q os) < q
+      → Each (Gone (sweep t q os)) os
   left-over a q [] w h = tt
   left-over a q (o ∷ os) w h =
       go (wants t q (o .price)) refl (left-over (rank (other (t .side)) (o .price)) (q - o .left) os (w .2))
     where
       go :
-        (b : Bool)
-        → wants t q (o .price) ≡ b
-        → (filled (sweep t (q - o .left) os) < q - o .left → Each (Gone (sweep t (q - o .left) os)) os)
-        → Each (Gone (sweep t q (o ∷ os))) (o ∷ os)
+          (b : Bool)
+          → wants t q (o .price) ≡ b
+          → (filled (sweep t (q - o .left) os) < q - o .left → Each (Gone (sweep t (q - o .left) os)) os)
+          → Each (Gone (sweep t q (o ∷ os))) (o ∷ os)
       go true e ih =
           let ts : List Trade = sweep t (q - o .left) os in
           let all : sweep t q (o ∷ os) ≡ tradeWith t q o ∷ ts = sweep-one t q o os e in
           let sum : filled (sweep t q (o ∷ os)) ≡ min q (o .left) + filled ts =
-              ap filled all ∙ filled-more (tradeWith t q o) ts ∙ ap (λ (n : ℕ). n + filled ts) (taken q o)
+          ap filled all ∙ filled-more (tradeWith t q o) ts ∙ ap (λ (n : ℕ). n + filled ts) (taken q o)
           in
           let whole : o .left ≤ q = omega arith in
-          rw all
-          (
+          rw all (
             inr (omega (arith, filled-cons (o .number) (tradeWith t q o) ts, part-whole q o whole)),
             each (Gone ts) (Gone (tradeWith t q o ∷ ts)) os (more-gone (tradeWith t q o) ts) (ih (omega arith)),
           )
       go false e ih =
           let none : filled (sweep t q (o ∷ os)) ≡ 0 = ap filled (sweep-none t q o os e) ∙ filled-nil in
-          let far : meets (t .side) (t .limit) (o .price) ≡ false = wants-beyond t q (o .price) (omega arith) e in
-          (
+          let far : meets (t .side) (t .limit) (o .price) ≡ false = wants-beyond t q (o .price) (omega arith) e in (
             inl far,
             each (λ p. meets (t .side) (t .limit) (p .price) ≡ false) (Gone (sweep t q (o ∷ os))) os (λ p f. inl f)
-              (all-beyond (t .side) (t .limit) (o .price) os (w .1) far (w .2)),
+                (all-beyond (t .side) (t .limit) (o .price) os (w .1) far (w .2)),
           )
 
 -- ---- what is cut off is worse
@@ -172,18 +163,18 @@ module _ (side : ℕ) where
               whole = ap (λ (x : List Order). o ∷ x) (f .front .whole);
               worse =
                   both (λ (x : Order). rank side (o .price) < rank side (x .price))
-                    (λ (x : Order). Each (λ (y : Order). rank side (y .price) < rank side (x .price)) cut)
-                    (λ (x : Order). Each (λ (y : Order). rank side (y .price) < rank side (x .price)) (o ∷ cut))
-                    (f .front .behind)
-                    (λ x a b. (a, b))
-                    (f .later)
-                    (f .front .worse);
+                  (λ (x : Order). Each (λ (y : Order). rank side (y .price) < rank side (x .price)) cut)
+                  (λ (x : Order). Each (λ (y : Order). rank side (y .price) < rank side (x .price)) (o ∷ cut))
+                  (f .front .behind)
+                  (λ x a b. (a, b))
+                  (f .later)
+                  (f .front .worse);
             };
         later =
             each (λ (x : Order). rank side (o .price) < rank side (x .price)) (λ (x : Order). rank side p < rank side (x .price))
-              (f .front .behind)
-              (λ x h. omega arith)
-              (f .later);
+            (f .front .behind)
+            (λ x h. omega arith)
+            (f .later);
       }
 
   later-all : (p a : ℕ) (os : List Order) → rank side p < a → Worsens side a (pricesOf os) → Each (λ (o : Order). rank side p < rank side (o .price)) os
@@ -202,10 +193,10 @@ module _ (side : ℕ) where
       next (suc m) ih away = rw (levels-cons m o os) (one-more p o (cutSame m (o .price) os) os (w .0) (ih m))
 
       go :
-        (b : Bool)
-        → eqb (o .price) p ≡ b
-        → ((m : ℕ) → From side (o .price) (cutSame m (o .price) os) os)
-        → From side p (cutSame n p (o ∷ os)) (o ∷ os)
+          (b : Bool)
+          → eqb (o .price) p ≡ b
+          → ((m : ℕ) → From side (o .price) (cutSame m (o .price) os) os)
+          → From side p (cutSame n p (o ∷ os)) (o ∷ os)
       go true e ih =
           let same : o .price ≡ p = eqb-true (o .price) p e in
           rw (cut-here n p o os same, sym same) (one-more (o .price) o (cutSame n (o .price) os) os (omega arith) (ih n))

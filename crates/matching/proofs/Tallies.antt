@@ -183,7 +183,7 @@ worsens-same side a (suc n) p (o ∷ os) w =
     go true h k = (w .0, w .1, h)
     go false h k = (w .0, w .1, k)
 
-worsens-levels : (side a n : ℕ) (os : List Order) → Worsens side a (pricesOf os) → Worsens side a (pricesOf (cutLevels n os))
+pub worsens-levels : (side a n : ℕ) (os : List Order) → Worsens side a (pricesOf os) → Worsens side a (pricesOf (cutLevels n os))
 unfolding cutLevels
 worsens-levels side a zero os w = tt
 worsens-levels side a (suc n) [] w = tt

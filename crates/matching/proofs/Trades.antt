@@ -27,6 +27,15 @@ abbrev pub Some : {A : Type 0} → (A → Type 0) → List A → Type 0
 Some P [] = ⊥
 Some P (x ∷ xs) = P x ⊎ Some P xs
 
+-- an element that has it is one that has it
+some-more : {A B : Type 0} (P : A → B → Type 0) (x : A) (os xs : List A) → Each (λ o. (r : B) → P o r → Some (λ p. P p r) xs) os → Each (λ o. (r : B) → P o r → Some (λ p. P p r) (x ∷ xs)) os
+some-more P x [] xs e = tt
+some-more P x (o ∷ os) xs e = (λ r h. inr (e .0 r h), some-more P x os xs (e .1))
+
+pub some-each : {B A : Type 0} (P : A → B → Type 0) (xs : List A) → Each (λ x. (r : B) → P x r → Some (λ y. P y r) xs) xs
+some-each P [] = tt
+some-each P (x ∷ xs) = (λ r h. inl h, some-more P x xs xs (some-each P xs))
+
 -- the trade is one of the taker with this order
 pub record Deal (t : Taker) (o : Order) (r : Trade) : Type 0 where
   pub price : r .price ≡ o .price
@@ -47,49 +56,42 @@ deal t q o w =
     }
 
 all-paid :
-  (ps : List ℕ) (ts : List Trade)
-  → Each (λ r. among ps (r .price) ≡ true) ts
-  → Each (λ p. among ps p ≡ true) (map (λ (r : Trade). r .price) ts)
+    (ps : List ℕ) (ts : List Trade)
+    → Each (λ r. among ps (r .price) ≡ true) ts
+    → Each (λ p. among ps p ≡ true) (map (λ (r : Trade). r .price) ts)
 all-paid ps [] e = tt
 all-paid ps (r ∷ ts) e = (e .0, all-paid ps ts (e .1))
+
+pub filled-nil : filled [] ≡ 0
+unfolding filled total
+filled-nil = refl
+
+pub filled-more : (r : Trade) (ts : List Trade) → filled (r ∷ ts) ≡ r .quantity + filled ts
+unfolding filled total
+filled-more r ts = refl
 
 module _ (t : Taker) where
   -- a fact of each trade, from each order that it may be with
   pub each-trade :
-    (P : Trade → Type 0) (q : ℕ) (os : List Order)
-    → Each (λ o. (r : Trade) → Deal t o r → P r) os
-    → Each P (sweep t q os)
+      (P : Trade → Type 0) (q : ℕ) (os : List Order)
+      → Each (λ o. (r : Trade) → Deal t o r → P r) os
+      → Each P (sweep t q os)
   each-trade P q [] e = rw (sweep-nil t q) tt
   each-trade P q (o ∷ os) e =
       rw (sweep-cons t q o os) (go (wants t q (o .price)) refl (each-trade P (q - o .left) os (e .1)))
     where
       go :
-        (w : Bool)
-        → wants t q (o .price) ≡ w
-        → Each P (sweep t (q - o .left) os)
-        → Each P (cond w (tradeWith t q o ∷ sweep t (q - o .left) os) [])
+          (w : Bool)
+          → wants t q (o .price) ≡ w
+          → Each P (sweep t (q - o .left) os)
+          → Each P (cond w (tradeWith t q o ∷ sweep t (q - o .left) os) [])
       go true v h = (e .0 (tradeWith t q o) (deal t q o v), h)
       go false v h = tt
 
   -- each is with one of the orders
   pub each-deal : (q : ℕ) (os : List Order) → Each (λ r. Some (λ o. Deal t o r) os) (sweep t q os)
-  each-deal q os = each-trade (λ r. Some (λ o. Deal t o r) os) q os (into os (λ o h. h))
-    where
-      into :
-        (xs : List Order)
-        → ((o : Order) → Some (λ p. p ≡ o) xs → Some (λ p. p ≡ o) os)
-        → Each (λ o. (r : Trade) → Deal t o r → Some (λ p. Deal t p r) os) xs
-      into [] f = tt
-      into (x ∷ xs) f =
-          (
-            λ r d. found os (f x (inl refl)) d,
-            into xs (λ o h. f o (inr h)),
-          )
-        where
-          found : {r : Trade} (ys : List Order) → Some (λ p. p ≡ x) ys → Deal t x r → Some (λ p. Deal t p r) ys
-          found {r} [] s d = s
-          found {r} (y ∷ ys) (inl e) d = inl (rw e d)
-          found {r} (y ∷ ys) (inr s) d = inr (found ys s d)
+  each-deal q os =
+      each-trade (λ r. Some (λ o. Deal t o r) os) q os (some-each (λ (o : Order) (r : Trade). Deal t o r) os)
 
   -- ---- how much
 
@@ -99,9 +101,9 @@ module _ (t : Taker) where
   filled-within q (o ∷ os) = rw (sweep-cons t q o os) (go (wants t q (o .price)) (filled-within (q - o .left) os))
     where
       go :
-        (w : Bool)
-        → filled (sweep t (q - o .left) os) ≤ q - o .left
-        → filled (cond w (tradeWith t q o ∷ sweep t (q - o .left) os) []) ≤ q
+          (w : Bool)
+          → filled (sweep t (q - o .left) os) ≤ q - o .left
+          → filled (cond w (tradeWith t q o ∷ sweep t (q - o .left) os) []) ≤ q
       go true h = unfold filled total tradeWith in omega arith
       go false h = unfold filled total in omega arith
 
@@ -111,9 +113,9 @@ module _ (t : Taker) where
   count-within q (o ∷ os) = rw (sweep-cons t q o os) (go (wants t q (o .price)) (count-within (q - o .left) os))
     where
       go :
-        (w : Bool)
-        → length (sweep t (q - o .left) os) ≤ length os
-        → length (cond w (tradeWith t q o ∷ sweep t (q - o .left) os) []) ≤ suc (length os)
+          (w : Bool)
+          → length (sweep t (q - o .left) os) ≤ length os
+          → length (cond w (tradeWith t q o ∷ sweep t (q - o .left) os) []) ≤ suc (length os)
       go true h = omega arith
       go false h = omega arith
 
@@ -124,12 +126,13 @@ module _ (t : Taker) where
       let ps : List ℕ = take n (once (pricesOf os)) in
       let best : List Order = keep (λ (o : Order). among ps (o .price)) os in
       let all : Each (λ r. among ps (r .price) ≡ true) (sweep t q best) =
-          each-trade (λ r. among ps (r .price) ≡ true) q best
-          (each (λ (o : Order). among ps (o .price) ≡ true) (λ o. (r : Trade) → Deal t o r → among ps (r .price) ≡ true) best
-            (λ o h r d. ap (among ps) (d .price) ∙ h)
-            (kept (λ (o : Order). among ps (o .price)) os))
+      each-trade (λ r. among ps (r .price) ≡ true) q best
+      (each (λ (o : Order). among ps (o .price) ≡ true) (λ o. (r : Trade) → Deal t o r → among ps (r .price) ≡ true) best
+      (λ o h r d. ap (among ps) (d .price) ∙ h)
+      (kept (λ (o : Order). among ps (o .price)) os))
       in
-      omega
-      (arith,
-      different-few ps (map (λ (r : Trade). r .price) (sweep t q best)) (all-paid ps (sweep t q best) all),
-      length-take n (once (pricesOf os)))
+      omega (
+        arith,
+        different-few ps (map (λ (r : Trade). r .price) (sweep t q best)) (all-paid ps (sweep t q best) all),
+        length-take n (once (pricesOf os)),
+      )
