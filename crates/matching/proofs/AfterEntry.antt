@@ -1,29 +1,28 @@
 -- The book after an order in continuous trading, for every kind: nobody meets the price at which it rests, so that buys stay
 -- below sells; and the book still stands.
-use Prim.Native.Nat.{ℕ, zero, suc, _+_, _-_, _≤_, _<_, min, max}
+use Prim.Native.Nat.{ℕ, _+_, _-_, _≤_, _<_}
 use mathlib.Core.Path.{_≡_, refl, sym, ap, _∙_, subst}
-use mathlib.Core.Bool.{Bool, true, false, cond, not, _&&_, _||_}
+use mathlib.Core.Bool.{Bool, true, false, cond, _||_}
 use mathlib.Core.List.{List, [], _∷_, _++_}
 use mathlib.Core.Logic.{_⊎_, inl, inr}
 use native.Mathlib.Omega.{arith}
 use lib.Dec.{leb, eqb}
-use borrow.Author.Tests.{eq-eqb, ne-eqb, eqb-true, eqb-false, lt-leb, le-leb}
+use borrow.Author.Tests.{ne-eqb, eqb-true, eqb-false, lt-leb}
 use Rattle.model.specs.declared.Order.{Order}
 use Rattle.model.specs.declared.Asked.{Asked}
 use Rattle.model.specs.declared.Trade.{Trade}
 use Rattle.model.specs.declared.Taker.{Taker}
 use Rattle.model.specs.declared.Day.{Day}
 use Rattle.model.specs.Clock.{phaseAt, continuous}
-use Rattle.model.specs.Book.{standsOn, queue, best, other}
+use Rattle.model.specs.Book.{queue, best, other}
 use Rattle.model.specs.Matching.{meets, within, sweep, filled, filledOf, lastPrice, settle, rest}
-use Rattle.model.specs.Figures.{nextNumber}
 use Rattle.model.specs.Entry.{bestWithin, entryPrice, opposite, entryTrades, restPrice}
 use Rattle.model.specs.Sound.{crosses}
 use Rattle.model.specs.Calls.{placed}
-use Rattle.book.specs.Standing.{Each, Fair, Standing}
+use Rattle.book.specs.Standing.{Each, Standing}
 use Rattle.book.specs.Priority.{rank}
 use Rattle.book.proofs.Lists.{each}
-use Rattle.book.proofs.Best.{each-on, best-price}
+use Rattle.book.proofs.Best.{each-on}
 use Rattle.book.proofs.Crossing.{
   Uncrossed,
   uncrossed,
@@ -36,14 +35,12 @@ use Rattle.book.proofs.Crossing.{
   unmet-settle,
   settle-others,
 }
-use Rattle.book.proofs.Kept.{Fresh, standing-settle, standing-rest, fresh-settle}
-use Rattle.matching.specs.Sweeping.{atBest}
 use Rattle.matching.proofs.Cuts.{cutLevels, cut-best, Worsens, pricesOf, queue-worsens}
 use Rattle.matching.proofs.Tallies.{worsens-levels}
 use Rattle.matching.proofs.Trades.{Deal, each-trade, filled-nil}
 use Rattle.matching.proofs.Remainders.{Gone, left-over, Front, cut-front}
 use Rattle.matching.proofs.Entries.{as-sweep, no-price}
-use Rattle.matching.proofs.EntryLaws.{meets-through, last-has, entry-limit, entry-allowed, only-five, taker, each-entry}
+use Rattle.matching.proofs.EntryLaws.{meets-through, last-has, entry-allowed, only-five, taker}
 
 -- ---- prices that do not meet
 
@@ -144,7 +141,11 @@ module _ (d : Day) (a : Asked) (book : List Order) (standing : Standing book) (n
       (λ o h. behind-away cut all o h)
       (front .worse))))
     where
-      limit-away : meets (a .side) (a .price) (lastPrice 0 ts) ≡ true → (o : Order) → Gone (taker d a book) ts o → Away (lastPrice 0 ts) o
+      limit-away :
+          meets (a .side) (a .price) (lastPrice 0 ts) ≡ true
+          → (o : Order)
+          → Gone (taker d a book) ts o
+          → Away (lastPrice 0 ts) o
       limit-away near o (inl e) =
           inl
           (beyond-unmet (a .side) (a .price) (lastPrice 0 ts) (o .price) near
@@ -164,7 +165,8 @@ module _ (d : Day) (a : Asked) (book : List Order) (standing : Standing book) (n
           (rw all
           (each-trade (taker d a book) (λ r. rank (other (a .side)) (r .price) < rank (other (a .side)) (o .price)) (a .quantity) cut
           (each (λ x. rank (other (a .side)) (x .price) < rank (other (a .side)) (o .price))
-          (λ x. (r : Trade) → Deal (taker d a book) x r → rank (other (a .side)) (r .price) < rank (other (a .side)) (o .price)) cut
+          (λ x. (r : Trade) → Deal (taker d a book) x r → rank (other (a .side)) (r .price) < rank (other (a .side)) (o .price))
+          cut
           (λ x l r f. rw (f .price) l)
           h)))
           traded))
@@ -222,7 +224,8 @@ module _ (d : Day) (a : Asked) (book : List Order) (standing : Standing book) (n
           → (e : Bool)
           → eqb (filled ts) 0 ≡ e
           → (cond b 0 (cond c (cond e (bestWithin a (a .side) book) (lastPrice 0 ts)) (entryPrice a book)) ≡ 0 → ⊥)
-          → Unmet (a .side) (cond b 0 (cond c (cond e (bestWithin a (a .side) book) (lastPrice 0 ts)) (entryPrice a book)))
+          → Unmet (a .side)
+          (cond b 0 (cond c (cond e (bestWithin a (a .side) book) (lastPrice 0 ts)) (entryPrice a book)))
           (settle ts book)
       go true x c y e z n = absurd (n refl)
       go false x true y true z n = own-unmet side u n

@@ -1,8 +1,8 @@
 -- An order keeps the book standing, in every phase: what rests of it has a side, a price, shares and its own number.
-use Prim.Native.Nat.{ℕ, zero, suc, _+_, _-_, _≤_, _<_, min, max}
-use mathlib.Core.Path.{_≡_, refl, sym, ap, _∙_}
+use Prim.Native.Nat.{ℕ, _-_, _≤_, min, max}
+use mathlib.Core.Path.{_≡_, refl}
 use mathlib.Core.Bool.{Bool, true, false, cond, _||_}
-use mathlib.Core.List.{List, [], _∷_}
+use mathlib.Core.List.{List}
 use native.Mathlib.Omega.{arith}
 use lib.Dec.{eqb}
 use borrow.Author.Tests.{eqb-false}
@@ -44,7 +44,9 @@ module _ (d : Day) (a : Asked) (book : List Order) (standing : Standing book) (p
   unfolding entryPrice
   entry-bound = go (eqb (a .kind) 1) (eqb (a .kind) 2)
     where
-      go : (b c : Bool) → cond b (bestWithin a (other (a .side)) book) (cond c (bestWithin a (a .side) book) (a .price)) ≤ 999_999
+      go :
+          (b c : Bool)
+          → cond b (bestWithin a (other (a .side)) book) (cond c (bestWithin a (a .side) book) (a .price)) ≤ 999_999
       go true c = best-bound (other (a .side))
       go false true = best-bound (a .side)
       go false false = price
@@ -71,7 +73,9 @@ module _ (d : Day) (a : Asked) (book : List Order) (standing : Standing book) (p
 
   -- ---- the book afterwards
 
-  module _ (number : ℕ) (side : a .side ≤ 1) (quantity : a .quantity ≤ 1_000_000) (small : number ≤ 999_999) (new : New number book) where
+  module _
+      (number : ℕ) (side : a .side ≤ 1) (quantity : a .quantity ≤ 1_000_000)
+      (small : number ≤ 999_999) (new : New number book) where
     -- the remainder as it rests
     abbrev remainder : Order
     remainder =

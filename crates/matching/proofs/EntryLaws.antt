@@ -1,13 +1,13 @@
--- The trades of an order on entry: how much, at how many prices, with whom and within which limit; and the limit of its rest.
-use Prim.Native.Nat.{ℕ, zero, suc, _+_, _-_, _≤_, _<_, min, max}
-use mathlib.Core.Path.{_≡_, refl, sym, ap, _∙_}
+-- The trades of an order on entry: how much, at how many prices, with whom and within which limit; and the limit of its
+-- rest.
+use Prim.Native.Nat.{ℕ, _+_, _-_, _≤_, min, max}
+use mathlib.Core.Path.{_≡_, refl, sym}
 use mathlib.Core.Bool.{Bool, true, false, cond, not, _&&_}
-use mathlib.Core.List.{List, [], _∷_, map}
-use mathlib.Core.Logic.{_⊎_, inl, inr}
+use mathlib.Core.List.{List, [], _∷_}
 use native.Mathlib.Omega.{arith}
-use lib.ListN.{length, take}
+use lib.ListN.{length}
 use lib.Dec.{leb, eqb}
-use borrow.Author.Tests.{eqb-true, eqb-false, ne-eqb, le-leb, leb-true}
+use borrow.Author.Tests.{eqb-false, le-leb, leb-true}
 use Rattle.model.specs.declared.Order.{Order}
 use Rattle.model.specs.declared.Asked.{Asked}
 use Rattle.model.specs.declared.Trade.{Trade}
@@ -69,13 +69,20 @@ last-on P p [] h e = h
 last-on P p (r ∷ ts) h e = last-on P (r .price) ts (e .0) (e .1)
 
 -- what each trade's price has, the last one's has
-pub last-has : (P : ℕ → Type 0) (p : ℕ) (ts : List Trade) → Each (λ r. P (r .price)) ts → (filled ts ≡ 0 → ⊥) → P (lastPrice p ts)
+pub last-has :
+    (P : ℕ → Type 0) (p : ℕ) (ts : List Trade)
+    → Each (λ r. P (r .price)) ts
+    → (filled ts ≡ 0 → ⊥)
+    → P (lastPrice p ts)
 unfolding filled total lastPrice
 last-has P p [] e n = absurd (n refl)
 last-has P p (r ∷ ts) e n = last-on P (r .price) ts (e .0) (e .1)
 
 module _ (a : Asked) (book : List Order) where
-  best-limit : (side : ℕ) → (bestWithin a side book ≡ 0 → ⊥) → meets (a .side) (a .price) (bestWithin a side book) ≡ true
+  best-limit :
+      (side : ℕ)
+      → (bestWithin a side book ≡ 0 → ⊥)
+      → meets (a .side) (a .price) (bestWithin a side book) ≡ true
   unfolding bestWithin
   best-limit side n = go (eqb (best side book) 0) n
     where
@@ -94,7 +101,8 @@ module _ (a : Asked) (book : List Order) where
       go :
           (b c : Bool)
           → (cond b (bestWithin a (other (a .side)) book) (cond c (bestWithin a (a .side) book) (a .price)) ≡ 0 → ⊥)
-          → meets (a .side) (a .price) (cond b (bestWithin a (other (a .side)) book) (cond c (bestWithin a (a .side) book) (a .price)))
+          → meets (a .side) (a .price)
+          (cond b (bestWithin a (other (a .side)) book) (cond c (bestWithin a (a .side) book) (a .price)))
           ≡ true
       go true c n = best-limit (other (a .side)) n
       go false true n = best-limit (a .side) n
@@ -115,7 +123,9 @@ module _ (a : Asked) (book : List Order) where
           (cond b
           (keep (λ o. among (fiveBest (queue (other (a .side)) book)) (o .price)) (queue (other (a .side)) book))
           (queue (other (a .side)) book))
-      go true h = each-keep P (λ o. among (fiveBest (queue (other (a .side)) book)) (o .price)) (queue (other (a .side)) book) h
+      go true h =
+          each-keep P (λ o. among (fiveBest (queue (other (a .side)) book)) (o .price)) (queue (other (a .side)) book)
+          h
       go false h = h
 
   pub only-five : 3 ≤ a .kind → opposite a book ≡ atBest 5 (queue (other (a .side)) book)
@@ -136,7 +146,8 @@ module _ (a : Asked) (book : List Order) where
       go true =
           omega (
             arith,
-            length-keep (λ o. among (fiveBest (queue (other (a .side)) book)) (o .price)) (queue (other (a .side)) book),
+            length-keep (λ o. among (fiveBest (queue (other (a .side)) book)) (o .price))
+                (queue (other (a .side)) book),
             queue-length (other (a .side)) book,
           )
       go false = omega (arith, queue-length (other (a .side)) book)
@@ -192,15 +203,25 @@ module _ (d : Day) (a : Asked) (book : List Order) where
       → Each P (entryTrades d a book)
   each-entry P e =
       entry-cases (λ ts. Each P ts) tt
-      (λ n. each-trade taker P (a .quantity) (opposite a book) (of-opposite a book (λ o. (r : Trade) → Deal taker o r → P r) e))
+      (λ n.
+      each-trade taker P (a .quantity) (opposite a book)
+      (of-opposite a book (λ o. (r : Trade) → Deal taker o r → P r) e))
 
   -- each is with an order of the other side that rests in the book, at its price, and names its number
-  pub entry-deals : Each (λ r. Some (λ o. Deal taker o r × (standsOn (other (a .side)) o ≡ true)) book) (entryTrades d a book)
+  pub entry-deals :
+      Each (λ r. Some (λ o. Deal taker o r × (standsOn (other (a .side)) o ≡ true)) book) (entryTrades d a book)
   entry-deals =
       each-entry (λ r. Some (λ o. Deal taker o r × (standsOn (other (a .side)) o ≡ true)) book)
       (each
-      (λ o. (r : Trade) → Deal taker o r × (standsOn (other (a .side)) o ≡ true) → Some (λ p. Deal taker p r × (standsOn (other (a .side)) p ≡ true)) book)
-      (λ o. standsOn (other (a .side)) o ≡ true → (r : Trade) → Deal taker o r → Some (λ p. Deal taker p r × (standsOn (other (a .side)) p ≡ true)) book)
+      (λ o.
+      (r : Trade)
+      → Deal taker o r × (standsOn (other (a .side)) o ≡ true)
+      → Some (λ p. Deal taker p r × (standsOn (other (a .side)) p ≡ true)) book)
+      (λ o. standsOn (other (a .side)) o
+      ≡ true
+      → (r : Trade)
+      → Deal taker o r
+      → Some (λ p. Deal taker p r × (standsOn (other (a .side)) p ≡ true)) book)
       book
       (λ o f t r h. f r (h, t))
       (some-each (λ (o : Order) (r : Trade). Deal taker o r × (standsOn (other (a .side)) o ≡ true)) book))
@@ -224,9 +245,14 @@ module _ (d : Day) (a : Asked) (book : List Order) where
       go :
           (b c e : Bool)
           → eqb (filled (entryTrades d a book)) 0 ≡ e
-          → (cond b 0 (cond c (cond e (bestWithin a (a .side) book) (lastPrice 0 (entryTrades d a book))) (entryPrice a book)) ≡ 0 → ⊥)
+          →
+          (cond b 0
+          (cond c (cond e (bestWithin a (a .side) book) (lastPrice 0 (entryTrades d a book))) (entryPrice a book))
+          ≡ 0
+          → ⊥)
           → meets (a .side) (a .price)
-          (cond b 0 (cond c (cond e (bestWithin a (a .side) book) (lastPrice 0 (entryTrades d a book))) (entryPrice a book)))
+          (cond b 0
+          (cond c (cond e (bestWithin a (a .side) book) (lastPrice 0 (entryTrades d a book))) (entryPrice a book)))
           ≡ true
       go true c e f n = absurd (n refl)
       go false true true f n = best-limit a book (a .side) n
@@ -249,7 +275,8 @@ module _ (d : Day) (a : Asked) (book : List Order) where
 
     -- what rests afterwards and what was traded are what rested before
     pub entry-shares :
-        total (λ o. o .left) (settle (entryTrades d a book) book) + filled (entryTrades d a book) ≡ total (λ o. o .left) book
+        total (λ o. o .left) (settle (entryTrades d a book) book) + filled (entryTrades d a book)
+        ≡ total (λ o. o .left) book
     entry-shares =
         entry-cases (λ ts. total (λ o. o .left) (settle ts book) + filled ts ≡ total (λ o. o .left) book)
         none
@@ -262,7 +289,8 @@ module _ (d : Day) (a : Asked) (book : List Order) where
             omega (
               arith,
               settle-total [] book
-                  (every (λ (o : Order). filledOf (o .number) [] ≤ o .left) book (λ o. omega (arith, filled-none (o .number)))),
+                  (every (λ (o : Order). filledOf (o .number) [] ≤ o .left) book
+                  (λ o. omega (arith, filled-none (o .number)))),
               total-zero (λ o. filledOf (o .number) []) book
                   (every (λ (o : Order). filledOf (o .number) [] ≡ 0) book (λ o. filled-none (o .number))),
               filled-nil,

@@ -1,7 +1,7 @@
 -- What every trade of a sweep is: within the limit, at the price of the resting order that it names, for no more than that
 -- order has; and how many they are, at how many prices, for how many shares.
-use Prim.Native.Nat.{ℕ, zero, suc, _+_, _-_, _≤_, _<_, min}
-use mathlib.Core.Path.{_≡_, refl, sym, ap, _∙_}
+use Prim.Native.Nat.{ℕ, suc, _+_, _-_, _≤_}
+use mathlib.Core.Path.{_≡_, refl, ap, _∙_}
 use mathlib.Core.Bool.{Bool, true, false, cond}
 use mathlib.Core.List.{List, [], _∷_, map}
 use mathlib.Core.Logic.{_⊎_, inl, inr}
@@ -11,8 +11,8 @@ use lib.Dec.{eqb}
 use Rattle.model.specs.declared.Order.{Order}
 use Rattle.model.specs.declared.Trade.{Trade}
 use Rattle.model.specs.declared.Taker.{Taker}
-use Rattle.model.specs.Lists.{keep, total, among, once, different}
-use Rattle.model.specs.Matching.{meets, tradeWith, sweep, filled, levels, lastPrice}
+use Rattle.model.specs.Lists.{keep, total, among, once}
+use Rattle.model.specs.Matching.{meets, tradeWith, sweep, filled, levels}
 use Rattle.book.specs.Standing.{Each}
 use Rattle.book.proofs.Lists.{each, kept}
 use Rattle.matching.specs.Sweeping.{wants, atBest}
@@ -28,11 +28,16 @@ Some P [] = ⊥
 Some P (x ∷ xs) = P x ⊎ Some P xs
 
 -- an element that has it is one that has it
-some-more : {A B : Type 0} (P : A → B → Type 0) (x : A) (os xs : List A) → Each (λ o. (r : B) → P o r → Some (λ p. P p r) xs) os → Each (λ o. (r : B) → P o r → Some (λ p. P p r) (x ∷ xs)) os
+some-more :
+    {A B : Type 0} (P : A → B → Type 0) (x : A) (os xs : List A)
+    → Each (λ o. (r : B) → P o r → Some (λ p. P p r) xs) os
+    → Each (λ o. (r : B) → P o r → Some (λ p. P p r) (x ∷ xs)) os
 some-more P x [] xs e = tt
 some-more P x (o ∷ os) xs e = (λ r h. inr (e .0 r h), some-more P x os xs (e .1))
 
-pub some-each : {B A : Type 0} (P : A → B → Type 0) (xs : List A) → Each (λ x. (r : B) → P x r → Some (λ y. P y r) xs) xs
+pub some-each :
+    {B A : Type 0} (P : A → B → Type 0) (xs : List A)
+    → Each (λ x. (r : B) → P x r → Some (λ y. P y r) xs) xs
 some-each P [] = tt
 some-each P (x ∷ xs) = (λ r h. inl h, some-more P x xs xs (some-each P xs))
 
