@@ -1,6 +1,6 @@
 -- Who is in a queue and in which order, and what the best price says of the others.
-use Prim.Native.Nat.{ℕ, zero, suc, _+_, _-_, _*_, _≤_, _<_}
-use mathlib.Core.Path.{_≡_, refl, sym, ap, _∙_}
+use Prim.Native.Nat.{ℕ, _-_, _≤_, _<_}
+use mathlib.Core.Path.{_≡_, refl, sym, _∙_}
 use mathlib.Core.Bool.{Bool, true, false, cond}
 use mathlib.Core.List.{List, [], _∷_, nil≢cons}
 use native.Mathlib.Omega.{arith}
@@ -27,7 +27,10 @@ use Rattle.book.proofs.Queues.{
 
 -- ---- who is in a queue: the orders of the book that stand on its side, and no others
 
-each-kept : {A : Type 0} (P : A → Type 0) (t : A → Bool) (xs : List A) → Each P (keep t xs) → Each (λ x. t x ≡ true → P x) xs
+each-kept :
+    {A : Type 0} (P : A → Type 0) (t : A → Bool) (xs : List A)
+    → Each P (keep t xs)
+    → Each (λ x. t x ≡ true → P x) xs
 unfolding keep
 each-kept P t [] e = tt
 each-kept P t (x ∷ xs) e = go (t x) refl e (each-kept P t xs)
@@ -47,7 +50,8 @@ pub each-on :
     → Each P (queue side book)
     → Each (λ o. standsOn side o ≡ true → P o) book
 each-on P side book e =
-    each-kept P (standsOn side) book (each-sorted (ahead side) P (keep (standsOn side) book) (rw (sym (queue-is side book)) e))
+    each-kept P (standsOn side) book
+    (each-sorted (ahead side) P (keep (standsOn side) book) (rw (sym (queue-is side book)) e))
 
 -- and back
 pub on-each :
@@ -77,14 +81,20 @@ ordered side a (o ∷ os) f r = (
 )
 
 pub queue-ordered : (side : ℕ) (book : List Order) → Standing book → Ordered side (queue side book)
-queue-ordered side book s = ordered side 0 (queue side book) (queue-stands side book (s .fair)) (queue-rising side book s)
+queue-ordered side book s =
+    ordered side 0 (queue side book) (queue-stands side book (s .fair)) (queue-rising side book s)
 
 -- ---- the best price
 
 priced-on : (side : ℕ) (o : Order) → Stands side o → o .price ≡ 0 → ⊥
 priced-on side o h z = omega (arith, h .0 .priced (on-live side o (h .1)))
 
-ranks-follow : (side : ℕ) (o p : Order) → Stands side o → Stands side p → key o < key p → rank side (o .price) ≤ rank side (p .price)
+ranks-follow :
+    (side : ℕ) (o p : Order)
+    → Stands side o
+    → Stands side p
+    → key o < key p
+    → rank side (o .price) ≤ rank side (p .price)
 ranks-follow side o p h f l = omega (arith, key-on side o (h .1), key-on side p (f .1), h .0 .number, f .0 .number)
 
 module _ (side : ℕ) (book : List Order) where
@@ -102,7 +112,11 @@ module _ (side : ℕ) (book : List Order) where
       go (o ∷ os) h z = absurd (priced-on side o (h .0) z)
 
   -- what each price of the side has, the best one has
-  pub best-has : (P : ℕ → Type 0) → Each (λ o. P (o .price)) (queue side book) → (best side book ≡ 0 → ⊥) → P (best side book)
+  pub best-has :
+      (P : ℕ → Type 0)
+      → Each (λ o. P (o .price)) (queue side book)
+      → (best side book ≡ 0 → ⊥)
+      → P (best side book)
   unfolding best headPrice
   best-has P e n = go (queue side book) e n
     where
@@ -117,7 +131,8 @@ module _ (side : ℕ) (book : List Order) where
       go true e = omega (arith, eqb-true (best side book) 0 e)
       go false e =
           best-has (λ p. p ≤ 999_999)
-          (each (Stands side) (λ o. o .price ≤ 999_999) (queue side book) (λ o h. h .0 .price) (queue-stands side book f))
+          (each (Stands side) (λ o. o .price ≤ 999_999) (queue side book) (λ o h. h .0 .price)
+          (queue-stands side book f))
           (eqb-false (best side book) 0 e)
 
   -- no price of the side is better
@@ -125,7 +140,11 @@ module _ (side : ℕ) (book : List Order) where
   unfolding best headPrice
   best-ranks s = go (queue side book) (queue-stands side book (s .fair)) (queue-rising side book s)
     where
-      go : (q : List Order) → Each (Stands side) q → Rising key 0 q → Each (λ o. rank side (headPrice q) ≤ rank side (o .price)) q
+      go :
+          (q : List Order)
+          → Each (Stands side) q
+          → Rising key 0 q
+          → Each (λ o. rank side (headPrice q) ≤ rank side (o .price)) q
       go [] h r = tt
       go (o ∷ os) h r = (
         omega arith,
@@ -135,15 +154,20 @@ module _ (side : ℕ) (book : List Order) where
             (rising-over key (key o) (key o) os (omega arith) (r .1)),
       )
 
-  pub best-first : Standing book → Each (λ o. standsOn side o ≡ true → rank side (best side book) ≤ rank side (o .price)) book
+  pub best-first :
+      Standing book
+      → Each (λ o. standsOn side o ≡ true → rank side (best side book) ≤ rank side (o .price)) book
   best-first s = each-on (λ o. rank side (best side book) ≤ rank side (o .price)) side book (best-ranks s)
 
-  pub none-better : Standing book → Each (λ o. standsOn side o ≡ true → better side (o .price) (best side book) ≡ false) book
+  pub none-better :
+      Standing book
+      → Each (λ o. standsOn side o ≡ true → better side (o .price) (best side book) ≡ false) book
   none-better s =
       each-on (λ o. better side (o .price) (best side book) ≡ false) side book
       (both (Stands side) (λ o. rank side (best side book) ≤ rank side (o .price))
       (λ o. better side (o .price) (best side book) ≡ false) (queue side book)
-      (λ o h l. better-rank side (o .price) (best side book) (h .0 .price) (best-price (s .fair)) ∙ le-ltb (rank side (o .price)) (rank side (best side book)) l)
+      (λ o h l. better-rank side (o .price) (best side book) (h .0 .price) (best-price (s .fair))
+      ∙ le-ltb (rank side (o .price)) (rank side (best side book)) l)
       (queue-stands side book (s .fair))
       (best-ranks s))
 

@@ -1,17 +1,17 @@
 -- Buys and sells: when the best prices say that every buy is below every sell, and how trades and a new rest keep it so.
-use Prim.Native.Nat.{ℕ, zero, suc, _-_, _≤_, _<_, min, max}
+use Prim.Native.Nat.{ℕ, _-_, _≤_, _<_, min, max}
 use mathlib.Core.Path.{_≡_, refl, sym, ap, _∙_}
 use mathlib.Core.Bool.{Bool, true, false, cond, not, _&&_}
-use mathlib.Core.List.{List, [], _∷_, map}
+use mathlib.Core.List.{List, [], _∷_}
 use mathlib.Core.Logic.{_⊎_, inl, inr}
 use native.Mathlib.Omega.{arith}
 use lib.ListN.{set}
 use lib.Dec.{leb, eqb}
-use borrow.Author.Tests.{ne-eqb, eqb-true, eqb-false, leb-false, lt-leb}
+use borrow.Author.Tests.{ne-eqb, eqb-true, eqb-false, leb-false, lt-leb, le-ltb}
 use Rattle.model.specs.declared.Order.{Order}
 use Rattle.model.specs.declared.Trade.{Trade}
-use Rattle.model.specs.Book.{isLive, standsOn, other, best, free}
-use Rattle.model.specs.Matching.{meets, within, settle, rest}
+use Rattle.model.specs.Book.{standsOn, other, best, free}
+use Rattle.model.specs.Matching.{meets, within, filledOf, lessBy, settle, rest}
 use Rattle.model.specs.Sound.{crosses}
 use Rattle.book.specs.Standing.{Each, Fair, Standing}
 use Rattle.book.specs.Priority.{rank}
@@ -22,11 +22,18 @@ use Rattle.book.proofs.Finding.{rest-set}
 use Rattle.book.proofs.Kept.{Less, after, after-less, free-number, set-each}
 use Rattle.book.proofs.Best.{on-each, best-has, best-first, has-best}
 
+-- every sell is above a price, every buy below it
+abbrev pub SellsAbove : ℕ → List Order → Type 0
+SellsAbove p os = Each (λ (s : Order). standsOn 1 s ≡ true → p < s .price) os
+
+abbrev pub BuysBelow : ℕ → List Order → Type 0
+BuysBelow p os = Each (λ (b : Order). standsOn 0 b ≡ true → b .price < p) os
+
 -- every buy is below every sell
 abbrev pub Uncrossed : List Order → Type 0
 Uncrossed book =
     Each
-    (λ (b : Order). standsOn 0 b ≡ true → Each (λ (s : Order). standsOn 1 s ≡ true → b .price < s .price) book)
+    (λ (b : Order). standsOn 0 b ≡ true → SellsAbove (b .price) book)
     book
 
 buy-best : (p q : ℕ) → p ≤ 999_999 → rank 0 q ≤ rank 0 p → p ≤ q
@@ -47,10 +54,11 @@ module _ (book : List Order) where
   pub uncrossed : Standing book → crosses book ≡ false → Uncrossed book
   uncrossed s c =
       both (λ b. standsOn 0 b ≡ true → rank 0 (best 0 book) ≤ rank 0 (b .price)) Near
-      (λ b. standsOn 0 b ≡ true → Each (λ r. standsOn 1 r ≡ true → b .price < r .price) book) book
+      (λ b. standsOn 0 b ≡ true → SellsAbove (b .price) book) book
       (λ b l h t. sells b (l t) (h .0) (h .1 t))
       (best-first 0 book s)
-      (both Fair (λ b. standsOn 0 b ≡ true → best 0 book ≡ 0 → ⊥) Near book (λ b f n. (f .price, n)) (s .fair) (has-best 0 book (s .fair)))
+      (both Fair (λ b. standsOn 0 b ≡ true → best 0 book ≡ 0 → ⊥) Near book (λ b f n. (f .price, n)) (s .fair)
+      (has-best 0 book (s .fair)))
     where
       Near : Order → Type 0
       Near b = (b .price ≤ 999_999) × (standsOn 0 b ≡ true → best 0 book ≡ 0 → ⊥)
@@ -60,9 +68,10 @@ module _ (book : List Order) where
           → rank 0 (best 0 book) ≤ rank 0 (b .price)
           → b .price ≤ 999_999
           → (best 0 book ≡ 0 → ⊥)
-          → Each (λ r. standsOn 1 r ≡ true → b .price < r .price) book
+          → SellsAbove (b .price) book
       sells b l h n =
-          both (λ r. standsOn 1 r ≡ true → rank 1 (best 1 book) ≤ rank 1 (r .price)) (λ r. standsOn 1 r ≡ true → best 1 book ≡ 0 → ⊥)
+          both (λ r. standsOn 1 r ≡ true → rank 1 (best 1 book) ≤ rank 1 (r .price))
+          (λ r. standsOn 1 r ≡ true → best 1 book ≡ 0 → ⊥)
           (λ r. standsOn 1 r ≡ true → b .price < r .price) book
           (λ r k m t.
           let low : best 0 book < best 1 book = apart-best c n (m t) in
@@ -85,13 +94,14 @@ module _ (book : List Order) where
       go true e b f = refl
       go false e true f = refl
       go false e false f =
-          let below : Each (λ r. standsOn 1 r ≡ true → best 0 book < r .price) book =
-          best-has 0 book (λ p. Each (λ r. standsOn 1 r ≡ true → p < r .price) book)
-          (on-each (λ b. Each (λ r. standsOn 1 r ≡ true → b .price < r .price) book) 0 book u)
+          let below : SellsAbove (best 0 book) book =
+          best-has 0 book (λ p. SellsAbove p book)
+          (on-each (λ b. SellsAbove (b .price) book) 0 book u)
           (eqb-false (best 0 book) 0 e)
           in
           let low : best 0 book < best 1 book =
-          best-has 1 book (λ p. best 0 book < p) (on-each (λ r. best 0 book < r .price) 1 book below) (eqb-false (best 1 book) 0 f)
+          best-has 1 book (λ p. best 0 book < p) (on-each (λ r. best 0 book < r .price) 1 book below)
+          (eqb-false (best 1 book) 0 f)
           in
           lt-leb (best 1 book) (best 0 book) low
 
@@ -99,30 +109,57 @@ module _ (book : List Order) where
 
 module _ (ts : List Trade) where
   -- an order that stands after the trades stood before, at the same price
-  pub stood : (side : ℕ) (o : Order) → standsOn side (after ts o) ≡ true → Less o (after ts o) × (standsOn side o ≡ true)
+  pub stood :
+      (side : ℕ) (o : Order)
+      → standsOn side (after ts o) ≡ true
+      → Less o (after ts o) × (standsOn side o ≡ true)
   stood side o e = go (after-less ts o)
     where
       go : (after ts o ≡ free) ⊎ Less o (after ts o) → Less o (after ts o) × (standsOn side o ≡ true)
       go (inl z) = absurd (on-live side (after ts o) e (ap (λ (x : Order). x .number) z ∙ free-number))
       go (inr l) = (l, same-stand side o (after ts o) (l .side) (l .number) ∙ e)
 
-  -- what holds for the prices of a side holds after the trades
+  gone : (o : Order) → o .left ≤ filledOf (o .number) ts → after ts o ≡ free
+  unfolding lessBy
+  gone o h = rw (le-ltb (filledOf (o .number) ts) (o .left) h)
+
+  -- what holds for the prices of a side, or of those orders that are not wholly filled, holds after the trades
+  pub settle-others :
+      (side : ℕ) (P : ℕ → Type 0) (os : List Order)
+      → Each (λ o. standsOn side o ≡ true → P (o .price) ⊎ (o .left ≤ filledOf (o .number) ts)) os
+      → Each (λ o. standsOn side o ≡ true → P (o .price)) (settle ts os)
+  unfolding settle
+  settle-others side P [] e = tt
+  settle-others side P (o ∷ os) e = (λ t. go t (stood side o t), settle-others side P os (e .1))
+    where
+      pick :
+          standsOn side (after ts o) ≡ true
+          → o .price ≡ after ts o .price
+          → P (o .price) ⊎ (o .left ≤ filledOf (o .number) ts)
+          → P (after ts o .price)
+      pick t same (inl p) = rw (sym same) p
+      pick t same (inr l) =
+          absurd (on-live side (after ts o) t (ap (λ (x : Order). x .number) (gone o l) ∙ free-number))
+
+      go : standsOn side (after ts o) ≡ true → Less o (after ts o) × (standsOn side o ≡ true) → P (after ts o .price)
+      go t s = pick t (s .0 .price) (e .0 (s .1))
+
   pub settle-prices :
       (side : ℕ) (P : ℕ → Type 0) (os : List Order)
       → Each (λ o. standsOn side o ≡ true → P (o .price)) os
       → Each (λ o. standsOn side o ≡ true → P (o .price)) (settle ts os)
-  unfolding settle
-  settle-prices side P [] e = tt
-  settle-prices side P (o ∷ os) e = (
-    λ t. let s : Less o (after ts o) × (standsOn side o ≡ true) = stood side o t in rw (sym (s .0 .price)) (e .0 (s .1)),
-    settle-prices side P os (e .1),
-  )
+  settle-prices side P os e =
+      settle-others side P os
+      (each (λ o. standsOn side o ≡ true → P (o .price))
+      (λ o. standsOn side o ≡ true → P (o .price) ⊎ (o .left ≤ filledOf (o .number) ts)) os
+      (λ o f t. inl (f t))
+      e)
 
   pub uncrossed-settle : (book : List Order) → Uncrossed book → Uncrossed (settle ts book)
   uncrossed-settle book u =
-      settle-prices 0 (λ p. Each (λ (s : Order). standsOn 1 s ≡ true → p < s .price) (settle ts book)) book
-      (each (λ (b : Order). standsOn 0 b ≡ true → Each (λ (s : Order). standsOn 1 s ≡ true → b .price < s .price) book)
-      (λ (b : Order). standsOn 0 b ≡ true → Each (λ (s : Order). standsOn 1 s ≡ true → b .price < s .price) (settle ts book))
+      settle-prices 0 (λ p. SellsAbove p (settle ts book)) book
+      (each (λ (b : Order). standsOn 0 b ≡ true → SellsAbove (b .price) book)
+      (λ (b : Order). standsOn 0 b ≡ true → SellsAbove (b .price) (settle ts book))
       book
       (λ b f t. settle-prices 1 (λ p. b .price < p) book (f t))
       u)
@@ -133,33 +170,44 @@ module _ (ts : List Trade) where
 abbrev pub Unmet : ℕ → ℕ → List Order → Type 0
 Unmet side price os = Each (λ (o : Order). standsOn (other side) o ≡ true → meets side price (o .price) ≡ false) os
 
-unmet-buy : (price : ℕ) (os : List Order) → Unmet 0 price os → Each (λ (s : Order). standsOn 1 s ≡ true → price < s .price) os
+unmet-buy :
+    (price : ℕ) (os : List Order)
+    → Unmet 0 price os
+    → SellsAbove price os
 unfolding other meets
 unmet-buy price os u =
-    each (λ (o : Order). standsOn 1 o ≡ true → leb (o .price) price ≡ false) (λ (o : Order). standsOn 1 o ≡ true → price < o .price) os
+    each (λ (o : Order). standsOn 1 o ≡ true → leb (o .price) price ≡ false)
+    (λ (o : Order). standsOn 1 o ≡ true → price < o .price) os
     (λ o f t. leb-false (o .price) price (f t))
     u
 
-unmet-sell : (price : ℕ) (os : List Order) → Unmet 1 price os → Each (λ (b : Order). standsOn 0 b ≡ true → b .price < price) os
+unmet-sell :
+    (price : ℕ) (os : List Order)
+    → Unmet 1 price os
+    → BuysBelow price os
 unfolding other meets
 unmet-sell price os u =
-    each (λ (o : Order). standsOn 0 o ≡ true → leb price (o .price) ≡ false) (λ (o : Order). standsOn 0 o ≡ true → o .price < price) os
+    each (λ (o : Order). standsOn 0 o ≡ true → leb price (o .price) ≡ false)
+    (λ (o : Order). standsOn 0 o ≡ true → o .price < price) os
     (λ o f t. leb-false price (o .price) (f t))
     u
 
 module _ (x : Order) (book : List Order) (unmet : Unmet (x .side) (x .price) book) where
   -- as a buy it is below every sell, as a sell above every buy
-  below : standsOn 0 x ≡ true → Each (λ (s : Order). standsOn 1 s ≡ true → x .price < s .price) book
+  below : standsOn 0 x ≡ true → SellsAbove (x .price) book
   below t = unmet-buy (x .price) book (rw (sym (on-side 0 x t)) unmet)
 
-  above : standsOn 1 x ≡ true → Each (λ (b : Order). standsOn 0 b ≡ true → b .price < x .price) book
+  above : standsOn 1 x ≡ true → BuysBelow (x .price) book
   above t = unmet-sell (x .price) book (rw (sym (on-side 1 x t)) unmet)
 
   one-side : standsOn 0 x ≡ true → standsOn 1 x ≡ true → ⊥
   one-side a b = omega (arith, on-side 0 x a, on-side 1 x b)
 
   -- the fact for every buy, whichever side x is on
-  above-each : (b : Bool) → standsOn 1 x ≡ b → Each (λ (o : Order). standsOn 0 o ≡ true → standsOn 1 x ≡ true → o .price < x .price) book
+  above-each :
+      (b : Bool)
+      → standsOn 1 x ≡ b
+      → Each (λ (o : Order). standsOn 0 o ≡ true → standsOn 1 x ≡ true → o .price < x .price) book
   above-each true e =
       each (λ (o : Order). standsOn 0 o ≡ true → o .price < x .price)
       (λ (o : Order). standsOn 0 o ≡ true → standsOn 1 x ≡ true → o .price < x .price) book
@@ -172,13 +220,13 @@ module _ (x : Order) (book : List Order) (unmet : Unmet (x .side) (x .price) boo
   pub uncrossed-rest : Uncrossed book → Uncrossed (rest x book)
   uncrossed-rest u =
       rw (rest-set x book)
-      (set-each (λ (b : Order). standsOn 0 b ≡ true → Each (λ (s : Order). standsOn 1 s ≡ true → b .price < s .price) (set book i x)) book
+      (set-each (λ (b : Order). standsOn 0 b ≡ true → SellsAbove (b .price) (set book i x)) book
       i x
       (λ t.
       set-each (λ (s : Order). standsOn 1 s ≡ true → x .price < s .price) book i x (λ v. absurd (one-side t v)) (below t))
-      (both (λ (b : Order). standsOn 0 b ≡ true → Each (λ (s : Order). standsOn 1 s ≡ true → b .price < s .price) book)
+      (both (λ (b : Order). standsOn 0 b ≡ true → SellsAbove (b .price) book)
       (λ (b : Order). standsOn 0 b ≡ true → standsOn 1 x ≡ true → b .price < x .price)
-      (λ (b : Order). standsOn 0 b ≡ true → Each (λ (s : Order). standsOn 1 s ≡ true → b .price < s .price) (set book i x))
+      (λ (b : Order). standsOn 0 b ≡ true → SellsAbove (b .price) (set book i x))
       book
       (λ b f g t. set-each (λ (s : Order). standsOn 1 s ≡ true → b .price < s .price) book i x (g t) (f t))
       u
@@ -189,36 +237,48 @@ module _ (x : Order) (book : List Order) (unmet : Unmet (x .side) (x .price) boo
 
 -- ---- prices that nobody meets
 
-buy-unmet : (price : ℕ) (os : List Order) → Each (λ (s : Order). standsOn 1 s ≡ true → price < s .price) os → Unmet 0 price os
+buy-unmet :
+    (price : ℕ) (os : List Order)
+    → SellsAbove price os
+    → Unmet 0 price os
 unfolding other meets
 buy-unmet price os u =
-    each (λ (o : Order). standsOn 1 o ≡ true → price < o .price) (λ (o : Order). standsOn 1 o ≡ true → leb (o .price) price ≡ false) os
+    each (λ (o : Order). standsOn 1 o ≡ true → price < o .price)
+    (λ (o : Order). standsOn 1 o ≡ true → leb (o .price) price ≡ false) os
     (λ o f t. lt-leb (o .price) price (f t))
     u
 
-sell-unmet : (price : ℕ) (os : List Order) → Each (λ (b : Order). standsOn 0 b ≡ true → b .price < price) os → Unmet 1 price os
+sell-unmet :
+    (price : ℕ) (os : List Order)
+    → BuysBelow price os
+    → Unmet 1 price os
 unfolding other meets
 sell-unmet price os u =
-    each (λ (o : Order). standsOn 0 o ≡ true → o .price < price) (λ (o : Order). standsOn 0 o ≡ true → leb price (o .price) ≡ false) os
+    each (λ (o : Order). standsOn 0 o ≡ true → o .price < price)
+    (λ (o : Order). standsOn 0 o ≡ true → leb price (o .price) ≡ false) os
     (λ o f t. lt-leb price (o .price) (f t))
     u
 
 -- the own best price, where every buy is below every sell
 pub best-unmet :
-    (side : ℕ) (book : List Order) → side ≤ 1 → (best side book ≡ 0 → ⊥) → Uncrossed book → Unmet side (best side book) book
+    (side : ℕ) (book : List Order)
+    → side ≤ 1
+    → (best side book ≡ 0 → ⊥)
+    → Uncrossed book
+    → Unmet side (best side book) book
 best-unmet side book h n u = go (eqb side 0) refl
   where
     buys : (best 0 book ≡ 0 → ⊥) → Unmet 0 (best 0 book) book
     buys n =
         buy-unmet (best 0 book) book
-        (best-has 0 book (λ p. Each (λ s. standsOn 1 s ≡ true → p < s .price) book)
-        (on-each (λ b. Each (λ s. standsOn 1 s ≡ true → b .price < s .price) book) 0 book u)
+        (best-has 0 book (λ p. SellsAbove p book)
+        (on-each (λ b. SellsAbove (b .price) book) 0 book u)
         n)
 
     sells : (best 1 book ≡ 0 → ⊥) → Unmet 1 (best 1 book) book
     sells n =
         sell-unmet (best 1 book) book
-        (each (λ (b : Order). standsOn 0 b ≡ true → Each (λ s. standsOn 1 s ≡ true → b .price < s .price) book)
+        (each (λ (b : Order). standsOn 0 b ≡ true → SellsAbove (b .price) book)
         (λ (b : Order). standsOn 0 b ≡ true → b .price < best 1 book) book
         (λ b f t. best-has 1 book (λ p. b .price < p) (on-each (λ s. b .price < s .price) 1 book (f t)) n)
         u)
@@ -236,7 +296,10 @@ unmet-within-one : (side limit p q : ℕ) → meets side p q ≡ false → meets
 unfolding meets within
 unmet-within-one side limit p q e = go (eqb side 0) e
   where
-    go : (b : Bool) → cond b (leb q p) (leb p q) ≡ false → cond b (leb q (cond b (min p limit) (max p limit))) (leb (cond b (min p limit) (max p limit)) q) ≡ false
+    go :
+        (b : Bool)
+        → cond b (leb q p) (leb p q) ≡ false
+        → cond b (leb q (cond b (min p limit) (max p limit))) (leb (cond b (min p limit) (max p limit)) q) ≡ false
     go true e = lt-leb q (min p limit) (omega (arith, leb-false q p e))
     go false e = lt-leb (max p limit) q (omega (arith, leb-false p q e))
 
@@ -249,5 +312,8 @@ unmet-within side limit p os u =
     u
 
 -- after trades nobody meets what nobody met
-pub unmet-settle : (ts : List Trade) (side p : ℕ) (book : List Order) → Unmet side p book → Unmet side p (settle ts book)
+pub unmet-settle :
+    (ts : List Trade) (side p : ℕ) (book : List Order)
+    → Unmet side p book
+    → Unmet side p (settle ts book)
 unmet-settle ts side p book u = settle-prices ts (other side) (λ q. meets side p q ≡ false) book u

@@ -1,14 +1,14 @@
 -- Laws of the first place that passes a test: how a walk finds it, when there is one, and the book with that place set.
-use Prim.Native.Nat.{ℕ, zero, suc, _+_, _-_, _≤_, _<_}
+use Prim.Native.Nat.{ℕ, suc, _+_, _-_, _≤_, _<_}
 use mathlib.Core.Path.{_≡_, refl, sym, ap, _∙_}
 use mathlib.Core.Bool.{Bool, true, false, cond, not, _&&_, _||_}
 use mathlib.Core.List.{List, [], _∷_, map}
 use native.Mathlib.Omega.{arith}
 use native.Mathlib.Numerals.{add-one}
-use lib.ListN.{length, length-map, drop, getD, set}
+use lib.ListN.{length, drop, getD, set}
 use lib.Seq.{drop-cons, drop-length}
 use lib.Dec.{ltb, eqb}
-use borrow.Author.Tests.{lt-ltb, le-ltb, eqb-true, eq-eqb, ne-eqb}
+use borrow.Author.Tests.{lt-ltb, le-ltb, eqb-true}
 use Rattle.model.specs.declared.Order.{Order}
 use Rattle.model.specs.Choice.{if_then_else_}
 use Rattle.model.specs.Lists.{keep, all, any, total}
@@ -40,7 +40,9 @@ module _ (p : Order → Bool) where
   pub passed-none : (rows : List (List ℕ)) → Passed rows 0
   passed-none rows = (omega arith, omega arith)
 
-  module _ (rows : List (List ℕ)) (i : ℕ) (o : Order) (h : i < length rows) (e : o ≡ orderOf (getD rows i [])) (w : Passed rows i) where
+  module _
+      (rows : List (List ℕ)) (i : ℕ) (o : Order)
+      (h : i < length rows) (e : o ≡ orderOf (getD rows i [])) (w : Passed rows i) where
     here : bookOf (drop i rows) ≡ o ∷ bookOf (drop (suc i) rows)
     here = ap bookOf (drop-cons rows i [] h) ∙ ap (λ (x : Order). x ∷ bookOf (drop (suc i) rows)) (sym e)
 
@@ -51,7 +53,8 @@ module _ (p : Order → Bool) where
     passed-more t =
         let next : bookOf (drop (i + 1) rows) ≡ bookOf (drop (suc i) rows) = ap (λ (n : ℕ). bookOf (drop n rows)) (add-one i) in (
           omega arith,
-          omega (arith, ap (firstWith p) here, first-later o (bookOf (drop (suc i) rows)) t, ap (firstWith p) next, w .1),
+          omega
+              (arith, ap (firstWith p) here, first-later o (bookOf (drop (suc i) rows)) t, ap (firstWith p) next, w .1),
         )
 
   pub passed-all : (rows : List (List ℕ)) (i : ℕ) → length rows ≤ i → Passed rows i → i ≡ firstWith p (bookOf rows)
@@ -77,11 +80,15 @@ module _ (p : Order → Bool) where
   any-first [] = refl
   any-first (o ∷ os) = go (p o) (any-first os)
     where
-      go : (b : Bool) → any p os ≡ ltb (firstWith p os) (length os) → b || any p os ≡ ltb (cond b 0 (suc (firstWith p os))) (suc (length os))
+      go :
+          (b : Bool)
+          → any p os ≡ ltb (firstWith p os) (length os)
+          → b || any p os ≡ ltb (cond b 0 (suc (firstWith p os))) (suc (length os))
       go true h = sym (lt-ltb 0 (suc (length os)) (omega arith))
       go false h =
           h
-          ∙ ltb-same (firstWith p os) (length os) (suc (firstWith p os)) (suc (length os)) (λ l. omega arith) (λ l. omega arith)
+          ∙ ltb-same (firstWith p os) (length os) (suc (firstWith p os)) (suc (length os)) (λ l. omega arith)
+          (λ l. omega arith)
 
 -- ---- a free place
 
@@ -137,7 +144,9 @@ rest-rows o rows rows′ place p e =
     let there : rows′ ≡ set rows (lowestFree (bookOf rows)) (rowOf o) = e ∙ ap (λ (n : ℕ). set rows n (rowOf o)) p in
     (there, ap bookOf there ∙ book-set rows (lowestFree (bookOf rows)) o ∙ sym (rest-set o (bookOf rows)))
 
-pub rest-of-rows : (o : Order) (book : List Order) → set (rowsOf book) (lowestFree book) (rowOf o) ≡ rowsOf (rest o book)
+pub rest-of-rows :
+    (o : Order) (book : List Order)
+    → set (rowsOf book) (lowestFree book) (rowOf o) ≡ rowsOf (rest o book)
 rest-of-rows o book = sym (rows-set book (lowestFree book) o) ∙ ap rowsOf (sym (rest-set o book))
 
 -- ---- an account's own order
@@ -156,11 +165,17 @@ module _ (account number : ℕ) where
       let f : (isLive o && eqb (o .number) number ≡ true) × (eqb (o .account) account ≡ true) =
       and-both (isLive o && eqb (o .number) number) (eqb (o .account) account) e
       in
-      let g : (isLive o ≡ true) × (eqb (o .number) number ≡ true) = and-both (isLive o) (eqb (o .number) number) (f .0) in
+      let g : (isLive o ≡ true) × (eqb (o .number) number ≡ true) =
+      and-both (isLive o) (eqb (o .number) number) (f .0)
+      in
       (eqb-true (o .number) number (g .1), live-number o (g .0))
 
   -- where one order is the account's, no other one with another number is
-  others : (o : Order) (os : List Order) → own o ≡ true → Each (λ p. p .number ≡ o .number → o .number ≡ 0) os → Each (λ p. own p ≡ false) os
+  others :
+      (o : Order) (os : List Order)
+      → own o ≡ true
+      → Each (λ p. p .number ≡ o .number → o .number ≡ 0) os
+      → Each (λ p. own p ≡ false) os
   others o os e a =
       each (λ p. p .number ≡ o .number → o .number ≡ 0) (λ p. own p ≡ false) os (λ p n. go p n (own p) refl) a
     where
@@ -206,6 +221,7 @@ module _ (account number : ℕ) where
           → total (λ x. x .left) (keep own os) ≡ getD os (firstWith own os) free .left
           → total (λ x. x .left) (keep own (o ∷ os)) ≡ getD (o ∷ os) (cond b 0 (suc (firstWith own os))) free .left
       go true e h =
-          ap (total (λ x. x .left)) (keep-true own o os e ∙ ap (λ (l : List Order). o ∷ l) (keep-none own os (others o os e (a .0))))
+          ap (total (λ x. x .left))
+          (keep-true own o os e ∙ ap (λ (l : List Order). o ∷ l) (keep-none own os (others o os e (a .0))))
           ∙ unfold total in omega arith
       go false e h = ap (total (λ x. x .left)) (keep-false own o os e) ∙ h

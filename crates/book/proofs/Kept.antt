@@ -1,12 +1,12 @@
 -- A book that stands keeps standing: after trades, after a new rest, with a place set free, and when it is cleared.
 use Prim.Native.Nat.{ℕ, zero, suc, _+_, _-_, _≤_, _<_}
 use mathlib.Core.Path.{_≡_, refl, sym, ap, _∙_}
-use mathlib.Core.Bool.{Bool, true, false, cond, not}
+use mathlib.Core.Bool.{Bool, true, false, cond}
 use mathlib.Core.List.{List, [], _∷_, map}
 use mathlib.Core.Logic.{_⊎_, inl, inr}
 use native.Mathlib.Omega.{arith}
 use lib.ListN.{length, length-map, length-set, set}
-use lib.Dec.{ltb, eqb}
+use lib.Dec.{ltb}
 use borrow.Author.Tests.{ltb-true}
 use Rattle.model.specs.declared.Order.{Order}
 use Rattle.model.specs.declared.Trade.{Trade}
@@ -59,7 +59,11 @@ set-apart (p ∷ os) (suc i) o f a = (
 )
 
 pub standing-set :
-    (book : List Order) (place : ℕ) (o : Order) → Fair o → Fresh (o .number) book → Standing book → Standing (set book place o)
+    (book : List Order) (place : ℕ) (o : Order)
+    → Fair o
+    → Fresh (o .number) book
+    → Standing book
+    → Standing (set book place o)
 standing-set book place o h f s =
     record {
       fair = set-each Fair book place o h (s .fair);
@@ -67,13 +71,19 @@ standing-set book place o h f s =
       few = rw (length-set book place o) (s .few);
     }
 
-pub standing-rest : (o : Order) (book : List Order) → Fair o → Fresh (o .number) book → Standing book → Standing (rest o book)
+pub standing-rest :
+    (o : Order) (book : List Order)
+    → Fair o
+    → Fresh (o .number) book
+    → Standing book
+    → Standing (rest o book)
 standing-rest o book h f s = rw (rest-set o book) (standing-set book (lowestFree book) o h f s)
 
 pub standing-free : (book : List Order) (place : ℕ) → Standing book → Standing (set book place free)
 unfolding free
 standing-free book place s =
-    standing-set book place free fair-free (each Fair (λ (p : Order). p .number ≡ 0 → 0 ≡ 0) book (λ p h e. refl) (s .fair)) s
+    standing-set book place free fair-free
+    (each Fair (λ (p : Order). p .number ≡ 0 → 0 ≡ 0) book (λ p h e. refl) (s .fair)) s
 
 -- ---- each place changed
 
@@ -195,6 +205,7 @@ standing-cleared book h =
     all-apart : (os : List Order) → Apart (map (λ (o : Order). free) os)
     all-apart [] = tt
     all-apart (o ∷ os) = (
-      every (λ (p : Order). p .number ≡ free .number → free .number ≡ 0) (map (λ (x : Order). free) os) (λ p e. free-number),
+      every (λ (p : Order). p .number ≡ free .number → free .number ≡ 0) (map (λ (x : Order). free) os)
+          (λ p e. free-number),
       all-apart os,
     )

@@ -1,8 +1,8 @@
 -- Laws of the parts of a list that a test keeps, of what holds for each element, and of totals.
 use Prim.Native.Nat.{ℕ, zero, suc, _+_, _≤_, _<_}
-use mathlib.Core.Path.{_≡_, refl, sym, ap, _∙_}
+use mathlib.Core.Path.{_≡_, refl, ap, _∙_}
 use mathlib.Core.Bool.{Bool, true, false, cond, _&&_}
-use mathlib.Core.List.{List, [], _∷_, map}
+use mathlib.Core.List.{List, [], _∷_}
 use native.Mathlib.Omega.{arith}
 use native.Mathlib.Nat.{not-suc-le-zero, le-of-suc-le-suc}
 use lib.ListN.{length, getD, set}
@@ -71,7 +71,10 @@ module _ {A : Type 0} where
   kept p (x ∷ xs) = go (p x) refl (kept p xs)
     where
       go :
-          (t : Bool) → p x ≡ t → Each (λ y. p y ≡ true) (keep p xs) → Each (λ y. p y ≡ true) (cond t (x ∷ keep p xs) (keep p xs))
+          (t : Bool)
+          → p x ≡ t
+          → Each (λ y. p y ≡ true) (keep p xs)
+          → Each (λ y. p y ≡ true) (cond t (x ∷ keep p xs) (keep p xs))
       go true e h = (e, h)
       go false e h = h
 
@@ -110,13 +113,17 @@ module _ {A : Type 0} where
   total-keep f p (x ∷ xs) = go (p x) (total-keep f p xs)
     where
       go :
-          (b : Bool) → total f (keep p xs) ≤ total f xs → total f (cond b (x ∷ keep p xs) (keep p xs)) ≤ f x + total f xs
+          (b : Bool)
+          → total f (keep p xs) ≤ total f xs
+          → total f (cond b (x ∷ keep p xs) (keep p xs)) ≤ f x + total f xs
       go true h = omega arith
       go false h = omega arith
 
   -- another element at a place
   pub total-set :
-      (f : A → ℕ) (xs : List A) (i : ℕ) (x d : A) → i < length xs → total f (set xs i x) + f (getD xs i d) ≡ total f xs + f x
+      (f : A → ℕ) (xs : List A) (i : ℕ) (x d : A)
+      → i < length xs
+      → total f (set xs i x) + f (getD xs i d) ≡ total f xs + f x
   unfolding total
   total-set f [] i x d h = absurd (not-suc-le-zero h)
   total-set f (y ∷ xs) zero x d h = omega arith

@@ -1,6 +1,6 @@
 -- Rows and records: a place read or set, either way.
 use Prim.Native.Nat.{ℕ, zero, suc}
-use mathlib.Core.Path.{_≡_, refl, sym, ap, _∙_}
+use mathlib.Core.Path.{_≡_, refl, sym, ap}
 use mathlib.Core.List.{List, [], _∷_, map}
 use lib.ListN.{getD, set, List·getD-map}
 use Rattle.model.specs.declared.Order.{Order}
@@ -24,5 +24,7 @@ pub book-set :
     (rows : List (List ℕ)) (place : ℕ) (o : Order) → bookOf (set rows place (rowOf o)) ≡ set (bookOf rows) place o
 book-set rows place o = map-set orderOf rows place (rowOf o)
 
-pub rows-set : (book : List Order) (place : ℕ) (o : Order) → rowsOf (set book place o) ≡ set (rowsOf book) place (rowOf o)
+pub rows-set :
+    (book : List Order) (place : ℕ) (o : Order)
+    → rowsOf (set book place o) ≡ set (rowsOf book) place (rowOf o)
 rows-set book place o = map-set rowOf book place o

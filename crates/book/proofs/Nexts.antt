@@ -1,14 +1,14 @@
 -- The laws behind `next_after`: which order counts, which of two is sooner, and that the soonest that counts is the first of
 -- the queue past the key.
-use Prim.Native.Nat.{ℕ, zero, suc, _+_, _-_, _≤_, _<_}
+use Prim.Native.Nat.{ℕ, zero, suc, _-_, _≤_, _<_}
 use mathlib.Core.Path.{_≡_, refl, sym, ap, _∙_}
-use mathlib.Core.Bool.{Bool, true, false, cond, not, _&&_, and-false}
-use mathlib.Core.List.{List, [], _∷_, map}
+use mathlib.Core.Bool.{Bool, true, false, cond, and-false}
+use mathlib.Core.List.{List, [], _∷_}
 use native.Mathlib.Omega.{arith}
 use native.Mathlib.Nat.{not-suc-le-zero, le-of-suc-le-suc}
 use lib.ListN.{length, getD, drop}
 use lib.Seq.{drop-cons, drop-length}
-use lib.Dec.{ltb, eqb}
+use lib.Dec.{ltb}
 use borrow.Author.Tests.{eq-eqb, ne-eqb, le-ltb, lt-ltb}
 use Rattle.model.specs.declared.Order.{Order}
 use Rattle.model.specs.Lists.{keep}
@@ -18,8 +18,8 @@ use Rattle.book.specs.declared.Next.the-variants.{At, Nothing}
 use Rattle.book.specs.Rows.{orderOf, bookOf}
 use Rattle.book.specs.Standing.{Each, Fair}
 use Rattle.book.specs.Priority.{key, isPast, beyond, nextOf, counts, sooner}
-use Rattle.book.proofs.Lists.{keep-keep, keep-all, kept, each}
-use Rattle.book.proofs.Sorting.{insertBy, sortBy, byKey, over, keep-sort, each-sort}
+use Rattle.book.proofs.Lists.{keep-keep, keep-all, each}
+use Rattle.book.proofs.Sorting.{insertBy, sortBy, byKey, over, keep-sort}
 use Rattle.book.proofs.Queues.{queue-keyed, on-live, queue-stands, key-positive}
 
 -- ---- which of two is sooner
@@ -166,13 +166,20 @@ unfolding nextOf headPrice
 best-none [] next e n = refl
 best-none (o ∷ os) next e n = let z : _≡_ {A = ℕ} 0 1 = cc in absurd (omega arith)
 
-pub best-first : (q : List Order) (next : Next) (o : Order) (k : ℕ) → next ≡ nextOf q → next ≡ At o k → o .price ≡ headPrice q
+pub best-first :
+    (q : List Order) (next : Next) (o : Order) (k : ℕ)
+    → next ≡ nextOf q
+    → next ≡ At o k
+    → o .price ≡ headPrice q
 unfolding nextOf headPrice
 best-first [] next o k e n = let z : _≡_ {A = ℕ} 0 1 = cc in absurd (omega arith)
 best-first (p ∷ os) next o k e n = let same : o ≡ p = cc in ap (λ (x : Order). x .price) same
 
 -- every key of a queue is past 0
-pub past-zero : (side : ℕ) (book : List Order) → Each Fair book → headPrice (beyond 0 (queue side book)) ≡ best side book
+pub past-zero :
+    (side : ℕ) (book : List Order)
+    → Each Fair book
+    → headPrice (beyond 0 (queue side book)) ≡ best side book
 unfolding best beyond
 past-zero side book f =
     ap headPrice

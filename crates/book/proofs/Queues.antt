@@ -1,16 +1,16 @@
--- The queue of a side: priority is the smaller key, the keys of a sound book's queue rise, and nothing of the side is missing.
-use Prim.Native.Nat.{ℕ, zero, suc, _+_, _-_, _*_, _≤_, _<_}
+-- The queue of a side: priority is the smaller key, the keys of a sound book's queue rise, and nothing of the side is
+-- missing.
+use Prim.Native.Nat.{ℕ, _+_, _-_, _*_, _≤_, _<_}
 use mathlib.Core.Path.{_≡_, refl, sym, ap, _∙_}
 use mathlib.Core.Bool.{Bool, true, false, cond, not, _&&_, _||_}
-use mathlib.Core.List.{List, [], _∷_, map}
+use mathlib.Core.List.{List, [], _∷_}
 use native.Mathlib.Omega.{arith}
-use lib.ListN.{length, length-map}
+use lib.ListN.{length}
 use lib.Dec.{ltb, eqb}
 use borrow.Author.Tests.{eq-eqb, ne-eqb, eqb-true, eqb-false, le-ltb, lt-ltb, ltb-true, ltb-false}
 use Rattle.model.specs.declared.Order.{Order}
 use Rattle.model.specs.Lists.{keep, total}
 use Rattle.model.specs.Book.{isLive, standsOn, better, ahead, insert, inPriority, queue}
-use Rattle.book.specs.Rows.{bookOf}
 use Rattle.book.specs.Standing.{Each, Fair, Apart, Standing}
 use Rattle.book.specs.Priority.{rank, key, isPast, beyond}
 use Rattle.book.proofs.Lists.{both, each, each-keep, kept, length-keep}
@@ -54,7 +54,11 @@ pub on-side : (side : ℕ) (o : Order) → standsOn side o ≡ true → o .side 
 unfolding standsOn
 on-side side o e = eqb-true (o .side) side (and-both (isLive o) (eqb (o .side) side) e .1)
 
-pub same-stand : (side : ℕ) (o p : Order) → o .side ≡ p .side → o .number ≡ p .number → standsOn side o ≡ standsOn side p
+pub same-stand :
+    (side : ℕ) (o p : Order)
+    → o .side ≡ p .side
+    → o .number ≡ p .number
+    → standsOn side o ≡ standsOn side p
 unfolding standsOn isLive
 same-stand side o p s n =
     ap (λ (x : ℕ). not (eqb x 0) && eqb (o .side) side) n ∙ ap (λ (x : ℕ). not (eqb (p .number) 0) && eqb x side) s
@@ -86,10 +90,22 @@ rank-apart side p q hp hq e = go (eqb side 0) e
     go false e = e
 
 -- price before number, as one number
-ranked : (r s m n : ℕ) (same : Bool) → (same ≡ true → r ≡ s) → (same ≡ false → r ≡ s → ⊥) → m ≤ 999_999 → n ≤ 999_999 → ltb r s || (same && ltb m n) ≡ ltb (r * 1_000_000 + m) (s * 1_000_000 + n)
+ranked :
+    (r s m n : ℕ) (same : Bool)
+    → (same ≡ true → r ≡ s)
+    → (same ≡ false → r ≡ s → ⊥)
+    → m ≤ 999_999
+    → n ≤ 999_999
+    → ltb r s || (same && ltb m n) ≡ ltb (r * 1_000_000 + m) (s * 1_000_000 + n)
 ranked r s m n same f g hm hn = go (ltb r s) refl same f g
   where
-    go : (a : Bool) → ltb r s ≡ a → (b : Bool) → (b ≡ true → r ≡ s) → (b ≡ false → r ≡ s → ⊥) → a || (b && ltb m n) ≡ ltb (r * 1_000_000 + m) (s * 1_000_000 + n)
+    go :
+        (a : Bool)
+        → ltb r s ≡ a
+        → (b : Bool)
+        → (b ≡ true → r ≡ s)
+        → (b ≡ false → r ≡ s → ⊥)
+        → a || (b && ltb m n) ≡ ltb (r * 1_000_000 + m) (s * 1_000_000 + n)
     go true e b f g =
         let l : r < s = ltb-true r s e in
         sym (lt-ltb (r * 1_000_000 + m) (s * 1_000_000 + n) (omega arith))

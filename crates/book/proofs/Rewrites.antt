@@ -1,5 +1,5 @@
 -- A book rewritten place by place: what the rows are halfway, and at the end.
-use Prim.Native.Nat.{ℕ, zero, suc, _+_, _≤_, _<_}
+use Prim.Native.Nat.{ℕ, suc, _+_, _≤_, _<_}
 use mathlib.Core.Path.{_≡_, refl, sym, ap, _∙_}
 use mathlib.Core.List.{List, [], _∷_, _++_, map, append-nil}
 use native.Mathlib.Omega.{arith}
@@ -41,8 +41,10 @@ module _ (f : Order → Order) (rows : List (List ℕ)) where
   set-next : (i : ℕ) → i < length rows → set (halfway f i rows) i (rowBy f (getD rows i [])) ≡ halfway f (i + 1) rows
   unfolding halfway
   set-next i h =
-      ap (λ (t : List (List ℕ)). set (map (rowBy f) (take i rows) ++ t) i (rowBy f (getD rows i []))) (drop-cons rows i [] h)
-      ∙ set-at (map (rowBy f) (take i rows)) (getD rows i []) (drop (suc i) rows) (rowBy f (getD rows i [])) i (front-long i h)
+      ap (λ (t : List (List ℕ)). set (map (rowBy f) (take i rows) ++ t) i (rowBy f (getD rows i [])))
+      (drop-cons rows i [] h)
+      ∙ set-at (map (rowBy f) (take i rows)) (getD rows i []) (drop (suc i) rows) (rowBy f (getD rows i [])) i
+      (front-long i h)
       ∙ sym (one-more (take i rows) (getD rows i []) (drop (suc i) rows))
       ∙ ap (λ (t : List (List ℕ)). map (rowBy f) t ++ drop (suc i) rows) (sym (take-suc rows i [] h))
       ∙ ap (λ (k : ℕ). map (rowBy f) (take k rows) ++ drop k rows) (sym (add-one i))

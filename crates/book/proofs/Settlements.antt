@@ -1,13 +1,12 @@
 -- What trades leave of an order: one trade after the other, and the order then.
-use Prim.Native.Nat.{ℕ, zero, suc, _+_, _-_, _≤_, _<_}
+use Prim.Native.Nat.{ℕ, _+_, _-_, _≤_, _<_}
 use mathlib.Core.Path.{_≡_, refl, sym, ap, _∙_}
-use mathlib.Core.Bool.{Bool, true, false, cond, _||_}
+use mathlib.Core.Bool.{Bool, true, false, cond}
 use mathlib.Core.List.{List, [], _∷_, _++_, map}
 use native.Mathlib.Omega.{arith}
 use native.Mathlib.Numerals.{add-one}
 use lib.ListN.{length, take, getD}
 use lib.Seq.{take-suc}
-use lib.Dec.{ltb, eqb}
 use borrow.Author.Tests.{lt-ltb, le-ltb}
 use Rattle.model.specs.declared.Order.{Order}
 use Rattle.model.specs.declared.Trade.{Trade}
@@ -111,7 +110,8 @@ pub less-some :
     (q left : ℕ) (o : Order)
     → left ≡ o .left - q
     → (left ≡ 0 → ⊥)
-    → _≡_ {A = Order} (record { side = o .side; account = o .account; left = left; price = o .price; number = o .number })
+    → _≡_ {A = Order}
+    (record { side = o .side; account = o .account; left = left; price = o .price; number = o .number })
     (lessBy q o)
 unfolding lessBy
 less-some q left o e n =

@@ -2,8 +2,7 @@
 use Prim.Native.Nat.{ℕ, zero, suc, _+_, _-_, _≤_, _<_}
 use mathlib.Core.Path.{_≡_, refl, sym, ap, _∙_}
 use mathlib.Core.Bool.{Bool, true, false, cond, not, _||_}
-use mathlib.Core.List.{List, [], _∷_, map}
-use mathlib.Core.Logic.{_⊎_, inl, inr}
+use mathlib.Core.List.{List, [], _∷_}
 use native.Mathlib.Omega.{arith}
 use native.Mathlib.Nat.{not-suc-le-zero, le-of-suc-le-suc}
 use lib.ListN.{length, getD, set}
@@ -13,13 +12,13 @@ use Rattle.model.specs.declared.Order.{Order}
 use Rattle.model.specs.declared.Trade.{Trade}
 use Rattle.model.specs.Lists.{total}
 use Rattle.model.specs.Book.{free, isLive}
-use Rattle.model.specs.Matching.{isIn, filled, filledOf, lessBy, settle, rest}
-use Rattle.book.specs.Standing.{Each, Fair, Apart, Standing}
+use Rattle.model.specs.Matching.{isIn, filledOf, lessBy, settle, rest}
+use Rattle.book.specs.Standing.{Each, Fair, Apart}
 use Rattle.book.specs.Places.{firstWith, lowestFree}
 use Rattle.book.proofs.Lists.{both, each, every, total-same, total-add, total-zero, total-set}
 use Rattle.book.proofs.Finding.{rest-set}
 use Rattle.book.proofs.Settlements.{part, filled-none, filled-cons}
-use Rattle.book.proofs.Kept.{free-left, free-number}
+use Rattle.book.proofs.Kept.{free-left}
 
 -- ---- by number
 
@@ -31,9 +30,12 @@ pub of-none : (n : ℕ) (g : Order → ℕ) (os : List Order) → Each (λ o. o 
 unfolding ofNumber
 of-none n g os e =
     total-zero (λ o. cond (eqb (o .number) n) (g o) 0) os
-    (each (λ o. o .number ≡ n → ⊥) (λ o. cond (eqb (o .number) n) (g o) 0 ≡ 0) os (λ o h. rw (ne-eqb (o .number) n h)) e)
+    (each (λ o. o .number ≡ n → ⊥) (λ o. cond (eqb (o .number) n) (g o) 0 ≡ 0) os (λ o h. rw (ne-eqb (o .number) n h))
+    e)
 
-pub of-cons : (n : ℕ) (g : Order → ℕ) (o : Order) (os : List Order) → ofNumber n g (o ∷ os) ≡ cond (eqb (o .number) n) (g o) 0 + ofNumber n g os
+pub of-cons :
+    (n : ℕ) (g : Order → ℕ) (o : Order) (os : List Order)
+    → ofNumber n g (o ∷ os) ≡ cond (eqb (o .number) n) (g o) 0 + ofNumber n g os
 unfolding ofNumber total
 of-cons n g o os = refl
 
@@ -78,7 +80,8 @@ part-both r n apart = go (eqb (r .buyer) n) refl (eqb (r .seller) n) refl
         → eqb (r .buyer) n ≡ a
         → (b : Bool)
         → eqb (r .seller) n ≡ b
-        → cond (a || b) (r .quantity) 0 ≡ cond (eqb n (r .buyer)) (r .quantity) 0 + cond (eqb n (r .seller)) (r .quantity) 0
+        → cond (a || b) (r .quantity) 0
+        ≡ cond (eqb n (r .buyer)) (r .quantity) 0 + cond (eqb n (r .seller)) (r .quantity) 0
     go true e b f =
         let x : r .buyer ≡ n = eqb-true (r .buyer) n e in
         let y : n ≡ r .seller → ⊥ = λ z. apart (x ∙ z) in
@@ -92,7 +95,10 @@ part-both r n apart = go (eqb (r .buyer) n) refl (eqb (r .seller) n) refl
         let y : n ≡ r .seller → ⊥ = λ z. eqb-false (r .seller) n f (sym z) in
         rw (ne-eqb n (r .buyer) x, ne-eqb n (r .seller) y)
 
-one-trade : (r : Trade) (book : List Order) → (r .buyer ≡ r .seller → ⊥) → total (λ o. part (o .number) r) book ≡ stake book r
+one-trade :
+    (r : Trade) (book : List Order)
+    → (r .buyer ≡ r .seller → ⊥)
+    → total (λ o. part (o .number) r) book ≡ stake book r
 unfolding ofNumber
 one-trade r book apart =
     total-same (λ o. part (o .number) r)
@@ -102,7 +108,8 @@ one-trade r book apart =
     part (o .number) r
     ≡ cond (eqb (o .number) (r .buyer)) (r .quantity) 0 + cond (eqb (o .number) (r .seller)) (r .quantity) 0)
     book (λ o. part-both r (o .number) apart))
-    ∙ total-add (λ o. cond (eqb (o .number) (r .buyer)) (r .quantity) 0) (λ o. cond (eqb (o .number) (r .seller)) (r .quantity) 0)
+    ∙ total-add (λ o. cond (eqb (o .number) (r .buyer)) (r .quantity) 0)
+    (λ o. cond (eqb (o .number) (r .seller)) (r .quantity) 0)
     book
 
 -- what trades between different parties fill of the book's orders is what their parties have in it
@@ -151,7 +158,11 @@ settle-total ts (o ∷ os) e = omega (arith, less-left (filledOf (o .number) ts)
 -- ---- a new rest, and a cancel
 
 -- the lowest free place is free
-free-there : (book : List Order) → Each Fair book → lowestFree book < length book → getD book (lowestFree book) free ≡ free
+free-there :
+    (book : List Order)
+    → Each Fair book
+    → lowestFree book < length book
+    → getD book (lowestFree book) free ≡ free
 unfolding lowestFree firstWith isLive
 free-there [] f h = absurd (not-suc-le-zero h)
 free-there (o ∷ os) f h = go (eqb (o .number) 0) refl h (free-there os (f .1))

@@ -1,8 +1,8 @@
 -- The orders at the n best prices of a queue, taken one after the other: the queue is cut where the next price would begin.
 use Prim.Native.Nat.{ℕ, zero, suc, _+_, _-_, _*_, _≤_, _<_}
 use mathlib.Core.Path.{_≡_, refl, sym, ap, _∙_}
-use mathlib.Core.Bool.{Bool, true, false, cond, not, _&&_}
-use mathlib.Core.List.{List, [], _∷_, _++_, map}
+use mathlib.Core.Bool.{Bool, true, false, cond, not}
+use mathlib.Core.List.{List, [], _∷_, map}
 use native.Mathlib.Omega.{arith}
 use native.Mathlib.Nat.{not-suc-le-zero, le-of-suc-le-suc}
 use lib.ListN.{length, take}
@@ -12,7 +12,7 @@ use Rattle.model.specs.declared.Order.{Order}
 use Rattle.model.specs.Lists.{keep, among, once}
 use Rattle.model.specs.Book.{standsOn, queue}
 use Rattle.model.specs.Matching.{fiveBest, atFiveBest}
-use Rattle.book.specs.Standing.{Each, Fair, Standing}
+use Rattle.book.specs.Standing.{Each, Standing}
 use Rattle.book.specs.Priority.{rank, key}
 use Rattle.book.proofs.Lists.{keep-true, keep-none, every, length-keep}
 use Rattle.book.proofs.Sorting.{Rising}
@@ -58,7 +58,10 @@ cut-here zero p o os e = rw (eq-eqb (o .price) p e)
 cut-here (suc n) p o os e = rw (eq-eqb (o .price) p e)
 
 -- an order at another price
-pub cut-away : (n p : ℕ) (o : Order) (os : List Order) → (o .price ≡ p → ⊥) → cutSame n p (o ∷ os) ≡ cutLevels n (o ∷ os)
+pub cut-away :
+    (n p : ℕ) (o : Order) (os : List Order)
+    → (o .price ≡ p → ⊥)
+    → cutSame n p (o ∷ os) ≡ cutLevels n (o ∷ os)
 unfolding cutSame cutLevels
 cut-away zero p o os e = rw (ne-eqb (o .price) p e)
 cut-away (suc n) p o os e = rw (ne-eqb (o .price) p e)
@@ -73,7 +76,12 @@ Worsens side a (p ∷ ps) = (a ≤ rank side p) × (p ≤ 999_999) × Worsens si
 abbrev pub pricesOf : List Order → List ℕ
 pricesOf os = map (λ (o : Order). o .price) os
 
-worsens : (side a b : ℕ) (q : List Order) → a * 1_000_000 ≤ b → Rising key b q → Each (Stands side) q → Worsens side a (pricesOf q)
+worsens :
+    (side a b : ℕ) (q : List Order)
+    → a * 1_000_000 ≤ b
+    → Rising key b q
+    → Each (Stands side) q
+    → Worsens side a (pricesOf q)
 worsens side a b [] h r f = tt
 worsens side a b (o ∷ os) h r f =
     let k : key o ≡ rank side (o .price) * 1_000_000 + o .number = key-on side o (f .0 .1) in
@@ -95,7 +103,13 @@ no-return side p a (r ∷ ps) h w = (
 )
 
 -- a worse price
-pub worse : (side p r : ℕ) → p ≤ 999_999 → r ≤ 999_999 → rank side p ≤ rank side r → (r ≡ p → ⊥) → rank side p < rank side r
+pub worse :
+    (side p r : ℕ)
+    → p ≤ 999_999
+    → r ≤ 999_999
+    → rank side p ≤ rank side r
+    → (r ≡ p → ⊥)
+    → rank side p < rank side r
 worse side p r hp hr l n =
     let far : rank side p ≡ rank side r → ⊥ = λ e. n (sym (rank-apart side p r hp hr e)) in
     omega arith
@@ -107,11 +121,17 @@ abbrev atPrices : List ℕ → List Order → List Order
 atPrices ps os = keep (λ (o : Order). among ps (o .price)) os
 
 -- a price that none of them has makes no difference
-drop-price : (p : ℕ) (ps : List ℕ) (os : List Order) → Each (λ r. r ≡ p → ⊥) (pricesOf os) → atPrices (p ∷ ps) os ≡ atPrices ps os
+drop-price :
+    (p : ℕ) (ps : List ℕ) (os : List Order)
+    → Each (λ r. r ≡ p → ⊥) (pricesOf os)
+    → atPrices (p ∷ ps) os ≡ atPrices ps os
 drop-price p ps os n =
     keep-same (λ (o : Order). among (p ∷ ps) (o .price)) (λ (o : Order). among ps (o .price)) os (go os n)
   where
-    go : (xs : List Order) → Each (λ r. r ≡ p → ⊥) (pricesOf xs) → Each (λ (o : Order). among (p ∷ ps) (o .price) ≡ among ps (o .price)) xs
+    go :
+        (xs : List Order)
+        → Each (λ r. r ≡ p → ⊥) (pricesOf xs)
+        → Each (λ (o : Order). among (p ∷ ps) (o .price) ≡ among ps (o .price)) xs
     go [] e = tt
     go (x ∷ xs) e = (among-later p (x .price) ps (e .0), go xs (e .1))
 
@@ -149,7 +169,9 @@ same-best side n p (o ∷ os) hp w =
     go :
         (b : Bool)
         → eqb (o .price) p ≡ b
-        → (Worsens side (rank side p) (pricesOf os) → cutSame n p os ≡ atPrices (take (suc n) (once (p ∷ pricesOf os))) os)
+        →
+        (Worsens side (rank side p) (pricesOf os)
+        → cutSame n p os ≡ atPrices (take (suc n) (once (p ∷ pricesOf os))) os)
         → ((m : ℕ) → cutSame m (o .price) os ≡ atPrices (take (suc m) (once (o .price ∷ pricesOf os))) os)
         → cutSame n p (o ∷ os) ≡ atPrices (take (suc n) (once (p ∷ o .price ∷ pricesOf os))) (o ∷ os)
     go true f same new =

@@ -1,11 +1,9 @@
 -- An order on entry: its prices through the best prices as numbers, and its trades as one sweep.
-use Prim.Native.Nat.{ℕ, zero, suc, _+_, _≤_, _<_, min, max}
+use Prim.Native.Nat.{ℕ, _+_}
 use mathlib.Core.Path.{_≡_, refl, sym, ap, _∙_}
-use mathlib.Core.Bool.{Bool, true, false, cond, not, _&&_, and-false}
-use mathlib.Core.List.{List, [], _∷_}
-use native.Mathlib.Omega.{arith}
+use mathlib.Core.Bool.{Bool, true, false, cond, and-false}
+use mathlib.Core.List.{List, []}
 use native.Mathlib.Numerals.{add-one}
-use lib.ListN.{length}
 use lib.Dec.{leb, eqb}
 use borrow.Author.Tests.{eq-eqb, ne-eqb}
 use Rattle.model.specs.declared.Order.{Order}
@@ -63,19 +61,20 @@ module _ (a : Asked) (book : List Order) where
 -- ---- the trades
 
 module _ (d : Day) (a : Asked) (book : List Order) (phase : ℕ) (now : phase ≡ phaseAt (d .time)) where
-  other-phase : (phase ≡ 4 → ⊥) → entryTrades d a book ≡ []
+  pub other-phase : (phase ≡ 4 → ⊥) → entryTrades d a book ≡ []
   unfolding entryTrades continuous
   other-phase n = rw (ne-eqb (phaseAt (d .time)) 4 (λ e. n (now ∙ e)))
 
-  no-price : entryPrice a book ≡ 0 → entryTrades d a book ≡ []
+  pub no-price : entryPrice a book ≡ 0 → entryTrades d a book ≡ []
   unfolding entryTrades
   no-price e = rw (eq-eqb (entryPrice a book) 0 e, and-false)
 
-  as-sweep :
+  pub as-sweep :
       phase ≡ 4
       → (entryPrice a book ≡ 0 → ⊥)
       → entryTrades d a book
-      ≡ sweep (record { side = a .side; number = nextNumber d; limit = entryPrice a book }) (a .quantity) (opposite a book)
+      ≡ sweep (record { side = a .side; number = nextNumber d; limit = entryPrice a book }) (a .quantity)
+      (opposite a book)
   unfolding entryTrades continuous
   as-sweep p n = rw (eq-eqb (phaseAt (d .time)) 4 (sym now ∙ p), ne-eqb (entryPrice a book) 0 n)
 
@@ -93,7 +92,10 @@ module _ (d : Day) (a : Asked) (book : List Order) (phase : ℕ) (now : phase �
   pub outside : (room : ℕ) (s : Swept) (l : List (List ℕ)) → (phase ≡ 4 → ⊥) → s ≡ comesTo [] → Entered room s l l
   outside room s l n = none-entered room s l (other-phase n)
 
-  module _ (own others price side : ℕ) (o : own ≡ best (a .side) book) (w : others ≡ best side book) (v : side ≡ other (a .side)) (p : price ≡ entryAt a own others) where
+  module _
+      (own others price side : ℕ)
+      (o : own ≡ best (a .side) book) (w : others ≡ best side book)
+      (v : side ≡ other (a .side)) (p : price ≡ entryAt a own others) where
     priced : price ≡ entryPrice a book
     priced =
         p

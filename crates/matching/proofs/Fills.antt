@@ -1,12 +1,12 @@
 -- What a sweep fills: no order beyond what it has, and of the book in all what its trades come to.
-use Prim.Native.Nat.{ℕ, zero, suc, _+_, _-_, _≤_, _<_, min}
+use Prim.Native.Nat.{ℕ, _+_, _-_, _≤_}
 use mathlib.Core.Path.{_≡_, refl, sym, ap, _∙_}
 use mathlib.Core.Bool.{Bool, true, false, cond, _||_, or-false}
 use mathlib.Core.List.{List, [], _∷_, map}
 use native.Mathlib.Omega.{arith}
 use lib.ListN.{take}
 use lib.Dec.{eqb}
-use borrow.Author.Tests.{eq-eqb, ne-eqb, eqb-true, eqb-false}
+use borrow.Author.Tests.{ne-eqb, eqb-true, eqb-false}
 use Rattle.model.specs.declared.Order.{Order}
 use Rattle.model.specs.declared.Trade.{Trade}
 use Rattle.model.specs.declared.Taker.{Taker}
@@ -41,7 +41,10 @@ module _ (t : Taker) where
       go true = rw mine
       go false = rw mine (or-false (eqb (o .number) n))
 
-  part-held : (q n : ℕ) (o : Order) → (n ≡ t .number → ⊥) → part n (tradeWith t q o) ≤ cond (eqb (o .number) n) (o .left) 0
+  part-held :
+      (q n : ℕ) (o : Order)
+      → (n ≡ t .number → ⊥)
+      → part n (tradeWith t q o) ≤ cond (eqb (o .number) n) (o .left) 0
   unfolding part
   part-held q n o h = rw (is-with q n o h) (go (eqb (o .number) n))
     where
@@ -83,7 +86,8 @@ module _ (t : Taker) (q n side : ℕ) (book : List Order) (standing : Standing b
   of-met : (P : Order → Type 0) → Each P book → Each (λ o. P o × (standsOn side o ≡ true)) met
   unfolding atBest
   of-met P e =
-      each-keep (λ o. P o × (standsOn side o ≡ true)) (λ o. among (take n (once (map (λ o. o .price) (queue side book)))) (o .price))
+      each-keep (λ o. P o × (standsOn side o ≡ true))
+      (λ o. among (take n (once (map (λ o. o .price) (queue side book)))) (o .price))
       (queue side book)
       (each-queue (λ o. P o × (standsOn side o ≡ true)) side book
       (both P (λ o. standsOn side o ≡ true) (λ o. P o × (standsOn side o ≡ true)) (keep (standsOn side) book) (λ o a b. (a, b))
@@ -176,7 +180,9 @@ module _ (t : Taker) (q n side : ℕ) (book : List Order) (standing : Standing b
         arith,
         settle-total ts book fills-within,
         filled-stakes ts book
-            (each (λ r. (r .buyer ≡ r .seller → ⊥) × (stake book r ≡ r .quantity)) (λ r. r .buyer ≡ r .seller → ⊥) ts (λ r h. h .0) both-parts),
+            (each (λ r. (r .buyer ≡ r .seller → ⊥) × (stake book r ≡ r .quantity)) (λ r. r .buyer ≡ r .seller → ⊥) ts
+            (λ r h. h .0) both-parts),
         total-same (stake book) (λ r. r .quantity) ts
-            (each (λ r. (r .buyer ≡ r .seller → ⊥) × (stake book r ≡ r .quantity)) (λ r. stake book r ≡ r .quantity) ts (λ r h. h .1) both-parts),
+            (each (λ r. (r .buyer ≡ r .seller → ⊥) × (stake book r ≡ r .quantity)) (λ r. stake book r ≡ r .quantity)
+            ts (λ r h. h .1) both-parts),
       )

@@ -10,3 +10,6 @@ pub mod Situations
 pub mod Trades
 pub mod Fills
 pub mod Remainders
+pub mod EntryLaws
+pub mod AfterEntry
+pub mod EntryKept

@@ -1,13 +1,13 @@
 -- What `sweep` has done where it ends, in the contract's words.
 use Prim.Native.Nat.{ℕ, _-_, _≤_, _<_}
-use mathlib.Core.Path.{_≡_, refl, sym, ap, _∙_}
+use mathlib.Core.Path.{_≡_, ap, _∙_}
 use mathlib.Core.List.{List}
 use native.Mathlib.Omega.{arith}
 use lib.ListN.{length}
 use Rattle.model.specs.declared.Order.{Order}
 use Rattle.model.specs.declared.Trade.{Trade}
 use Rattle.model.specs.declared.Taker.{Taker}
-use Rattle.model.specs.Book.{queue, other}
+use Rattle.model.specs.Book.{other}
 use Rattle.model.specs.Matching.{sweep}
 use Rattle.book.specs.Rows.{bookOf, tradeRows}
 use Rattle.book.specs.Standing.{Standing}

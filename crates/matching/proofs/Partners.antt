@@ -4,7 +4,7 @@ use mathlib.Core.Path.{_≡_, refl, sym, ap, _∙_}
 use mathlib.Core.Bool.{Bool, true, false, cond, _&&_, and-false}
 use mathlib.Core.List.{List, [], _∷_}
 use native.Mathlib.Omega.{arith}
-use lib.Dec.{ltb, eqb}
+use lib.Dec.{ltb}
 use borrow.Author.Tests.{eq-eqb, ne-eqb, lt-ltb, le-ltb}
 use Rattle.model.specs.declared.Order.{Order}
 use Rattle.model.specs.declared.Trade.{Trade}
@@ -13,7 +13,7 @@ use Rattle.model.specs.Book.{queue, other}
 use Rattle.model.specs.Matching.{meets, tradeWith, sweep}
 use Rattle.book.specs.declared.Next.{Next}
 use Rattle.book.specs.declared.Next.the-variants.{At, Nothing}
-use Rattle.book.specs.Priority.{key, beyond, nextOf}
+use Rattle.book.specs.Priority.{beyond, nextOf}
 use Rattle.matching.specs.Sweeping.{wants, partnerOf}
 
 -- ---- whether it trades
@@ -121,7 +121,8 @@ module _ (t : Taker) (q : ℕ) (o : Order) where
       (n : ℕ)
       → n ≡ min q (o .left)
       → t .side ≡ 0
-      → _≡_ {A = Trade} (record { price = o .price; quantity = n; buyer = t .number; seller = o .number }) (tradeWith t q o)
+      → _≡_ {A = Trade} (record { price = o .price; quantity = n; buyer = t .number; seller = o .number })
+      (tradeWith t q o)
   unfolding tradeWith
   trade-buy n e s = rw (eq-eqb (t .side) 0 s, e)
 
@@ -129,7 +130,8 @@ module _ (t : Taker) (q : ℕ) (o : Order) where
       (n : ℕ)
       → n ≡ min q (o .left)
       → (t .side ≡ 0 → ⊥)
-      → _≡_ {A = Trade} (record { price = o .price; quantity = n; buyer = o .number; seller = t .number }) (tradeWith t q o)
+      → _≡_ {A = Trade} (record { price = o .price; quantity = n; buyer = o .number; seller = t .number })
+      (tradeWith t q o)
   unfolding tradeWith
   trade-sell n e s = rw (ne-eqb (t .side) 0 s, e)
 

@@ -1,16 +1,15 @@
 -- Laws of the different prices of a list: where each stands first, and how many there can be.
-use Prim.Native.Nat.{ℕ, zero, suc, _+_, _≤_, _<_}
+use Prim.Native.Nat.{ℕ, suc, _≤_}
 use mathlib.Core.Path.{_≡_, refl, sym, ap, _∙_}
-use mathlib.Core.Bool.{Bool, true, false, cond, not, _&&_, _||_}
-use mathlib.Core.List.{List, [], _∷_, map}
+use mathlib.Core.Bool.{Bool, true, false, cond, not, _&&_}
+use mathlib.Core.List.{List, [], _∷_}
 use native.Mathlib.Omega.{arith}
-use native.Mathlib.Nat.{not-suc-le-zero, le-of-suc-le-suc}
-use lib.ListN.{length, take}
+use lib.ListN.{length}
 use lib.Dec.{eqb}
-use borrow.Author.Tests.{eq-eqb, ne-eqb, eqb-true, eqb-false, not-false}
+use borrow.Author.Tests.{eq-eqb, ne-eqb, eqb-true, not-false}
 use Rattle.model.specs.Lists.{keep, any, among, once, different}
 use Rattle.book.specs.Standing.{Each}
-use Rattle.book.proofs.Lists.{keep-true, keep-false, keep-keep, keep-all, both, each, each-keep, kept}
+use Rattle.book.proofs.Lists.{keep-false, keep-keep, keep-all, both, each, each-keep, kept}
 use Rattle.book.proofs.Sorting.{Distinct}
 
 -- not this price
@@ -126,7 +125,8 @@ one-less p (r ∷ ps) d = go (isnt p r) refl (one-less p ps (d .1))
     rest : isnt p r ≡ false → keep (isnt p) ps ≡ ps
     rest e =
         keep-all (isnt p) ps
-        (each (λ x. x ≡ r → ⊥) (λ x. isnt p x ≡ true) ps (λ x n. isnt-true p x (λ q. n (q ∙ sym (isnt-is p r e)))) (d .0))
+        (each (λ x. x ≡ r → ⊥) (λ x. isnt p x ≡ true) ps (λ x n. isnt-true p x (λ q. n (q ∙ sym (isnt-is p r e))))
+        (d .0))
 
     go :
         (b : Bool)
@@ -145,7 +145,9 @@ differ-few (a ∷ all) ps d e =
     (λ p n h. sym (among-later a p all (isnt-ne a p n)) ∙ h) (kept (isnt a) ps)
     (each-keep (λ p. among (a ∷ all) p ≡ true) (isnt a) ps e)
     in
-    let fewer : length (keep (isnt a) ps) ≤ length all = differ-few all (keep (isnt a) ps) (differ-keep (isnt a) ps d) others in
+    let fewer : length (keep (isnt a) ps) ≤ length all =
+    differ-few all (keep (isnt a) ps) (differ-keep (isnt a) ps d) others
+    in
     omega (arith, one-less a ps d)
 
 pub different-few : (all ps : List ℕ) → Each (λ p. among all p ≡ true) ps → different ps ≤ length all

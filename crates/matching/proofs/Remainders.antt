@@ -1,17 +1,16 @@
--- What stays where something of an order is left: whoever it might have met is filled, or beyond its limit; and what was cut off
--- is worse than all that was swept.
+-- What stays where something of an order is left: whoever it might have met is filled, or beyond its limit; and what was
+-- cut off is worse than all that was swept.
 use Prim.Native.Nat.{ℕ, zero, suc, _+_, _-_, _≤_, _<_, min}
 use mathlib.Core.Path.{_≡_, refl, sym, ap, _∙_}
 use mathlib.Core.Bool.{Bool, true, false, cond, _&&_, _||_, or-true}
 use mathlib.Core.List.{List, [], _∷_, _++_}
 use mathlib.Core.Logic.{_⊎_, inl, inr}
 use native.Mathlib.Omega.{arith}
-use lib.Dec.{leb, ltb, eqb}
+use lib.Dec.{leb, eqb}
 use borrow.Author.Tests.{lt-ltb, leb-false, lt-leb, eqb-true, eqb-false, eq-eqb}
 use Rattle.model.specs.declared.Order.{Order}
 use Rattle.model.specs.declared.Trade.{Trade}
 use Rattle.model.specs.declared.Taker.{Taker}
-use Rattle.model.specs.Lists.{total}
 use Rattle.model.specs.Book.{other}
 use Rattle.model.specs.Matching.{meets, tradeWith, sweep, isIn, filled, filledOf}
 use Rattle.book.specs.Standing.{Each}
@@ -21,6 +20,7 @@ use Rattle.book.proofs.Settlements.{part, filled-cons}
 use Rattle.matching.specs.Sweeping.{wants}
 use Rattle.matching.proofs.Cuts.{cutSame, cutLevels, same-nil, levels-none, levels-nil, levels-cons, cut-here, cut-away, Worsens, pricesOf, worse}
 use Rattle.matching.proofs.Partners.{sweep-none, sweep-one}
+use Rattle.matching.proofs.Trades.{filled-nil, filled-more}
 
 -- ---- worse prices than one that the limit does not allow
 
@@ -92,14 +92,6 @@ module _ (t : Taker) where
   unfolding tradeWith
   taken q o = refl
 
-  filled-more : (r : Trade) (ts : List Trade) → filled (r ∷ ts) ≡ r .quantity + filled ts
-  unfolding filled total
-  filled-more r ts = refl
-
-  filled-nil : filled [] ≡ 0
-  unfolding filled total
-  filled-nil = refl
-
   pub left-over :
       (a q : ℕ) (os : List Order)
       → Worsens (other (t .side)) a (pricesOf os)
@@ -148,20 +140,29 @@ pub record From (side p : ℕ) (cut os : List Order) : Type 0 where
 
 module _ (side : ℕ) where
   -- all of a list is behind nothing
-  all-behind : (p : ℕ) (os : List Order) → Each (λ (o : Order). rank side p < rank side (o .price)) os → From side p [] os
+  all-behind :
+      (p : ℕ) (os : List Order)
+      → Each (λ (o : Order). rank side p < rank side (o .price)) os
+      → From side p [] os
   all-behind p os e =
       record {
         front =
             record {
               behind = os;
               whole = refl;
-              worse = every (λ (o : Order). Each (λ (x : Order). rank side (x .price) < rank side (o .price)) []) os (λ o. tt);
+              worse =
+                  every (λ (o : Order). Each (λ (x : Order). rank side (x .price) < rank side (o .price)) []) os
+                  (λ o. tt);
             };
         later = e;
       }
 
   -- one order more in front, at the price p or at a worse one
-  one-more : (p : ℕ) (o : Order) (cut os : List Order) → rank side p ≤ rank side (o .price) → From side (o .price) cut os → From side p (o ∷ cut) (o ∷ os)
+  one-more :
+      (p : ℕ) (o : Order) (cut os : List Order)
+      → rank side p ≤ rank side (o .price)
+      → From side (o .price) cut os
+      → From side p (o ∷ cut) (o ∷ os)
   one-more p o cut os l f =
       record {
         front =
@@ -178,22 +179,35 @@ module _ (side : ℕ) where
                   (f .front .worse);
             };
         later =
-            each (λ (x : Order). rank side (o .price) < rank side (x .price)) (λ (x : Order). rank side p < rank side (x .price))
+            each (λ (x : Order). rank side (o .price) < rank side (x .price))
+            (λ (x : Order). rank side p < rank side (x .price))
             (f .front .behind)
             (λ x h. omega arith)
             (f .later);
       }
 
-  later-all : (p a : ℕ) (os : List Order) → rank side p < a → Worsens side a (pricesOf os) → Each (λ (o : Order). rank side p < rank side (o .price)) os
+  later-all :
+      (p a : ℕ) (os : List Order)
+      → rank side p < a
+      → Worsens side a (pricesOf os)
+      → Each (λ (o : Order). rank side p < rank side (o .price)) os
   later-all p a [] h w = tt
   later-all p a (o ∷ os) h w = (omega (arith, w .0), later-all p (rank side (o .price)) os (omega (arith, w .0)) (w .2))
 
-  cut-same : (n p : ℕ) (os : List Order) → p ≤ 999_999 → Worsens side (rank side p) (pricesOf os) → From side p (cutSame n p os) os
+  cut-same :
+      (n p : ℕ) (os : List Order)
+      → p ≤ 999_999
+      → Worsens side (rank side p) (pricesOf os)
+      → From side p (cutSame n p os) os
   cut-same n p [] hp w = rw (same-nil n p) (all-behind p [] tt)
   cut-same n p (o ∷ os) hp w =
       go (eqb (o .price) p) refl (λ m. cut-same m (o .price) os (w .1) (w .2))
     where
-      next : (n : ℕ) → ((m : ℕ) → From side (o .price) (cutSame m (o .price) os) os) → (o .price ≡ p → ⊥) → From side p (cutLevels n (o ∷ os)) (o ∷ os)
+      next :
+          (n : ℕ)
+          → ((m : ℕ) → From side (o .price) (cutSame m (o .price) os) os)
+          → (o .price ≡ p → ⊥)
+          → From side p (cutLevels n (o ∷ os)) (o ∷ os)
       next zero ih away =
           let far : rank side p < rank side (o .price) = worse side p (o .price) hp (w .1) (w .0) away in
           rw (levels-none (o ∷ os)) (all-behind p (o ∷ os) (far, later-all p (rank side (o .price)) os far (w .2)))
@@ -206,7 +220,8 @@ module _ (side : ℕ) where
           → From side p (cutSame n p (o ∷ os)) (o ∷ os)
       go true e ih =
           let same : o .price ≡ p = eqb-true (o .price) p e in
-          rw (cut-here n p o os same, sym same) (one-more (o .price) o (cutSame n (o .price) os) os (omega arith) (ih n))
+          rw (cut-here n p o os same, sym same)
+          (one-more (o .price) o (cutSame n (o .price) os) os (omega arith) (ih n))
       go false e ih =
           let away : o .price ≡ p → ⊥ = eqb-false (o .price) p e in
           rw (cut-away n p o os away) (next n ih away)
@@ -217,7 +232,8 @@ module _ (side : ℕ) where
       (record {
         behind = os;
         whole = refl;
-        worse = every (λ (o : Order). Each (λ (x : Order). rank side (x .price) < rank side (o .price)) []) os (λ o. tt);
+        worse =
+            every (λ (o : Order). Each (λ (x : Order). rank side (x .price) < rank side (o .price)) []) os (λ o. tt);
       })
   cut-front a (suc n) [] w = rw (levels-nil (suc n)) (record { behind = []; whole = refl; worse = tt })
   cut-front a (suc n) (o ∷ os) w =

@@ -1,7 +1,6 @@
 -- The starred situations k and l of document 01, from the definitions, as one table under one statement.
 use Prim.Native.Nat.{ℕ}
 use mathlib.Core.Path.{_≡_, refl}
-use mathlib.Core.Bool.{Bool}
 use mathlib.Core.List.{List, [], _∷_, map}
 use Rattle.model.specs.declared.Order.{Order}
 use Rattle.model.specs.declared.Asked.{Asked}
@@ -9,7 +8,6 @@ use Rattle.model.specs.declared.Day.{Day}
 use Rattle.model.specs.declared.Trade.{Trade}
 use Rattle.model.specs.declared.Remainder.{Remainder}
 use Rattle.model.specs.declared.Remainder.the-variants.{Rests, Withdrawn}
-use Rattle.model.specs.declared.OrderReply.{OrderReply}
 use Rattle.model.specs.declared.OrderReply.the-variants.{Accepted}
 use Rattle.model.specs.Lists.{keep, all, any, total, among, once, different}
 use Rattle.model.specs.Clock.{closed, laterRows, holding, rowAt, phaseAt, takesOrders, continuous, isTime}
@@ -51,7 +49,7 @@ use Rattle.model.specs.Sound.{
   sound,
 }
 use Rattle.model.specs.Refusals.{_when_, firstOf, unsound}
-use Rattle.model.specs.Calls.{Outcome, orderRules, ended, placed, entered, orderCall, written}
+use Rattle.model.specs.Calls.{orderRules, ended, placed, entered, orderCall}
 use Rattle.book.specs.Standing.{Each}
 
 -- sells of 100 at 1001 to 1006, not in order, and two free places

@@ -1,5 +1,5 @@
 -- The laws behind `sweep`: each step of its two loops leaves what the rest of the work comes to.
-use Prim.Native.Nat.{ℕ, zero, suc, _+_, _-_, _≤_, _<_, _^_, min}
+use Prim.Native.Nat.{ℕ, zero, suc, _+_, _-_, _≤_, _<_, _^_}
 use mathlib.Core.Path.{_≡_, refl, sym, ap, _∙_}
 use mathlib.Core.Bool.{Bool, true, false, cond}
 use mathlib.Core.List.{List, [], _∷_}
@@ -66,7 +66,9 @@ pub record Idle (t : Taker) (q : ℕ) (rest : List Order) : Type 0 where
   pub same : (n p : ℕ) → sweep t q (cutSame n p rest) ≡ []
 
 idle-new :
-    (t : Taker) (q n : ℕ) (o : Order) (os : List Order) → wants t q (o .price) ≡ false → sweep t q (cutLevels n (o ∷ os)) ≡ []
+    (t : Taker) (q n : ℕ) (o : Order) (os : List Order)
+    → wants t q (o .price) ≡ false
+    → sweep t q (cutLevels n (o ∷ os)) ≡ []
 idle-new t q zero o os e = ap (sweep t q) (levels-none (o ∷ os)) ∙ sweep-nil t q
 idle-new t q (suc n) o os e = ap (sweep t q) (levels-cons n o os) ∙ sweep-none t q o (cutSame n (o .price) os) e
 
@@ -117,7 +119,8 @@ module _ (t : Taker) (room most : ℕ) (queue : List Order) where
 
   abbrev pub Sames : ℕ → Swept → ℕ → ℕ → List (List ℕ) → Swept → ℕ → ℕ → List (List ℕ) → Type 0
   Sames price s₀ left₀ after₀ l₀ s left after l =
-      Alike room (goOn price s₀ (toSame t most queue price s₀ left₀ after₀)) (toSame t most queue price s₀ left₀ after₀) (s₀ .trades) l₀
+      Alike room (goOn price s₀ (toSame t most queue price s₀ left₀ after₀))
+      (toSame t most queue price s₀ left₀ after₀) (s₀ .trades) l₀
       (goOn price s (toSame t most queue price s left after)) (toSame t most queue price s left after) (s .trades) l
 
   module _ (left after : ℕ) (o : Order) (k : ℕ) (m : Met t left after queue o k) where
@@ -125,13 +128,19 @@ module _ (t : Taker) (room most : ℕ) (queue : List Order) where
     abbrev after-one : ℕ → ℕ → List Trade
     after-one n price = sweep t (left - o .left) (cutSame n price (beyond k queue))
 
-    one-same : (s : Swept) (price : ℕ) → o .price ≡ price → toSame t most queue price s left after ≡ tradeWith t left o ∷ after-one (most - s .levels) price
+    one-same :
+        (s : Swept) (price : ℕ)
+        → o .price ≡ price
+        → toSame t most queue price s left after ≡ tradeWith t left o ∷ after-one (most - s .levels) price
     one-same s price e =
         ap (λ (os : List Order). sweep t left (cutSame (most - s .levels) price os)) (m .rest)
         ∙ ap (sweep t left) (cut-here (most - s .levels) price o (beyond k queue) e)
         ∙ sweep-one t left o (cutSame (most - s .levels) price (beyond k queue)) (m .willing)
 
-    one-new : (s : Swept) (n : ℕ) → most - s .levels ≡ suc n → toNew t most queue s left after ≡ tradeWith t left o ∷ after-one n (o .price)
+    one-new :
+        (s : Swept) (n : ℕ)
+        → most - s .levels ≡ suc n
+        → toNew t most queue s left after ≡ tradeWith t left o ∷ after-one n (o .price)
     unfolding cutLevels
     one-new s n e =
         ap (λ (os : List Order). sweep t left (cutLevels (most - s .levels) os)) (m .rest)
@@ -139,37 +148,68 @@ module _ (t : Taker) (room most : ℕ) (queue : List Order) where
         ∙ sweep-one t left o (cutSame n (o .price) (beyond k queue)) (m .willing)
 
     -- a price begins
-    pub opens : (s s′ : Swept) (l : List (List ℕ)) → s .levels < most → s′ ≡ withPrice s → Alike room (begin s (toNew t most queue s left after)) (toNew t most queue s left after) (s .trades) l (goOn (o .price) s′ (toSame t most queue (o .price) s′ left after)) (toSame t most queue (o .price) s′ left after) (s′ .trades) l
+    pub opens :
+        (s s′ : Swept) (l : List (List ℕ))
+        → s .levels < most
+        → s′ ≡ withPrice s
+        → Alike room (begin s (toNew t most queue s left after)) (toNew t most queue s left after) (s .trades) l
+        (goOn (o .price) s′ (toSame t most queue (o .price) s′ left after))
+        (toSame t most queue (o .price) s′ left after) (s′ .trades) l
     unfolding withPrice tradeWith
     opens s s′ l h e =
         let n : ℕ = most - (s .levels + 1) in
         let w : most - s .levels ≡ suc n = omega arith in
         let new : toNew t most queue s left after ≡ tradeWith t left o ∷ after-one n (o .price) = one-new s n w in
-        let same : toSame t most queue (o .price) (withPrice s) left after ≡ tradeWith t left o ∷ after-one n (o .price) = one-same (withPrice s) (o .price) refl in
+        let same : toSame t most queue (o .price) (withPrice s) left after ≡ tradeWith t left o ∷ after-one n (o .price) =
+        one-same (withPrice s) (o .price) refl
+        in
         rw e
         (record {
-          tallied = ap (begin s) new ∙ begin-one (o .price) s (tradeWith t left o) (after-one n (o .price)) refl ∙ ap (goOn (o .price) (withPrice s)) (sym same);
+          tallied =
+              ap (begin s) new
+              ∙ begin-one (o .price) s (tradeWith t left o) (after-one n (o .price)) refl
+              ∙ ap (goOn (o .price) (withPrice s)) (sym same);
           laid = ap (λ (ts : List Trade). puts room (s .trades) ts l) (new ∙ sym same);
           long = refl;
         })
 
     -- a trade at the price that goes on
-    pub trades-one : (s s′ : Swept) (price left′ : ℕ) (r : Trade) (l l′ : List (List ℕ)) → o .price ≡ price → r ≡ tradeWith t left o → l′ ≡ put room (s .trades) r l → s′ ≡ withTrade s r → left′ ≡ left - r .quantity → Sames price s left after l s′ left′ k l′
+    pub trades-one :
+        (s s′ : Swept) (price left′ : ℕ) (r : Trade) (l l′ : List (List ℕ))
+        → o .price ≡ price
+        → r ≡ tradeWith t left o
+        → l′ ≡ put room (s .trades) r l
+        → s′ ≡ withTrade s r
+        → left′ ≡ left - r .quantity
+        → Sames price s left after l s′ left′ k l′
     unfolding withTrade tradeWith
     trades-one s s′ price left′ r l l′ e q lay add rest =
         let ts : List Trade = after-one (most - s .levels) price in
         let same : toSame t most queue price s left after ≡ tradeWith t left o ∷ ts = one-same s price e in
         let less : left′ ≡ left - o .left = omega (arith, ap (λ (x : Trade). x .quantity) q) in
-        let go : toSame t most queue price (withTrade s (tradeWith t left o)) left′ k ≡ ts = ap (λ (n : ℕ). sweep t n (cutSame (most - s .levels) price (beyond k queue))) less in
+        let go : toSame t most queue price (withTrade s (tradeWith t left o)) left′ k ≡ ts =
+        ap (λ (n : ℕ). sweep t n (cutSame (most - s .levels) price (beyond k queue))) less
+        in
         rw (add, lay, q)
         (record {
-          tallied = ap (goOn price s) same ∙ go-here price s (tradeWith t left o) ts e ∙ ap (goOn price (withTrade s (tradeWith t left o))) (sym go);
-          laid = ap (λ (x : List Trade). puts room (s .trades) x l) same ∙ puts-one room (s .trades) (tradeWith t left o) ts l ∙ ap (λ (x : List Trade). puts room (s .trades + 1) x (put room (s .trades) (tradeWith t left o) l)) (sym go);
+          tallied =
+              ap (goOn price s) same
+              ∙ go-here price s (tradeWith t left o) ts e
+              ∙ ap (goOn price (withTrade s (tradeWith t left o))) (sym go);
+          laid =
+              ap (λ (x : List Trade). puts room (s .trades) x l) same
+              ∙ puts-one room (s .trades) (tradeWith t left o) ts l
+              ∙ ap (λ (x : List Trade). puts room (s .trades + 1) x (put room (s .trades) (tradeWith t left o) l))
+              (sym go);
           long = sym (length-put room (s .trades) (tradeWith t left o) l);
         })
 
     -- the next price comes
-    pub closes : (s : Swept) (price : ℕ) (l : List (List ℕ)) → (o .price ≡ price → ⊥) → Alike room (goOn price s (toSame t most queue price s left after)) (toSame t most queue price s left after) (s .trades) l (begin s (toNew t most queue s left after)) (toNew t most queue s left after) (s .trades) l
+    pub closes :
+        (s : Swept) (price : ℕ) (l : List (List ℕ))
+        → (o .price ≡ price → ⊥)
+        → Alike room (goOn price s (toSame t most queue price s left after)) (toSame t most queue price s left after)
+        (s .trades) l (begin s (toNew t most queue s left after)) (toNew t most queue s left after) (s .trades) l
     unfolding tradeWith
     closes s price l away =
         record {
@@ -185,30 +225,62 @@ module _ (t : Taker) (room most : ℕ) (queue : List Order) where
             ∙ sym (ap (λ (os : List Order). sweep t left (cutLevels (most - s .levels) os)) (m .rest))
 
         none : most - s .levels ≡ zero → toNew t most queue s left after ≡ []
-        none e = ap (λ (n : ℕ). sweep t left (cutLevels n (beyond after queue))) e ∙ ap (sweep t left) (levels-none (beyond after queue)) ∙ sweep-nil t left
+        none e =
+            ap (λ (n : ℕ). sweep t left (cutLevels n (beyond after queue))) e
+            ∙ ap (sweep t left) (levels-none (beyond after queue))
+            ∙ sweep-nil t left
 
-        go : (n : ℕ) → most - s .levels ≡ n → goOn price s (toNew t most queue s left after) ≡ begin s (toNew t most queue s left after)
+        go :
+            (n : ℕ)
+            → most - s .levels ≡ n
+            → goOn price s (toNew t most queue s left after) ≡ begin s (toNew t most queue s left after)
         go zero e = ap (goOn price s) (none e) ∙ go-nil price s ∙ sym (begin-nil s) ∙ ap (begin s) (sym (none e))
-        go (suc n) e = ap (goOn price s) (one-new s n e) ∙ go-away price s (tradeWith t left o) (after-one n (o .price)) away ∙ ap (begin s) (sym (one-new s n e))
+        go (suc n) e =
+            ap (goOn price s) (one-new s n e)
+            ∙ go-away price s (tradeWith t left o) (after-one n (o .price)) away
+            ∙ ap (begin s) (sym (one-new s n e))
 
 -- ---- stages in a row, and the end
 
-pub then : {room : ℕ} {e₁ e₂ e₃ : Swept} {t₁ t₂ t₃ : List Trade} {n₁ n₂ n₃ : ℕ} {l₁ l₂ l₃ : List (List ℕ)} → Alike room e₁ t₁ n₁ l₁ e₂ t₂ n₂ l₂ → Alike room e₂ t₂ n₂ l₂ e₃ t₃ n₃ l₃ → Alike room e₁ t₁ n₁ l₁ e₃ t₃ n₃ l₃
+pub then :
+    {room : ℕ} {e₁ e₂ e₃ : Swept} {t₁ t₂ t₃ : List Trade} {n₁ n₂ n₃ : ℕ} {l₁ l₂ l₃ : List (List ℕ)}
+    → Alike room e₁ t₁ n₁ l₁ e₂ t₂ n₂ l₂
+    → Alike room e₂ t₂ n₂ l₂ e₃ t₃ n₃ l₃
+    → Alike room e₁ t₁ n₁ l₁ e₃ t₃ n₃ l₃
 then a b = record { tallied = a .tallied ∙ b .tallied; laid = a .laid ∙ b .laid; long = a .long ∙ b .long }
 
 pub alike : {room : ℕ} {e : Swept} {t : List Trade} {n : ℕ} {l : List (List ℕ)} → Alike room e t n l e t n l
 alike = record { tallied = refl; laid = refl; long = refl }
 
 -- nothing is left to do
-pub done-new : (room : ℕ) (e₀ : Swept) (t₀ : List Trade) (n₀ : ℕ) (l₀ : List (List ℕ)) (s : Swept) (ts : List Trade) (l : List (List ℕ)) → ts ≡ [] → Alike room e₀ t₀ n₀ l₀ (begin s ts) ts (s .trades) l → (s ≡ e₀) × (l ≡ puts room n₀ t₀ l₀)
-done-new room e₀ t₀ n₀ l₀ s ts l z a =
-    (sym (a .tallied ∙ ap (begin s) z ∙ begin-nil s), sym (a .laid ∙ ap (λ (x : List Trade). puts room (s .trades) x l) z ∙ puts-none room (s .trades) l))
+pub done-new :
+    (room : ℕ) (e₀ : Swept) (t₀ : List Trade) (n₀ : ℕ) (l₀ : List (List ℕ)) (s : Swept) (ts : List Trade)
+    (l : List (List ℕ))
+    → ts ≡ []
+    → Alike room e₀ t₀ n₀ l₀ (begin s ts) ts (s .trades) l
+    → (s ≡ e₀) × (l ≡ puts room n₀ t₀ l₀)
+done-new room e₀ t₀ n₀ l₀ s ts l z a = (
+  sym (a .tallied ∙ ap (begin s) z ∙ begin-nil s),
+  sym
+      (a .laid ∙ ap (λ (x : List Trade). puts room (s .trades) x l) z ∙ puts-none room (s .trades) l),
+)
 
-pub done-same : (room : ℕ) (e₀ : Swept) (t₀ : List Trade) (n₀ : ℕ) (l₀ : List (List ℕ)) (price : ℕ) (s : Swept) (ts : List Trade) (l : List (List ℕ)) → ts ≡ [] → Alike room e₀ t₀ n₀ l₀ (goOn price s ts) ts (s .trades) l → (s ≡ e₀) × (l ≡ puts room n₀ t₀ l₀)
-done-same room e₀ t₀ n₀ l₀ price s ts l z a =
-    (sym (a .tallied ∙ ap (goOn price s) z ∙ go-nil price s), sym (a .laid ∙ ap (λ (x : List Trade). puts room (s .trades) x l) z ∙ puts-none room (s .trades) l))
+pub done-same :
+    (room : ℕ) (e₀ : Swept) (t₀ : List Trade) (n₀ : ℕ) (l₀ : List (List ℕ)) (price : ℕ) (s : Swept) (ts : List Trade)
+    (l : List (List ℕ))
+    → ts ≡ []
+    → Alike room e₀ t₀ n₀ l₀ (goOn price s ts) ts (s .trades) l
+    → (s ≡ e₀) × (l ≡ puts room n₀ t₀ l₀)
+done-same room e₀ t₀ n₀ l₀ price s ts l z a = (
+  sym (a .tallied ∙ ap (goOn price s) z ∙ go-nil price s),
+  sym
+      (a .laid ∙ ap (λ (x : List Trade). puts room (s .trades) x l) z ∙ puts-none room (s .trades) l),
+)
 
-pub no-levels : (t : Taker) (left most levels : ℕ) (rest : List Order) → most ≤ levels → sweep t left (cutLevels (most - levels) rest) ≡ []
+pub no-levels :
+    (t : Taker) (left most levels : ℕ) (rest : List Order)
+    → most ≤ levels
+    → sweep t left (cutLevels (most - levels) rest) ≡ []
 unfolding cutLevels
 no-levels t left most levels rest h =
     let z : most - levels ≡ 0 = omega arith in
@@ -224,31 +296,54 @@ pub record Fine (rows : List (List ℕ)) (t : Taker) (quantity room : ℕ) (s : 
   pub count : s .trades + length (beyond after (against t rows)) ≤ length rows
   pub holds : room ≤ length l
 
-pub fine-start : (rows : List (List ℕ)) (t : Taker) (quantity room : ℕ) (l : List (List ℕ)) → room ≤ length l → Fine rows t quantity room unswept quantity 0 l
+pub fine-start :
+    (rows : List (List ℕ)) (t : Taker) (quantity room : ℕ) (l : List (List ℕ))
+    → room ≤ length l
+    → Fine rows t quantity room unswept quantity 0 l
 fine-start rows t quantity room l h =
     record { filled = omega arith; count = omega (arith, beyond-short (other (t .side)) 0 (bookOf rows), length-map rows orderOf); holds = h }
 
-pub fine-price : (rows : List (List ℕ)) (t : Taker) (quantity room : ℕ) (s s′ : Swept) (left after : ℕ) (l : List (List ℕ)) → s′ ≡ withPrice s → Fine rows t quantity room s left after l → Fine rows t quantity room s′ left after l
+pub fine-price :
+    (rows : List (List ℕ)) (t : Taker) (quantity room : ℕ) (s s′ : Swept) (left after : ℕ) (l : List (List ℕ))
+    → s′ ≡ withPrice s
+    → Fine rows t quantity room s left after l
+    → Fine rows t quantity room s′ left after l
 unfolding withPrice
-fine-price rows t quantity room s s′ left after l e f = rw e (record { filled = f .filled; count = f .count; holds = f .holds })
+fine-price rows t quantity room s s′ left after l e f =
+    rw e (record { filled = f .filled; count = f .count; holds = f .holds })
 
-module _ (rows : List (List ℕ)) (t : Taker) (quantity room : ℕ) (s : Swept) (left after : ℕ) (l : List (List ℕ)) (o : Order) (k : ℕ) (m : Met t left after (against t rows) o k) (f : Fine rows t quantity room s left after l) where
+module _
+    (rows : List (List ℕ)) (t : Taker) (quantity room : ℕ) (s : Swept) (left after : ℕ) (l : List (List ℕ)) (o : Order) (k : ℕ)
+    (m : Met t left after (against t rows) o k) (f : Fine rows t quantity room s left after l) where
   shorter : length (beyond after (against t rows)) ≡ suc (length (beyond k (against t rows)))
   shorter = ap length (m .rest)
 
   pub falls : length (beyond k (against t rows)) < length (beyond after (against t rows))
   falls = omega (arith, shorter)
 
-  pub fine-trade : (s′ : Swept) (r : Trade) (left′ : ℕ) (l′ : List (List ℕ)) → r ≡ tradeWith t left o → l′ ≡ put room (s .trades) r l → s′ ≡ withTrade s r → left′ ≡ left - r .quantity → Fine rows t quantity room s′ left′ k l′
+  pub fine-trade :
+      (s′ : Swept) (r : Trade) (left′ : ℕ) (l′ : List (List ℕ))
+      → r ≡ tradeWith t left o
+      → l′ ≡ put room (s .trades) r l
+      → s′ ≡ withTrade s r
+      → left′ ≡ left - r .quantity
+      → Fine rows t quantity room s′ left′ k l′
   unfolding withTrade
   fine-trade s′ r left′ l′ q lay add rest =
       let less : r .quantity ≤ left = trade-takes t left o r q in
       let same : length l′ ≡ length l = ap length lay ∙ length-put room (s .trades) r l in
       let short : length (beyond after (against t rows)) ≡ suc (length (beyond k (against t rows))) = shorter in
-      rw add (record { filled = omega (arith, f .filled); count = omega (arith, f .count); holds = omega (arith, f .holds) })
+      rw add
+      (record
+      { filled = omega (arith, f .filled); count = omega (arith, f .count); holds = omega (arith, f .holds) })
 
   -- so the counts fit
-  pub fits : (r : Trade) → r ≡ tradeWith t left o → quantity < 2 ^ 64 → length rows < 2 ^ 64 → (s .trades + 1 < 2 ^ 64) × (s .filled + r .quantity < 2 ^ 64)
+  pub fits :
+      (r : Trade)
+      → r ≡ tradeWith t left o
+      → quantity < 2 ^ 64
+      → length rows < 2 ^ 64
+      → (s .trades + 1 < 2 ^ 64) × (s .filled + r .quantity < 2 ^ 64)
   fits r q a b =
       let less : r .quantity ≤ left = trade-takes t left o r q in
       let short : length (beyond after (against t rows)) ≡ suc (length (beyond k (against t rows))) = shorter in

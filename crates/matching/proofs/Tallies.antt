@@ -1,6 +1,6 @@
--- What the code counts, one trade at a time, is what the trades come to: where prices never get better, the prices that begin
--- are the different prices.
-use Prim.Native.Nat.{ℕ, zero, suc, _+_, _-_, _*_, _≤_, _<_}
+-- What the code counts, one trade at a time, is what the trades come to: where prices never get better, the prices that
+-- begin are the different prices.
+use Prim.Native.Nat.{ℕ, zero, suc, _+_, _-_, _≤_, _<_}
 use mathlib.Core.Path.{_≡_, refl, sym, ap, _∙_}
 use mathlib.Core.Bool.{Bool, true, false, cond}
 use mathlib.Core.List.{List, [], _∷_, map}
@@ -14,12 +14,12 @@ use Rattle.model.specs.declared.Taker.{Taker}
 use Rattle.model.specs.Lists.{keep, total, once, different}
 use Rattle.model.specs.Book.{queue}
 use Rattle.model.specs.Matching.{tradeWith, sweep, filled, levels, lastPrice}
-use Rattle.book.specs.Standing.{Each, Standing}
+use Rattle.book.specs.Standing.{Standing}
 use Rattle.book.specs.Priority.{rank}
 use Rattle.matching.specs.declared.Swept.{Swept}
 use Rattle.matching.specs.Sweeping.{wants, comesTo, withTrade, withPrice}
 use Rattle.matching.proofs.Prices.{once-again, once-new}
-use Rattle.matching.proofs.Cuts.{cutSame, cutLevels, levels-none, levels-nil, levels-cons, Worsens, pricesOf, queue-worsens, no-return, worse}
+use Rattle.matching.proofs.Cuts.{cutSame, cutLevels, Worsens, pricesOf, queue-worsens, no-return, worse}
 use Rattle.matching.proofs.Partners.{sweep-cons, sweep-nil}
 
 -- ---- counted one at a time
@@ -160,10 +160,14 @@ begin-counts side a (t ∷ ts) w =
 
 -- ---- the prices of a sweep never get better
 
-worsens-same : (side a n p : ℕ) (os : List Order) → Worsens side a (pricesOf os) → Worsens side a (pricesOf (cutSame n p os))
+worsens-same :
+    (side a n p : ℕ) (os : List Order)
+    → Worsens side a (pricesOf os)
+    → Worsens side a (pricesOf (cutSame n p os))
 unfolding cutSame
 worsens-same side a n p [] w = tt
-worsens-same side a zero p (o ∷ os) w = go (eqb (o .price) p) (worsens-same side (rank side (o .price)) zero p os (w .2))
+worsens-same side a zero p (o ∷ os) w =
+    go (eqb (o .price) p) (worsens-same side (rank side (o .price)) zero p os (w .2))
   where
     go :
         (b : Bool)
@@ -183,14 +187,19 @@ worsens-same side a (suc n) p (o ∷ os) w =
     go true h k = (w .0, w .1, h)
     go false h k = (w .0, w .1, k)
 
-worsens-levels : (side a n : ℕ) (os : List Order) → Worsens side a (pricesOf os) → Worsens side a (pricesOf (cutLevels n os))
+pub worsens-levels :
+    (side a n : ℕ) (os : List Order)
+    → Worsens side a (pricesOf os)
+    → Worsens side a (pricesOf (cutLevels n os))
 unfolding cutLevels
 worsens-levels side a zero os w = tt
 worsens-levels side a (suc n) [] w = tt
 worsens-levels side a (suc n) (o ∷ os) w = (w .0, w .1, worsens-same side (rank side (o .price)) n (o .price) os (w .2))
 
 pub worsens-sweep :
-    (side a : ℕ) (t : Taker) (q : ℕ) (os : List Order) → Worsens side a (pricesOf os) → Worsens side a (paid (sweep t q os))
+    (side a : ℕ) (t : Taker) (q : ℕ) (os : List Order)
+    → Worsens side a (pricesOf os)
+    → Worsens side a (paid (sweep t q os))
 worsens-sweep side a t q [] w = rw (sweep-nil t q) tt
 worsens-sweep side a t q (o ∷ os) w =
     rw (sweep-cons t q o os)

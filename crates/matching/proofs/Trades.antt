@@ -1,7 +1,7 @@
 -- What every trade of a sweep is: within the limit, at the price of the resting order that it names, for no more than that
 -- order has; and how many they are, at how many prices, for how many shares.
-use Prim.Native.Nat.{ℕ, zero, suc, _+_, _-_, _≤_, _<_, min}
-use mathlib.Core.Path.{_≡_, refl, sym, ap, _∙_}
+use Prim.Native.Nat.{ℕ, suc, _+_, _-_, _≤_}
+use mathlib.Core.Path.{_≡_, refl, ap, _∙_}
 use mathlib.Core.Bool.{Bool, true, false, cond}
 use mathlib.Core.List.{List, [], _∷_, map}
 use mathlib.Core.Logic.{_⊎_, inl, inr}
@@ -11,8 +11,8 @@ use lib.Dec.{eqb}
 use Rattle.model.specs.declared.Order.{Order}
 use Rattle.model.specs.declared.Trade.{Trade}
 use Rattle.model.specs.declared.Taker.{Taker}
-use Rattle.model.specs.Lists.{keep, total, among, once, different}
-use Rattle.model.specs.Matching.{meets, tradeWith, sweep, filled, levels, lastPrice}
+use Rattle.model.specs.Lists.{keep, total, among, once}
+use Rattle.model.specs.Matching.{meets, tradeWith, sweep, filled, levels}
 use Rattle.book.specs.Standing.{Each}
 use Rattle.book.proofs.Lists.{each, kept}
 use Rattle.matching.specs.Sweeping.{wants, atBest}
@@ -26,6 +26,20 @@ use Rattle.matching.proofs.Partners.{sweep-nil, sweep-cons, wants-allow
 abbrev pub Some : {A : Type 0} → (A → Type 0) → List A → Type 0
 Some P [] = ⊥
 Some P (x ∷ xs) = P x ⊎ Some P xs
+
+-- an element that has it is one that has it
+some-more :
+    {A B : Type 0} (P : A → B → Type 0) (x : A) (os xs : List A)
+    → Each (λ o. (r : B) → P o r → Some (λ p. P p r) xs) os
+    → Each (λ o. (r : B) → P o r → Some (λ p. P p r) (x ∷ xs)) os
+some-more P x [] xs e = tt
+some-more P x (o ∷ os) xs e = (λ r h. inr (e .0 r h), some-more P x os xs (e .1))
+
+pub some-each :
+    {B A : Type 0} (P : A → B → Type 0) (xs : List A)
+    → Each (λ x. (r : B) → P x r → Some (λ y. P y r) xs) xs
+some-each P [] = tt
+some-each P (x ∷ xs) = (λ r h. inl h, some-more P x xs xs (some-each P xs))
 
 -- the trade is one of the taker with this order
 pub record Deal (t : Taker) (o : Order) (r : Trade) : Type 0 where
@@ -53,6 +67,14 @@ all-paid :
 all-paid ps [] e = tt
 all-paid ps (r ∷ ts) e = (e .0, all-paid ps ts (e .1))
 
+pub filled-nil : filled [] ≡ 0
+unfolding filled total
+filled-nil = refl
+
+pub filled-more : (r : Trade) (ts : List Trade) → filled (r ∷ ts) ≡ r .quantity + filled ts
+unfolding filled total
+filled-more r ts = refl
+
 module _ (t : Taker) where
   -- a fact of each trade, from each order that it may be with
   pub each-trade :
@@ -73,22 +95,8 @@ module _ (t : Taker) where
 
   -- each is with one of the orders
   pub each-deal : (q : ℕ) (os : List Order) → Each (λ r. Some (λ o. Deal t o r) os) (sweep t q os)
-  each-deal q os = each-trade (λ r. Some (λ o. Deal t o r) os) q os (into os (λ o h. h))
-    where
-      into :
-          (xs : List Order)
-          → ((o : Order) → Some (λ p. p ≡ o) xs → Some (λ p. p ≡ o) os)
-          → Each (λ o. (r : Trade) → Deal t o r → Some (λ p. Deal t p r) os) xs
-      into [] f = tt
-      into (x ∷ xs) f = (
-        λ r d. found os (f x (inl refl)) d,
-        into xs (λ o h. f o (inr h)),
-      )
-        where
-          found : {r : Trade} (ys : List Order) → Some (λ p. p ≡ x) ys → Deal t x r → Some (λ p. Deal t p r) ys
-          found {r} [] s d = s
-          found {r} (y ∷ ys) (inl e) d = inl (rw e d)
-          found {r} (y ∷ ys) (inr s) d = inr (found ys s d)
+  each-deal q os =
+      each-trade (λ r. Some (λ o. Deal t o r) os) q os (some-each (λ (o : Order) (r : Trade). Deal t o r) os)
 
   -- ---- how much
 

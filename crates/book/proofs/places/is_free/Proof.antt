@@ -24,8 +24,13 @@ returns-4 c = simp (ne-eqb _ _ (c .if4 .taken), and-false)
 returns-5 : tie.Need-returns-5
 unfolding isFree
 returns-5 c =
-    rw
-    (eq-eqb _ _ (c .before .before .before .before .before .before .before .if1 .left), eq-eqb _ _ (c .before .before .before .before .before .if2 .left), eq-eqb _ _ (c .before .before .before .if3 .left), eq-eqb _ _ (c .before .if4 .left))
+    rw (
+      eq-eqb _ _ (c .before .before .before .before .before .before .before .if1 .left),
+      eq-eqb _ _
+          (c .before .before .before .before .before .if2 .left),
+      eq-eqb _ _ (c .before .before .before .if3 .left),
+      eq-eqb _ _ (c .before .if4 .left),
+    )
 
 pub is-free-spec : {M : Type 1} → statement M
 is-free-spec = tie.close (tie.spec returns returns-2 returns-3 returns-4 returns-5)

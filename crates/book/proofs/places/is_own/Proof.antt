@@ -1,6 +1,6 @@
 -- By the tests, one after the other.
-use mathlib.Core.Path.{sym, ap, _∙_}
-use mathlib.Core.Bool.{not, and-false}
+use mathlib.Core.Path.{sym, _∙_}
+use mathlib.Core.Bool.{and-false}
 use borrow.Author.Tests.{eq-eqb, ne-eqb, not-true, not-false}
 use Rattle.model.specs.Calls.{isOwn}
 use borrow.Author.Needs.{needs}
@@ -20,7 +20,12 @@ returns-2 c = simp (ne-eqb _ _ (c .if2 .taken), and-false)
 
 returns-3 : tie.Need-returns-3
 unfolding isOwn
-returns-3 c = simp (eq-eqb _ _ (c .before .if2 .left), sym (c .before .before .before .before .is-live .ensures) ∙ not-false _ (c .before .before .before .if1 .left))
+returns-3 c =
+    simp (
+      eq-eqb _ _ (c .before .if2 .left),
+      sym (c .before .before .before .before .is-live .ensures)
+          ∙ not-false _ (c .before .before .before .if1 .left),
+    )
 
 pub is-own-spec : {M : Type 1} → statement M
 is-own-spec = tie.close (tie.spec is-live-requires returns returns-2 returns-3)

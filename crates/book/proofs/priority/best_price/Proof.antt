@@ -15,10 +15,14 @@ enum-known-next : tie.Need-enum-known-next
 enum-known-next c = search needs
 
 returns : tie.Need-returns
-returns c = best-none _ _ (c .before .before .next-after .ensures) (c .enum-told .given .1) ∙ past-zero _ _ (c .before .before .before .pre)
+returns c =
+    best-none _ _ (c .before .before .next-after .ensures) (c .enum-told .given .1)
+    ∙ past-zero _ _ (c .before .before .before .pre)
 
 returns-2 : tie.Need-returns-2
-returns-2 c = best-first _ _ _ _ (c .before .before .before .next-after .ensures) (c .before .next .given .1) ∙ past-zero _ _ (c .before .before .before .before .pre)
+returns-2 c =
+    best-first _ _ _ _ (c .before .before .before .next-after .ensures) (c .before .next .given .1)
+    ∙ past-zero _ _ (c .before .before .before .before .pre)
 
 pub best-price-spec : {M : Type 1} → statement M
 best-price-spec =

@@ -36,7 +36,8 @@ loop-less c = omega arith
 loop-again : tie.Need-loop-again Inv-loop μ-loop
 loop-again c = (
   omega arith,
-  found-more _ _ _ _ _ _ _ (c .before .before .loop-test .taken) (c .before .before .before .loop .inv .0) (c .before .before .before .loop .inv .1) (c .before .order-at .ensures) (c .next-with .ensures),
+  found-more _ _ _ _ _ _ _ (c .before .before .loop-test .taken) (c .before .before .before .loop .inv .0)
+      (c .before .before .before .loop .inv .1) (c .before .order-at .ensures) (c .next-with .ensures),
 )
 
 returns : tie.Need-returns Inv-loop μ-loop

@@ -22,7 +22,8 @@ sooner-of-requires c κs = search needs
 returns-4 : tie.Need-returns-4
 returns-4 c =
     rw
-    (it-counts _ _ _ _ (c .before .before .before .before .before .if1 .left) (c .before .before .before .if2 .left) (c .before .before .key-of .ensures) (c .before .if3 .left))
+    (it-counts _ _ _ _ (c .before .before .before .before .before .if1 .left) (c .before .before .before .if2 .left)
+    (c .before .before .key-of .ensures) (c .before .if3 .left))
     (c .sooner-of .ensures)
 
 pub next-with-spec : {M : Type 1} → statement M

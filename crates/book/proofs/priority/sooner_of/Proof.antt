@@ -17,10 +17,14 @@ returns : tie.Need-returns
 returns c = sooner-none _ _ _ (c .before .before .key-of .ensures) (c .enum-told .given .1)
 
 returns-2 : tie.Need-returns-2
-returns-2 c = sooner-old _ _ _ (c .before .before .before .before .key-of .ensures) _ _ (c .before .before .next .given .1) (c .if1 .taken)
+returns-2 c =
+    sooner-old _ _ _ (c .before .before .before .before .key-of .ensures) _ _ (c .before .before .next .given .1)
+    (c .if1 .taken)
 
 returns-3 : tie.Need-returns-3
-returns-3 c = sooner-new _ _ _ (c .before .before .before .before .key-of .ensures) _ _ (c .before .before .next .given .1) (c .if1 .left)
+returns-3 c =
+    sooner-new _ _ _ (c .before .before .before .before .key-of .ensures) _ _ (c .before .before .next .given .1)
+    (c .if1 .left)
 
 pub sooner-of-spec : {M : Type 1} → statement M
 sooner-of-spec =

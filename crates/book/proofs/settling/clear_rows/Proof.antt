@@ -1,7 +1,7 @@
 -- Place by place: the first `i` are free, the others still stand.
 -- the place is one of the book's
 use Prim.Native.Nat.{_<_, _-_}
-use mathlib.Core.Path.{_≡_, refl, _∙_}
+use mathlib.Core.Path.{_≡_, refl}
 use native.Mathlib.Omega.{arith}
 use lib.ListN.{length}
 use Rattle.model.specs.declared.Order.{Order}
@@ -20,7 +20,8 @@ abbrev μ-loop : tie.MeasureT-loop
 
 inside :
     (c : tie.After-rows Inv-loop μ-loop)
-    → c .before .before .before .before .before .loop .i < length (c .before .before .before .before .before .before .args .rows .now)
+    → c .before .before .before .before .before .loop .i
+    < length (c .before .before .before .before .before .before .args .rows .now)
 inside c =
     let l = c .before .before .before .before .before in
     let rows₀ = l .before .args .rows .now in
@@ -45,7 +46,8 @@ loop-less c = omega (arith, inside c)
 loop-again : tie.Need-loop-again Inv-loop μ-loop
 loop-again c =
     let l = c .before .before .before .before .before in
-    rewrite-next _ (l .before .args .rows .now) (l .loop .rows) _ (l .loop .inv) _ _ _ (inside c) refl (c .before .before .free-place .ensures) (c .before .put-order .ensures)
+    rewrite-next _ (l .before .args .rows .now) (l .loop .rows) _ (l .loop .inv) _ _ _ (inside c) refl
+    (c .before .before .free-place .ensures) (c .before .put-order .ensures)
 
 same-length : tie.Need-same-length Inv-loop μ-loop
 same-length c = rewrite-long _ (c .before .before .args .rows .now) _ _ (c .before .loop .inv)

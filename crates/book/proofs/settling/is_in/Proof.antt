@@ -1,5 +1,4 @@
 -- The test on the buyer decides, else the one on the seller.
-use mathlib.Core.Path.{sym}
 use borrow.Author.Tests.{eq-eqb, ne-eqb}
 use Rattle.model.specs.Matching.{isIn}
 use Rattle.book.proofs.settling.is_in.Statement.{statement}

@@ -37,11 +37,14 @@ loop-again c =
     let i = c .before .before .before .loop .i in
     let h : i < length (a .trades .now) = omega arith in (
       omega arith,
-      left-more _ _ (a .trades .now) _ _ i _ h (c .before .before .before .loop .inv .1) (c .before .trade-at .ensures) (c .left-by .ensures),
+      left-more _ _ (a .trades .now) _ _ i _ h (c .before .before .before .loop .inv .1)
+          (c .before .trade-at .ensures) (c .left-by .ensures),
     )
 
 returns : tie.Need-returns Inv-loop μ-loop
-returns c = left-all _ _ (c .before .before .args .trades .now) _ _ _ (c .before .loop .inv .0) (c .loop-test .left) (c .before .loop .inv .1)
+returns c =
+    left-all _ _ (c .before .before .args .trades .now) _ _ _ (c .before .loop .inv .0) (c .loop-test .left)
+    (c .before .loop .inv .1)
 
 pub left-after-spec : {M : Type 1} → statement M
 left-after-spec =

@@ -12,10 +12,12 @@ sub-result : tie.Need-sub-result
 sub-result c = search needs
 
 returns : tie.Need-returns
-returns c = part-all _ _ _ (sym (c .before .before .before .is-in .ensures) ∙ c .before .before .if1 .taken) (c .if2 .taken)
+returns c =
+    part-all _ _ _ (sym (c .before .before .before .is-in .ensures) ∙ c .before .before .if1 .taken) (c .if2 .taken)
 
 returns-2 : tie.Need-returns-2
-returns-2 c = part-some _ _ _ (sym (c .before .before .before .before .is-in .ensures) ∙ c .before .before .before .if1 .taken)
+returns-2 c =
+    part-some _ _ _ (sym (c .before .before .before .before .is-in .ensures) ∙ c .before .before .before .if1 .taken)
 
 returns-3 : tie.Need-returns-3
 returns-3 c = part-none _ _ _ (sym (c .before .is-in .ensures) ∙ c .if1 .left)

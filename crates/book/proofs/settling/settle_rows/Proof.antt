@@ -13,7 +13,8 @@ use Rattle.book.proofs.settling.settle_rows.Statement.{statement}
 use Rattle.book.proofs.settling.settle_rows.Tie as tie
 
 abbrev Inv-loop : tie.InvT-loop
-Inv-loop rows₀ trades n i₀ rows i = rows ≡ halfway (λ (o : Order). lessBy (filledOf (o .number) (tradesOf (take n trades))) o) i rows₀
+Inv-loop rows₀ trades n i₀ rows i =
+    rows ≡ halfway (λ (o : Order). lessBy (filledOf (o .number) (tradesOf (take n trades))) o) i rows₀
 
 abbrev μ-loop : tie.MeasureT-loop
 μ-loop rows₀ trades n i₀ rows i = length rows₀ - i
@@ -49,7 +50,9 @@ loop-less c = omega (arith, inside c)
 loop-again : tie.Need-loop-again Inv-loop μ-loop
 loop-again c =
     let l = c .before .before .before .before .before .before .before in
-    rewrite-next _ (l .before .args .rows .now) (l .loop .rows) _ (l .loop .inv) _ _ _ (inside c) (c .before .before .before .before .order-at .ensures) (c .before .before .before .settled .ensures) (c .before .put-order .ensures)
+    rewrite-next _ (l .before .args .rows .now) (l .loop .rows) _ (l .loop .inv) _ _ _ (inside c)
+    (c .before .before .before .before .order-at .ensures) (c .before .before .before .settled .ensures)
+    (c .before .put-order .ensures)
 
 same-length : tie.Need-same-length Inv-loop μ-loop
 same-length c = rewrite-long _ (c .before .before .args .rows .now) _ _ (c .before .loop .inv)

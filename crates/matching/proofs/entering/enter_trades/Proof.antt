@@ -1,6 +1,5 @@
 -- No trade outside continuous trading or without a price; else one sweep.
 use mathlib.Core.Path.{refl}
-use native.Mathlib.Omega.{arith}
 use Rattle.matching.proofs.Entries.{outside, unpriced, entered}
 use borrow.Author.Needs.{needs}
 use Rattle.matching.proofs.entering.enter_trades.Statement.{statement}
@@ -34,7 +33,9 @@ returns-2 c =
     let e = c .before .before in
     let o = e .before .before .before in
     let b = o .before .before in
-    unpriced (b .args .d) (b .args .a) _ _ (b .pre .1 .1 .0) _ _ _ _ (o .best-price .ensures) (e .before .best-price2 .ensures) (e .before .before .other-side .ensures) (e .entry-price .ensures) _ _ _ (c .before .if2 .taken) (c .nothing-yet2 .ensures)
+    unpriced (b .args .d) (b .args .a) _ _ (b .pre .1 .1 .0) _ _ _ _ (o .best-price .ensures)
+    (e .before .best-price2 .ensures) (e .before .before .other-side .ensures) (e .entry-price .ensures) _ _ _
+    (c .before .if2 .taken) (c .nothing-yet2 .ensures)
 
 add-sweep : tie.Need-add-sweep
 add-sweep c = search needs
@@ -55,7 +56,10 @@ returns-3 c =
     let e = f .before in
     let o = e .before .before .before in
     let b = o .before .before in
-    entered (b .args .d) (b .args .a) _ _ (b .pre .1 .1 .0) _ _ _ _ (o .best-price .ensures) (e .before .best-price2 .ensures) (e .before .before .other-side .ensures) (e .entry-price .ensures) _ _ _ (b .args .trades .now) _ _ (b .pre .0) (o .before .if1 .left) (f .if2 .left) refl (m .most-prices .ensures) (c .before .sweep .ensures)
+    entered (b .args .d) (b .args .a) _ _ (b .pre .1 .1 .0) _ _ _ _ (o .best-price .ensures)
+    (e .before .best-price2 .ensures) (e .before .before .other-side .ensures) (e .entry-price .ensures) _ _ _
+    (b .args .trades .now) _ _ (b .pre .0) (o .before .if1 .left) (f .if2 .left) refl (m .most-prices .ensures)
+    (c .before .sweep .ensures)
 
 pub enter-trades-spec : {M : Type 1} → statement M
 enter-trades-spec =

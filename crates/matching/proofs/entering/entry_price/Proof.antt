@@ -17,7 +17,8 @@ best-for-requires-2 c κs = search needs
 
 returns-2 : tie.Need-returns-2
 unfolding entryAt
-returns-2 c = rw (ne-eqb _ _ (c .before .before .before .if1 .left), eq-eqb _ _ (c .before .if2 .taken)) (c .best-for2 .ensures)
+returns-2 c =
+    rw (ne-eqb _ _ (c .before .before .before .if1 .left), eq-eqb _ _ (c .before .if2 .taken)) (c .best-for2 .ensures)
 
 returns-3 : tie.Need-returns-3
 unfolding entryAt

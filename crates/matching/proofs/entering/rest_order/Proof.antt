@@ -28,7 +28,8 @@ returns-2 : tie.Need-returns-2
 returns-2 c =
     let b = c .before in
     let rows = b .before .before .args .rows .now in
-    rest-rows _ rows rows _ (b .lowest-free .ensures) (sym (set-out rows (b .lowest-free .result) (rowOf (b .before .before .args .o)) (c .if1 .left)))
+    rest-rows _ rows rows _ (b .lowest-free .ensures)
+    (sym (set-out rows (b .lowest-free .result) (rowOf (b .before .before .args .o)) (c .if1 .left)))
 
 pub rest-order-spec : {M : Type 1} → statement M
 rest-order-spec =

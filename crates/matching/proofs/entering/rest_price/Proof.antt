@@ -15,20 +15,32 @@ best-for-requires c κs = search needs
 returns-2 : tie.Need-returns-2
 unfolding restAt
 returns-2 c =
-    rw
-    (ne-eqb _ _ (c .before .before .before .before .before .if1 .left), eq-eqb _ _ (c .before .before .before .if2 .taken), eq-eqb _ _ (c .before .if3 .taken))
+    rw (
+      ne-eqb _ _ (c .before .before .before .before .before .if1 .left),
+      eq-eqb _ _
+          (c .before .before .before .if2 .taken),
+      eq-eqb _ _ (c .before .if3 .taken),
+    )
     (c .best-for .ensures)
 
 returns-3 : tie.Need-returns-3
 unfolding restAt
-returns-3 c = rw (ne-eqb _ _ (c .before .before .before .before .if1 .left), eq-eqb _ _ (c .before .before .if2 .taken), ne-eqb _ _ (c .if3 .left))
+returns-3 c =
+    rw (
+      ne-eqb _ _ (c .before .before .before .before .if1 .left),
+      eq-eqb _ _ (c .before .before .if2 .taken),
+      ne-eqb _
+          _ (c .if3 .left),
+    )
 
 entry-price-requires : tie.Need-entry-price-requires
 entry-price-requires c κs = search needs
 
 returns-4 : tie.Need-returns-4
 unfolding restAt
-returns-4 c = rw (ne-eqb _ _ (c .before .before .before .if1 .left), ne-eqb _ _ (c .before .if2 .left)) (c .entry-price .ensures)
+returns-4 c =
+    rw (ne-eqb _ _ (c .before .before .before .if1 .left), ne-eqb _ _ (c .before .if2 .left))
+    (c .entry-price .ensures)
 
 pub rest-price-spec : {M : Type 1} → statement M
 rest-price-spec =

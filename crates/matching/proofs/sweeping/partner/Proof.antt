@@ -24,17 +24,23 @@ meets-requires : tie.Need-meets-requires
 meets-requires c κs = search needs
 
 returns-2 : tie.Need-returns-2
-returns-2 c = nobody _ _ _ _ (on-the-other _ _ _ _ _ (c .before .before .before .other-side .ensures) (c .before .before .next-after .ensures)) (c .enum-told .given .1)
+returns-2 c =
+    nobody _ _ _ _
+    (on-the-other _ _ _ _ _ (c .before .before .before .other-side .ensures)
+    (c .before .before .next-after .ensures)) (c .enum-told .given .1)
 
 returns-3 : tie.Need-returns-3
 returns-3 c =
     let n = c .before .before .before .before .before in
-    the-first _ _ _ _ _ _ (on-the-other _ _ _ _ _ (n .before .other-side .ensures) (n .next-after .ensures)) (c .before .before .before .next .given .1) (n .before .before .if1 .left) (sym (c .before .meets .ensures) ∙ c .if2 .taken)
+    the-first _ _ _ _ _ _ (on-the-other _ _ _ _ _ (n .before .other-side .ensures) (n .next-after .ensures))
+    (c .before .before .before .next .given .1) (n .before .before .if1 .left)
+    (sym (c .before .meets .ensures) ∙ c .if2 .taken)
 
 returns-4 : tie.Need-returns-4
 returns-4 c =
     let n = c .before .before .before .before .before in
-    too-far _ _ _ _ _ _ (on-the-other _ _ _ _ _ (n .before .other-side .ensures) (n .next-after .ensures)) (c .before .before .before .next .given .1) (sym (c .before .meets .ensures) ∙ c .if2 .left)
+    too-far _ _ _ _ _ _ (on-the-other _ _ _ _ _ (n .before .other-side .ensures) (n .next-after .ensures))
+    (c .before .before .before .next .given .1) (sym (c .before .meets .ensures) ∙ c .if2 .left)
 
 pub partner-spec : {M : Type 1} → statement M
 partner-spec =

@@ -1,0 +1,113 @@
+-- An order keeps the book standing, in every phase: what rests of it has a side, a price, shares and its own number.
+use Prim.Native.Nat.{ℕ, _-_, _≤_, min, max}
+use mathlib.Core.Path.{_≡_, refl}
+use mathlib.Core.Bool.{Bool, true, false, cond, _||_}
+use mathlib.Core.List.{List}
+use native.Mathlib.Omega.{arith}
+use lib.Dec.{eqb}
+use borrow.Author.Tests.{eqb-false}
+use Rattle.model.specs.declared.Order.{Order}
+use Rattle.model.specs.declared.Asked.{Asked}
+use Rattle.model.specs.declared.Trade.{Trade}
+use Rattle.model.specs.declared.Day.{Day}
+use Rattle.model.specs.Book.{standsOn, best, other}
+use Rattle.model.specs.Matching.{within, filled, lastPrice, settle, rest}
+use Rattle.model.specs.Entry.{bestWithin, entryPrice, entryTrades, restPrice}
+use Rattle.model.specs.Calls.{placed}
+use Rattle.book.specs.Standing.{Each, Fair, Standing}
+use Rattle.book.proofs.Lists.{each}
+use Rattle.book.proofs.Best.{best-price}
+use Rattle.book.proofs.Kept.{standing-settle, standing-rest, fresh-settle}
+use Rattle.matching.proofs.Trades.{Deal}
+use Rattle.matching.proofs.Fills.{New}
+use Rattle.matching.proofs.EntryLaws.{last-has, taker, each-entry}
+
+module _ (d : Day) (a : Asked) (book : List Order) (standing : Standing book) (price : a .price ≤ 999_999) where
+  abbrev ts : List Trade
+  ts = entryTrades d a book
+
+  -- ---- its prices are prices
+
+  best-bound : (side : ℕ) → bestWithin a side book ≤ 999_999
+  unfolding bestWithin within
+  best-bound side = go (eqb (best side book) 0) (eqb (a .side) 0) (best-price side book (standing .fair))
+    where
+      go :
+          (b c : Bool)
+          → best side book ≤ 999_999
+          → cond b 0 (cond c (min (best side book) (a .price)) (max (best side book) (a .price))) ≤ 999_999
+      go true c h = omega arith
+      go false true h = omega arith
+      go false false h = omega arith
+
+  entry-bound : entryPrice a book ≤ 999_999
+  unfolding entryPrice
+  entry-bound = go (eqb (a .kind) 1) (eqb (a .kind) 2)
+    where
+      go :
+          (b c : Bool)
+          → cond b (bestWithin a (other (a .side)) book) (cond c (bestWithin a (a .side) book) (a .price)) ≤ 999_999
+      go true c = best-bound (other (a .side))
+      go false true = best-bound (a .side)
+      go false false = price
+
+  traded-bound : Each (λ r. r .price ≤ 999_999) ts
+  traded-bound =
+      each-entry d a book (λ r. r .price ≤ 999_999)
+      (each Fair (λ o. standsOn (other (a .side)) o ≡ true → (r : Trade) → Deal (taker d a book) o r → r .price ≤ 999_999) book
+      (λ o f t r h. omega (arith, h .price, f .price))
+      (standing .fair))
+
+  pub rest-bound : restPrice a ts book ≤ 999_999
+  unfolding restPrice
+  rest-bound = go (eqb (a .kind) 3) (eqb (a .kind) 4) (eqb (filled ts) 0) refl
+    where
+      go :
+          (b c e : Bool)
+          → eqb (filled ts) 0 ≡ e
+          → cond b 0 (cond c (cond e (bestWithin a (a .side) book) (lastPrice 0 ts)) (entryPrice a book)) ≤ 999_999
+      go true c e f = omega arith
+      go false true true f = best-bound (a .side)
+      go false true false f = last-has (λ p. p ≤ 999_999) 0 ts traded-bound (eqb-false (filled ts) 0 f)
+      go false false e f = entry-bound
+
+  -- ---- the book afterwards
+
+  module _
+      (number : ℕ) (side : a .side ≤ 1) (quantity : a .quantity ≤ 1_000_000)
+      (small : number ≤ 999_999) (new : New number book) where
+    -- the remainder as it rests
+    abbrev remainder : Order
+    remainder =
+        record { side = a .side; account = a .account; left = a .quantity - filled ts; price = restPrice a ts book; number = number }
+
+    fair-rest : (a .quantity - filled ts ≡ 0 → ⊥) → (restPrice a ts book ≡ 0 → ⊥) → Fair remainder
+    fair-rest q p =
+        record {
+          side = side;
+          price = rest-bound;
+          number = small;
+          left = omega arith;
+          none = λ e. absurd (new .real e);
+          some = λ n. omega arith;
+          priced = λ n. omega arith;
+        }
+
+    pub entered-standing : Standing (placed a number (a .quantity - filled ts) (restPrice a ts book) (settle ts book))
+    unfolding placed
+    entered-standing = go (eqb (a .quantity - filled ts) 0) refl (eqb (restPrice a ts book) 0) refl
+      where
+        go :
+            (b : Bool)
+            → eqb (a .quantity - filled ts) 0 ≡ b
+            → (e : Bool)
+            → eqb (restPrice a ts book) 0 ≡ e
+            → Standing (cond (b || e) (settle ts book) (rest remainder (settle ts book)))
+        go true x e y = standing-settle ts book standing
+        go false x true y = standing-settle ts book standing
+        go false x false y =
+            standing-rest remainder (settle ts book)
+            (fair-rest (eqb-false (a .quantity - filled ts) 0 x) (eqb-false (restPrice a ts book) 0 y))
+            (fresh-settle ts number book
+            (each (λ (o : Order). o .number ≡ number → ⊥) (λ (o : Order). o .number ≡ number → number ≡ 0) book (λ o f e. absurd (f e)) (new .fresh)))
+            (standing-settle ts book standing)
