@@ -1,8 +1,8 @@
 -- The price rule whole: the list names the prices that qualify, it is empty exactly when no buy reaches a sell, and
 -- otherwise exactly one price is left; so an auction is never undecided.
-use Prim.Native.Nat.{ℕ, zero, suc, _+_, _-_, _≤_, _<_}
-use mathlib.Core.Path.{_≡_, refl, sym, ap, _∙_}
-use mathlib.Core.Logic.{_⊎_, inl, inr, ⊎-elim, _↔_}
+use Prim.Native.Nat.{ℕ, _+_, _-_, _<_}
+use mathlib.Core.Path.{_≡_, refl, ap, _∙_}
+use mathlib.Core.Logic.{_⊎_, inl, inr, ⊎-elim}
 use mathlib.Core.Bool.{Bool, true, false, not, _&&_, _||_}
 use mathlib.Core.List.{List, [], _∷_}
 use native.Mathlib.Nat.{le-refl, le-trans}
@@ -21,9 +21,9 @@ use Rattle.model.specs.Sound.{crosses}
 use Rattle.model.specs.ClockCall.{auctionPrice, undecided}
 use Rattle.book.specs.Standing.{Standing}
 use Rattle.auction.specs.Spans.{turnOf, flatter, nearestIn}
-use Rattle.auction.specs.Rule.{Price, Qualifies, NoGap, Rising, PriceRule}
+use Rattle.auction.specs.Rule.{Qualifies, NoGap, Rising, PriceRule}
 use Rattle.auction.proofs.Bools.{true-or-false, not-both, not-true-false}
-use Rattle.auction.proofs.Runs.{run-length, run-at, run-has, has-run, Least}
+use Rattle.auction.proofs.Runs.{run-length, run-at, run-has, has-run}
 use Rattle.auction.proofs.Conditions.{test-told, told-test}
 use Rattle.auction.proofs.Spanning.{Spans, span-law}
 use Rattle.auction.proofs.Ties.{Flattest, flattest-one, flattest-many, left-is, none-left, nearest-least, none-flattest}
@@ -35,7 +35,12 @@ unfolding keep among any
 kept-has f [] p h e = e
 kept-has f (x ∷ xs) p h e = go (eqb p x) (f x) refl refl (kept-has f xs p h)
   where
-    go : (a b : Bool) → eqb p x ≡ a → f x ≡ b → (any (eqb p) xs ≡ true → any (eqb p) (keep f xs) ≡ true) → any (eqb p) (if b then x ∷ keep f xs else keep f xs) ≡ true
+    go :
+        (a b : Bool)
+        → eqb p x ≡ a
+        → f x ≡ b
+        → (any (eqb p) xs ≡ true → any (eqb p) (keep f xs) ≡ true)
+        → any (eqb p) (if b then x ∷ keep f xs else keep f xs) ≡ true
     go true true ea eb more = rw ea
     go true false ea eb more = absurd (not-both (rw (eqb-true p x ea) at h) eb)
     go false true ea eb more = rw ea (more (rw ea at e))
@@ -46,7 +51,13 @@ unfolding keep among any
 has-kept f [] p e = absurd (not-both e refl)
 has-kept f (x ∷ xs) p e = go (eqb p x) (f x) refl refl e (has-kept f xs p)
   where
-    go : (a b : Bool) → eqb p x ≡ a → f x ≡ b → any (eqb p) (if b then x ∷ keep f xs else keep f xs) ≡ true → (any (eqb p) (keep f xs) ≡ true → (f p ≡ true) × (any (eqb p) xs ≡ true)) → (f p ≡ true) × ((eqb p x || any (eqb p) xs) ≡ true)
+    go :
+        (a b : Bool)
+        → eqb p x ≡ a
+        → f x ≡ b
+        → any (eqb p) (if b then x ∷ keep f xs else keep f xs) ≡ true
+        → (any (eqb p) (keep f xs) ≡ true → (f p ≡ true) × (any (eqb p) xs ≡ true))
+        → (f p ≡ true) × ((eqb p x || any (eqb p) xs) ≡ true)
     go true true ea eb t more = (ap f (eqb-true p x ea) ∙ eb, rw ea)
     go true false ea eb t more = let r = more t in (r .0, rw ea)
     go false true ea eb t more = let r = more (rw ea at t) in (r .0, rw ea (r .1))
@@ -182,7 +193,9 @@ module _ (os : List Order) (s : Standing os) where
       go false e = refl
 
   -- the auction's price qualifies, or is 0 and buys do not reach sells
-  pub auction-price-cases : (d : Day) → (Qualifies os (auctionPrice d os) × (crosses os ≡ true)) ⊎ ((auctionPrice d os ≡ 0) × (crosses os ≡ false))
+  pub auction-price-cases :
+      (d : Day)
+      → (Qualifies os (auctionPrice d os) × (crosses os ≡ true)) ⊎ ((auctionPrice d os ≡ 0) × (crosses os ≡ false))
   unfolding auctionPrice
   auction-price-cases d =
       ⊎-elim
