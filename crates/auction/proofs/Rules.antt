@@ -1,16 +1,16 @@
 -- The price rule whole: the list names the prices that qualify, it is empty exactly when no buy reaches a sell, and
 -- otherwise exactly one price is left; so an auction is never undecided.
-use Prim.Native.Nat.{ℕ, _+_, _-_, _<_}
+use Prim.Native.Nat.{ℕ, _+_, _-_, _<_, _≤_}
 use mathlib.Core.Path.{_≡_, refl, ap, _∙_}
-use mathlib.Core.Logic.{_⊎_, inl, inr, ⊎-elim}
+use mathlib.Core.Logic.{_⊎_, inl, inr, ⊎-elim, _↔_}
 use mathlib.Core.Bool.{Bool, true, false, not, _&&_, _||_}
 use mathlib.Core.List.{List, [], _∷_}
 use native.Mathlib.Nat.{le-refl, le-trans}
 use native.Mathlib.Decide.{decLt}
 use native.Mathlib.Omega.{arith}
-use borrow.Author.Tests.{eqb-true}
+use borrow.Author.Tests.{eqb-true, leb-true, le-leb}
 use lib.ListN.{length, getD}
-use lib.Dec.{eqb}
+use lib.Dec.{leb, eqb}
 use Rattle.model.specs.declared.Order.{Order}
 use Rattle.model.specs.declared.Day.{Day}
 use Rattle.model.specs.Choice.{if_then_else_}
@@ -19,6 +19,7 @@ use Rattle.model.specs.Figures.{reference}
 use Rattle.model.specs.Auction.{prices, qualifies, qualifying, leastDifference, leftBy}
 use Rattle.model.specs.Sound.{crosses}
 use Rattle.model.specs.ClockCall.{auctionPrice, undecided}
+use Rattle.model.specs.AuctionCalls.{due}
 use Rattle.book.specs.Standing.{Standing}
 use Rattle.auction.specs.Spans.{turnOf, flatter, nearestIn}
 use Rattle.auction.specs.Rule.{Qualifies, NoGap, Rising, PriceRule}
@@ -76,6 +77,16 @@ unfolding qualifying prices
 qualifies-listed os {p} k =
     kept-has (qualifies os) (from 1 999_999) p (told-test os k)
     (run-has 1 999_999 p (k .price .from-1) (omega (arith, k .price .to-999999)))
+
+-- ---- the list from an asked price has those that are not below it
+pub due-names : (os : List Order) (asked p : ℕ) → (among (due asked os) p ≡ true) ↔ (Qualifies os p × (asked ≤ p))
+unfolding due
+due-names os asked p = (
+  λ e.
+      let k = has-kept (leb asked) (qualifying os) p e in
+      (listed-qualifies os (k .1), leb-true asked p (k .0)),
+  λ k. kept-has (leb asked) (qualifying os) p (le-leb asked p (k .1)) (qualifies-listed os (k .0)),
+)
 
 -- ---- consecutive numbers rise and have no gap
 empty-no-gap : {ps : List ℕ} → ps ≡ [] → NoGap ps

@@ -18,7 +18,7 @@ use Rattle.model.specs.AuctionCalls.{due}
 use Rattle.auction.specs.declared.Span.{Span}
 use Rattle.auction.specs.declared.Listed.{Listed}
 use Rattle.auction.specs.Spans.{ends}
-use Rattle.auction.specs.Written.{written, listed}
+use Rattle.auction.specs.Fitting.{fitted, listed}
 use Rattle.auction.proofs.Runs.{run-length, run-at, keep-run}
 use Rattle.auction.proofs.Spanning.{span-cases, spanned}
 
@@ -30,9 +30,9 @@ front l d i = take i l ++ drop i d
 front-next : (l d : List ℕ) (i : ℕ) → i < length d → i < length l → set (front l d i) i (getD l i 0) ≡ front l d (i + 1)
 front-next l d i h k = rw (add-one) (simp zero-add at (paste-suc d 0 l i 0 (omega arith) k))
 
-front-written : (l d : List ℕ) (i : ℕ) → i ≡ min (length d) (length l) → front l d i ≡ written l d
-unfolding written
-front-written l d i e = elim (decLe (length l) (length d)) [
+front-fitted : (l d : List ℕ) (i : ℕ) → i ≡ min (length d) (length l) → front l d i ≡ fitted l d
+unfolding fitted
+front-fitted l d i e = elim (decLe (length l) (length d)) [
   | yes h ↦
       let z : i ≡ length l = omega arith in
       rw z (rw (take-all (length l) l (le-refl (length l)), take-all (length d) l h))
@@ -60,7 +60,7 @@ pub record Filled (first hi : ℕ) (d : List ℕ) (out : List ℕ) (i p : ℕ) :
 
 -- what is handed back and what the lent list has become
 abbrev pub Wrote : List ℕ → List ℕ → Listed → List ℕ → Type 0
-Wrote l d r out = (r ≡ listed l d) × (out ≡ written l d)
+Wrote l d r out = (r ≡ listed l d) × (out ≡ fitted l d)
 
 module _ (first hi : ℕ) (d : List ℕ) where
   pub filled-start : Filled first hi d d 0 first
@@ -93,7 +93,7 @@ module _ (first hi : ℕ) (d : List ℕ) where
   filled-ends {out} {i} {p} {x} f e v =
       let l = from first (hi + 1 - first) in
       let z : i ≡ min (length d) (length l) = rw (run-length first (hi + 1 - first)) e in
-      (listed-is l d i x z v, f .same ∙ front-written l d i z)
+      (listed-is l d i x z v, f .same ∙ front-fitted l d i z)
 
   -- the prices have ended: nothing is due
   pub filled-full :
@@ -180,4 +180,4 @@ pub wrote-as : (d : List ℕ) {l k out : List ℕ} {r : Listed} → l ≡ k → 
 wrote-as d e h = rw e at h
 
 pub wrote-none : {k : List ℕ} (d : List ℕ) → k ≡ [] → Wrote k d (record { count = 0; next = 0 }) d
-wrote-none d e = rw e (listed-is [] d 0 0 (omega arith) refl, front-written [] d 0 (omega arith))
+wrote-none d e = rw e (listed-is [] d 0 0 (omega arith) refl, front-fitted [] d 0 (omega arith))
