@@ -1,17 +1,16 @@
 -- The three conditions at one price: the second, with a volume of at least 1, gives the other two; the prices that meet them
 -- have no gap, and strictly between two of them nothing is left over.
-use Prim.Native.Nat.{ℕ, zero, suc, _+_, _-_, _≤_, _<_, min}
-use mathlib.Core.Path.{_≡_, refl, sym, ap, _∙_}
-use mathlib.Core.Logic.{_⊎_, inl, inr, ⊎-elim, _↔_}
+use Prim.Native.Nat.{ℕ, _+_, _-_, _≤_, _<_, min}
+use mathlib.Core.Path.{_≡_, refl}
+use mathlib.Core.Logic.{_⊎_, inl, inr, ⊎-elim}
 use mathlib.Core.Bool.{Bool, true, false, _&&_, _||_}
 use mathlib.Core.List.{List}
-use native.Mathlib.Nat.{le-refl, le-trans}
-use native.Mathlib.Decide.{decLt, decLe}
+use native.Mathlib.Nat.{le-refl}
+use native.Mathlib.Decide.{decLe}
 use native.Mathlib.Omega.{arith}
 use borrow.Author.Tests.{leb-true, le-leb}
 use lib.Dec.{leb}
 use Rattle.model.specs.declared.Order.{Order}
-use Rattle.model.specs.Lists.{all, from}
 use Rattle.model.specs.Auction.{prices, demand, supply, volume, buysAbove, sellsBelow, buysAt, sellsAt, mostTrades, betterFill, oneSideFills, qualifies}
 use Rattle.auction.specs.Rule.{Price, Most, BetterFills, OneFills, Qualifies}
 use Rattle.auction.proofs.Bools.{not-both, and-left, and-right, and-both}

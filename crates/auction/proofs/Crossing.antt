@@ -1,10 +1,10 @@
 -- Buys reach sells exactly where some price has volume, and then some price qualifies.
-use Prim.Native.Nat.{ℕ, zero, suc, _+_, _-_, _≤_, _<_}
+use Prim.Native.Nat.{ℕ, _+_, _-_, _≤_, _<_}
 use mathlib.Core.Path.{_≡_, refl, sym, ap, _∙_}
 use mathlib.Core.Logic.{_⊎_, inl, inr, ⊎-elim}
 use mathlib.Core.Bool.{Bool, true, false, not, _&&_, _||_}
 use mathlib.Core.List.{List, [], _∷_}
-use native.Mathlib.Nat.{le-refl, le-trans, sub-add-cancel}
+use native.Mathlib.Nat.{le-refl, le-trans}
 use native.Mathlib.Decide.{decLt, decLe, ℕ-discrete}
 use native.Mathlib.Omega.{arith}
 use borrow.Author.Tests.{leb-true, le-leb, ltb-false, ltb-true, eqb-true, eq-eqb, ne-eqb, eqb-false, not-true}
@@ -14,18 +14,19 @@ use Rattle.model.specs.Choice.{if_then_else_}
 use Rattle.model.specs.Lists.{keep}
 use Rattle.model.specs.Book.{standsOn, better, ahead, insert, inPriority, queue, headPrice, best}
 use Rattle.model.specs.Matching.{meets}
-use Rattle.model.specs.Auction.{demand, supply, volume}
+use Rattle.model.specs.Auction.{demand, supply}
 use Rattle.model.specs.Sound.{crosses}
 use Rattle.book.specs.Standing.{Each, Fair, Standing}
 use Rattle.book.proofs.Queues.{Stands, on-live, queue-stands}
+use Rattle.book.proofs.Best.{best-price}
 use Rattle.auction.specs.Interest.{tradesFor, brings, interest}
 use Rattle.auction.specs.Spans.{turned, turnOf}
-use Rattle.auction.specs.Rule.{Price, Qualifies}
-use Rattle.auction.proofs.Bools.{true-or-false, not-both, not-true-false, and-left, and-right, and-both}
+use Rattle.auction.specs.Rule.{Qualifies}
+use Rattle.auction.proofs.Bools.{not-both, not-true-false, and-left, and-right, and-both}
 use Rattle.auction.proofs.Sums.{part-is, part-none}
 use Rattle.auction.proofs.Sides.{interest-buys, interest-sells, interest-next, interest-end, demand-falls, supply-rises, demand-top, supply-bottom}
-use Rattle.auction.proofs.Conditions.{volume-is, SellsCover, BuysCover, clears-qualifies, qualifies-clears}
-use Rattle.auction.proofs.Turning.{Turns, turn-law, sells-turned, turned-sells, unturned-buys}
+use Rattle.auction.proofs.Conditions.{SellsCover, BuysCover, clears-qualifies, qualifies-clears}
+use Rattle.auction.proofs.Turning.{Turns, turn-law, sells-turned, turned-sells}
 
 -- ---- a side's best order may trade at every price at which some order of the side may
 meets-either : (side : ℕ) (P : Bool → Type 0) → (side ≡ 0 → P true) → ((side ≡ 0 → ⊥) → P false) → P (eqb side 0)
@@ -52,7 +53,10 @@ module _ (side : ℕ) (a b : Order) (p : ℕ) where
       (λ z e f. strict (a .price) (b .price) (or-and (ltb (b .price) (a .price)) e) (ltb-true (a .price) (b .price) f))
       (λ z e f. strict (b .price) (a .price) (⊎-elim inl (λ k. inr (sym k)) (or-and (ltb (a .price) (b .price)) e)) (ltb-true (b .price) (a .price) f))
     where
-      or-and : (x : Bool) → x || (eqb (a .price) (b .price) && ltb (a .number) (b .number)) ≡ true → (x ≡ true) ⊎ (a .price ≡ b .price)
+      or-and :
+          (x : Bool)
+          → x || (eqb (a .price) (b .price) && ltb (a .number) (b .number)) ≡ true
+          → (x ≡ true) ⊎ (a .price ≡ b .price)
       or-and true e = inl refl
       or-and false e =
           inr (eqb-true (a .price) (b .price) (and-left (eqb (a .price) (b .price)) (ltb (a .number) (b .number)) e))
@@ -60,7 +64,7 @@ module _ (side : ℕ) (a b : Order) (p : ℕ) where
       strict : (m n : ℕ) → (ltb n m ≡ true) ⊎ (m ≡ n) → m < n → ⊥
       strict m n h k = ⊎-elim (λ t. omega (arith, ltb-true n m t)) (λ e. omega arith) h
 
-  ahead-meets : ahead side a b ≡ true → meets side (b .price) p ≡ true → meets side (a .price) p ≡ true
+  pub ahead-meets : ahead side a b ≡ true → meets side (b .price) p ≡ true → meets side (a .price) p ≡ true
   ahead-meets e = not-worse (worse-not-ahead e)
 
 module _ (side : ℕ) (p : ℕ) where
@@ -97,7 +101,10 @@ module _ (side : ℕ) (p : ℕ) where
   insert-from o [] h = inl h
   insert-from o (b ∷ q) h = go (ahead side b o) h
     where
-      go : (t : Bool) → Reaches (if t then b ∷ insert side o q else o ∷ b ∷ q) → (meets side (o .price) p ≡ true) ⊎ Reaches (b ∷ q)
+      go :
+          (t : Bool)
+          → Reaches (if t then b ∷ insert side o q else o ∷ b ∷ q)
+          → (meets side (o .price) p ≡ true) ⊎ Reaches (b ∷ q)
       go true k = inr k
       go false k = inl k
 
@@ -128,7 +135,12 @@ module _ (side : ℕ) (p : ℕ) where
   some-reach [] h = absurd (omega (arith, interest-end side p))
   some-reach (o ∷ os) h = go (standsOn side o) (meets side (o .price) p) refl refl (some-reach os)
     where
-      go : (s m : Bool) → standsOn side o ≡ s → meets side (o .price) p ≡ m → (1 ≤ interest os side p → Reaches (queue side os)) → Reaches (queue side (o ∷ os))
+      go :
+          (s m : Bool)
+          → standsOn side o ≡ s
+          → meets side (o .price) p ≡ m
+          → (1 ≤ interest os side p → Reaches (queue side os))
+          → Reaches (queue side (o ∷ os))
       go true true es em more = rw (queue-on o os es) (insert-new o (queue side os) em)
       go true false es em more =
           let z = brings-off o (rw (es, em)) in
@@ -152,7 +164,11 @@ module _ (side : ℕ) (p : ℕ) where
 
 -- ---- the best prices
 -- a queue whose first order may trade at p has a best price, which meets p
-best-meets : (side p : ℕ) (q : List Order) → Each (Stands side) q → Reaches side p q → (1 ≤ headPrice q) × (meets side (headPrice q) p ≡ true)
+best-meets :
+    (side p : ℕ) (q : List Order)
+    → Each (Stands side) q
+    → Reaches side p q
+    → (1 ≤ headPrice q) × (meets side (headPrice q) p ≡ true)
 unfolding headPrice
 best-meets side p [] f h = absurd h
 best-meets side p (o ∷ q) f h = (f .0 .0 .priced (on-live side o (f .0 .1)), h)
@@ -161,11 +177,6 @@ meets-best : (side p : ℕ) (q : List Order) → 1 ≤ headPrice q → meets sid
 unfolding headPrice
 meets-best side p [] h e = absurd (omega arith)
 meets-best side p (o ∷ q) h e = e
-
-top-price : (side : ℕ) (q : List Order) → Each (Stands side) q → headPrice q ≤ 999_999
-unfolding headPrice
-top-price side [] f = omega arith
-top-price side (o ∷ q) f = f .0 .0 .price
 
 some-test : (n : ℕ) → 1 ≤ n → not (eqb n 0) ≡ true
 some-test n h = rw (ne-eqb n 0 (omega arith))
@@ -227,10 +238,6 @@ module _ (os : List Order) (s : Standing os) where
       rw (← interest-sells os p)
       (reach-some 1 p os (s .fair) (meets-best 1 p (queue 1 os) h (le-leb (headPrice (queue 1 os)) p k)))
 
-  best-top : best 0 os ≤ 999_999
-  unfolding best
-  best-top = top-price 0 (queue 0 os) (queue-stands 0 os (s .fair))
-
   -- ---- where buys reach sells some price qualifies
   -- below the sells' turning point there are no sells, or more buys
   turn-below : {r : ℕ} → Turns os 1 r → (supply os (r - 1) ≡ 0) ⊎ (supply os (r - 1) < demand os r)
@@ -250,7 +257,12 @@ module _ (os : List Order) (s : Standing os) where
   ]
 
   -- so there the buys cover too, where some price b has volume
-  buys-cover-first : (b : ℕ) {r : ℕ} → 1 ≤ demand os b → 1 ≤ supply os b → (supply os (r - 1) ≡ 0) ⊎ (supply os (r - 1) < demand os r) → BuysCover os r
+  buys-cover-first :
+      (b : ℕ) {r : ℕ}
+      → 1 ≤ demand os b
+      → 1 ≤ supply os b
+      → (supply os (r - 1) ≡ 0) ⊎ (supply os (r - 1) < demand os r)
+      → BuysCover os r
   buys-cover-first b {r} db sb turn = elim (decLe r b) [
     | yes l ↦
         let a = demand-falls os l in
@@ -281,7 +293,7 @@ module _ (os : List Order) (s : Standing os) where
 
   pub cross-qualifies : Cross → Qualifies os (turnOf os 1)
   cross-qualifies c =
-      volume-qualifies (best 0 os) best-top (best-demand (best 0 os) (c .buys) (le-refl (best 0 os)))
+      volume-qualifies (best 0 os) (best-price 0 os (s .fair)) (best-demand (best 0 os) (c .buys) (le-refl (best 0 os)))
       (best-supply (best 0 os) (c .sells) (c .meet))
 
   pub qualifies-cross : {p : ℕ} → Qualifies os p → Cross

@@ -1,16 +1,16 @@
 -- The price rule whole: the list names the prices that qualify, it is empty exactly when no buy reaches a sell, and
 -- otherwise exactly one price is left; so an auction is never undecided.
-use Prim.Native.Nat.{ℕ, zero, suc, _+_, _-_, _≤_, _<_}
-use mathlib.Core.Path.{_≡_, refl, sym, ap, _∙_}
+use Prim.Native.Nat.{ℕ, _+_, _-_, _<_, _≤_}
+use mathlib.Core.Path.{_≡_, refl, ap, _∙_}
 use mathlib.Core.Logic.{_⊎_, inl, inr, ⊎-elim, _↔_}
 use mathlib.Core.Bool.{Bool, true, false, not, _&&_, _||_}
 use mathlib.Core.List.{List, [], _∷_}
 use native.Mathlib.Nat.{le-refl, le-trans}
 use native.Mathlib.Decide.{decLt}
 use native.Mathlib.Omega.{arith}
-use borrow.Author.Tests.{eqb-true}
+use borrow.Author.Tests.{eqb-true, leb-true, le-leb}
 use lib.ListN.{length, getD}
-use lib.Dec.{eqb}
+use lib.Dec.{leb, eqb}
 use Rattle.model.specs.declared.Order.{Order}
 use Rattle.model.specs.declared.Day.{Day}
 use Rattle.model.specs.Choice.{if_then_else_}
@@ -19,11 +19,12 @@ use Rattle.model.specs.Figures.{reference}
 use Rattle.model.specs.Auction.{prices, qualifies, qualifying, leastDifference, leftBy}
 use Rattle.model.specs.Sound.{crosses}
 use Rattle.model.specs.ClockCall.{auctionPrice, undecided}
+use Rattle.model.specs.AuctionCalls.{due}
 use Rattle.book.specs.Standing.{Standing}
 use Rattle.auction.specs.Spans.{turnOf, flatter, nearestIn}
-use Rattle.auction.specs.Rule.{Price, Qualifies, NoGap, Rising, PriceRule}
+use Rattle.auction.specs.Rule.{Qualifies, NoGap, Rising, PriceRule}
 use Rattle.auction.proofs.Bools.{true-or-false, not-both, not-true-false}
-use Rattle.auction.proofs.Runs.{run-length, run-at, run-has, has-run, Least}
+use Rattle.auction.proofs.Runs.{run-length, run-at, run-has, has-run}
 use Rattle.auction.proofs.Conditions.{test-told, told-test}
 use Rattle.auction.proofs.Spanning.{Spans, span-law}
 use Rattle.auction.proofs.Ties.{Flattest, flattest-one, flattest-many, left-is, none-left, nearest-least, none-flattest}
@@ -35,7 +36,12 @@ unfolding keep among any
 kept-has f [] p h e = e
 kept-has f (x ∷ xs) p h e = go (eqb p x) (f x) refl refl (kept-has f xs p h)
   where
-    go : (a b : Bool) → eqb p x ≡ a → f x ≡ b → (any (eqb p) xs ≡ true → any (eqb p) (keep f xs) ≡ true) → any (eqb p) (if b then x ∷ keep f xs else keep f xs) ≡ true
+    go :
+        (a b : Bool)
+        → eqb p x ≡ a
+        → f x ≡ b
+        → (any (eqb p) xs ≡ true → any (eqb p) (keep f xs) ≡ true)
+        → any (eqb p) (if b then x ∷ keep f xs else keep f xs) ≡ true
     go true true ea eb more = rw ea
     go true false ea eb more = absurd (not-both (rw (eqb-true p x ea) at h) eb)
     go false true ea eb more = rw ea (more (rw ea at e))
@@ -46,7 +52,13 @@ unfolding keep among any
 has-kept f [] p e = absurd (not-both e refl)
 has-kept f (x ∷ xs) p e = go (eqb p x) (f x) refl refl e (has-kept f xs p)
   where
-    go : (a b : Bool) → eqb p x ≡ a → f x ≡ b → any (eqb p) (if b then x ∷ keep f xs else keep f xs) ≡ true → (any (eqb p) (keep f xs) ≡ true → (f p ≡ true) × (any (eqb p) xs ≡ true)) → (f p ≡ true) × ((eqb p x || any (eqb p) xs) ≡ true)
+    go :
+        (a b : Bool)
+        → eqb p x ≡ a
+        → f x ≡ b
+        → any (eqb p) (if b then x ∷ keep f xs else keep f xs) ≡ true
+        → (any (eqb p) (keep f xs) ≡ true → (f p ≡ true) × (any (eqb p) xs ≡ true))
+        → (f p ≡ true) × ((eqb p x || any (eqb p) xs) ≡ true)
     go true true ea eb t more = (ap f (eqb-true p x ea) ∙ eb, rw ea)
     go true false ea eb t more = let r = more t in (r .0, rw ea)
     go false true ea eb t more = let r = more (rw ea at t) in (r .0, rw ea (r .1))
@@ -65,6 +77,16 @@ unfolding qualifying prices
 qualifies-listed os {p} k =
     kept-has (qualifies os) (from 1 999_999) p (told-test os k)
     (run-has 1 999_999 p (k .price .from-1) (omega (arith, k .price .to-999999)))
+
+-- ---- the list from an asked price has those that are not below it
+pub due-names : (os : List Order) (asked p : ℕ) → (among (due asked os) p ≡ true) ↔ (Qualifies os p × (asked ≤ p))
+unfolding due
+due-names os asked p = (
+  λ e.
+      let k = has-kept (leb asked) (qualifying os) p e in
+      (listed-qualifies os (k .1), leb-true asked p (k .0)),
+  λ k. kept-has (leb asked) (qualifying os) p (le-leb asked p (k .1)) (qualifies-listed os (k .0)),
+)
 
 -- ---- consecutive numbers rise and have no gap
 empty-no-gap : {ps : List ℕ} → ps ≡ [] → NoGap ps
@@ -182,7 +204,9 @@ module _ (os : List Order) (s : Standing os) where
       go false e = refl
 
   -- the auction's price qualifies, or is 0 and buys do not reach sells
-  pub auction-price-cases : (d : Day) → (Qualifies os (auctionPrice d os) × (crosses os ≡ true)) ⊎ ((auctionPrice d os ≡ 0) × (crosses os ≡ false))
+  pub auction-price-cases :
+      (d : Day)
+      → (Qualifies os (auctionPrice d os) × (crosses os ≡ true)) ⊎ ((auctionPrice d os ≡ 0) × (crosses os ≡ false))
   unfolding auctionPrice
   auction-price-cases d =
       ⊎-elim

@@ -1,18 +1,17 @@
 -- Consecutive numbers: their length and places, what a test keeps of them, and where a function is least on them.
-use Prim.Native.Nat.{ℕ, zero, suc, _+_, _-_, _≤_, _<_, min}
+use Prim.Native.Nat.{ℕ, zero, suc, _+_, _-_, _≤_, _<_}
 use mathlib.Core.Path.{_≡_, refl, sym, ap, ap₂, _∙_}
-use mathlib.Core.Logic.{_⊎_, inl, inr, ⊎-elim}
-use mathlib.Core.Bool.{Bool, true, false, _&&_, _||_}
+use mathlib.Core.Bool.{Bool, true, false}
 use mathlib.Core.List.{List, [], _∷_, _++_, append-nil}
-use native.Mathlib.Nat.{le-refl, le-trans, not-suc-le-zero, le-of-suc-le-suc}
-use native.Mathlib.Decide.{decLt, decLe}
+use native.Mathlib.Nat.{le-refl, not-suc-le-zero, le-of-suc-le-suc}
+use native.Mathlib.Decide.{decLt}
 use native.Mathlib.Omega.{arith}
-use borrow.Author.Tests.{leb-true, le-leb, lt-leb, lt-ltb, le-ltb, eq-eqb, ne-eqb, eqb-true}
+use borrow.Author.Tests.{eq-eqb, ne-eqb}
 use lib.ListN.{length, getD}
-use lib.Dec.{leb, ltb, eqb}
+use lib.Dec.{eqb}
 use Rattle.model.specs.Choice.{if_then_else_}
 use Rattle.model.specs.Lists.{keep, all, any, among, least, atLeast, from}
-use Rattle.auction.proofs.Bools.{true-or-false, not-both, and-left, and-right, and-both}
+use Rattle.auction.proofs.Bools.{not-both, and-left, and-right, and-both}
 
 -- ---- length and places
 pub run-length : (a n : ℕ) → length (from a n) ≡ n
@@ -40,7 +39,9 @@ unfolding keep
 keep-append f [] ys = refl
 keep-append f (x ∷ xs) ys = rw (keep-append f xs ys) (go (f x))
   where
-    go : (b : Bool) → (if b then x ∷ (keep f xs ++ keep f ys) else keep f xs ++ keep f ys) ≡ (if b then x ∷ keep f xs else keep f xs) ++ keep f ys
+    go :
+        (b : Bool)
+        → (if b then x ∷ (keep f xs ++ keep f ys) else keep f xs ++ keep f ys) ≡ (if b then x ∷ keep f xs else keep f xs) ++ keep f ys
     go true = refl
     go false = refl
 
@@ -156,7 +157,12 @@ least-value g lo n low high s =
       | no l ↦ elim (decLt high p) [ yes l′ ↦ omega (arith, s .above p l′ k) | no l′ ↦ omega (arith, s .same p (omega arith) (omega arith)) ]
     ]
 
-at-least-from : (g : ℕ → ℕ) (lo n low high m : ℕ) → least g lo (from (suc lo) n) ≡ m → m ≡ g low → Least g lo (lo + n) low high → keep (λ y. eqb (g y) m) (from lo (suc n)) ≡ from low (high + 1 - low)
+at-least-from :
+    (g : ℕ → ℕ) (lo n low high m : ℕ)
+    → least g lo (from (suc lo) n) ≡ m
+    → m ≡ g low
+    → Least g lo (lo + n) low high
+    → keep (λ y. eqb (g y) m) (from lo (suc n)) ≡ from low (high + 1 - low)
 at-least-from g lo n low high m e f s =
     keep-run (λ y. eqb (g y) m) lo (suc n) low (high + 1 - low)
     (record {
@@ -167,7 +173,10 @@ at-least-from g lo n low high m e f s =
       after = λ p h k. ne-eqb (g p) m (omega (arith, s .above p (omega (arith, s .some)) (omega arith)));
     })
 
-pub least-run : (g : ℕ → ℕ) (lo hi low high : ℕ) → Least g lo hi low high → atLeast g (from lo (hi + 1 - lo)) ≡ from low (high + 1 - low)
+pub least-run :
+    (g : ℕ → ℕ) (lo hi low high : ℕ)
+    → Least g lo hi low high
+    → atLeast g (from lo (hi + 1 - lo)) ≡ from low (high + 1 - low)
 unfolding atLeast from
 least-run g lo hi low high s =
     let h : lo ≤ hi = omega (arith, s .from-lo, s .some, s .to-hi) in

@@ -1,14 +1,14 @@
 -- Demand and supply: how they move with the price, how they split at a price, their bounds, and the pass that adds them up.
-use Prim.Native.Nat.{ℕ, zero, suc, _+_, _-_, _≤_, _<_, min}
+use Prim.Native.Nat.{ℕ, suc, _+_, _-_, _≤_, _<_, min}
 use mathlib.Core.Path.{_≡_, refl, sym, ap, ap₂, _∙_}
 use mathlib.Core.Logic.{_⊎_, inl, inr, ⊎-elim}
-use mathlib.Core.Bool.{Bool, true, false, not, _&&_}
+use mathlib.Core.Bool.{Bool, true, false, _&&_}
 use mathlib.Core.List.{List, [], _∷_}
-use native.Mathlib.Nat.{le-refl, le-trans, sub-add-cancel}
+use native.Mathlib.Nat.{le-trans, sub-add-cancel}
 use native.Mathlib.Numerals.{add-one}
 use native.Mathlib.Decide.{decLt}
 use native.Mathlib.Omega.{arith}
-use borrow.Author.Tests.{leb-true, leb-false, le-leb, lt-leb, le-ltb, lt-ltb, eqb-true, eq-eqb, ne-eqb, not-true}
+use borrow.Author.Tests.{leb-true, le-leb, lt-leb, le-ltb, lt-ltb, eq-eqb, ne-eqb}
 use lib.ListN.{length, getD, drop, drop-of-length-le}
 use lib.Seq.{drop-cons}
 use lib.Dec.{leb, ltb, eqb, leb·suc-suc}
@@ -16,13 +16,13 @@ use Rattle.model.specs.declared.Order.{Order}
 use Rattle.model.specs.Choice.{if_then_else_}
 use Rattle.model.specs.Book.{standsOn}
 use Rattle.model.specs.Matching.{meets}
-use Rattle.model.specs.Auction.{sharesOf, demand, supply, volume, buysAbove, sellsBelow, buysAt, sellsAt}
+use Rattle.model.specs.Auction.{demand, supply, volume, buysAbove, sellsBelow, buysAt, sellsAt}
 use Rattle.book.specs.Rows.{orderOf, bookOf}
 use Rattle.book.specs.Standing.{Fair, Standing}
 use Rattle.book.proofs.Queues.{on-live}
 use Rattle.auction.specs.declared.Interest.{Interest}
 use Rattle.auction.specs.Interest.{tradesFor, brings, interest, interestAt}
-use Rattle.auction.proofs.Bools.{true-or-false, not-both, and-left, and-right, and-mono}
+use Rattle.auction.proofs.Bools.{true-or-false, and-left, and-right, and-mono}
 use Rattle.auction.proofs.Sums.{shares-end, shares-next, shares-le, shares-same, shares-split, shares-bound, shares-none}
 
 -- ---- both sides at once
@@ -81,7 +81,10 @@ Splits b c d =
     ((b ≡ true) × (c ≡ true) × (d ≡ false))
     ⊎ (((b ≡ true) × (c ≡ false) × (d ≡ true)) ⊎ ((b ≡ false) × (c ≡ false) × (d ≡ false)))
 
-split-part : (a b c d : Bool) (n : ℕ) → Splits b c d → (if a && b then n else 0) ≡ (if a && c then n else 0) + (if a && d then n else 0)
+split-part :
+    (a b c d : Bool) (n : ℕ)
+    → Splits b c d
+    → (if a && b then n else 0) ≡ (if a && c then n else 0) + (if a && d then n else 0)
 split-part true b c d n (inl e) = rw (e .0, e .1, e .2) (omega arith)
 split-part true b c d n (inr (inl e)) = rw (e .0, e .1, e .2) (omega arith)
 split-part true b c d n (inr (inr e)) = rw (e .0, e .1, e .2) (omega arith)
@@ -169,7 +172,10 @@ module _ (rows : List (List ℕ)) (least most : ℕ) where
   pub passed-start : Passed rows least most 0 0 0
   passed-start = record { within = omega arith; buys = omega arith; sells = omega arith }
 
-  next-row : (i side p : ℕ) → i < length rows → interest (bookOf (drop i rows)) side p ≡ brings side p (orderOf (getD rows i [])) + interest (bookOf (drop (i + 1) rows)) side p
+  next-row :
+      (i side p : ℕ)
+      → i < length rows
+      → interest (bookOf (drop i rows)) side p ≡ brings side p (orderOf (getD rows i [])) + interest (bookOf (drop (i + 1) rows)) side p
   next-row i side p h =
       rw (add-one, drop-cons rows i []) (interest-next (orderOf (getD rows i [])) (bookOf (drop (suc i) rows)) side p)
 
@@ -195,7 +201,11 @@ module _ (rows : List (List ℕ)) (least most : ℕ) where
         let y′ : y ≡ brings 1 most (orderOf (getD rows i [])) = hy ∙ ap (brings 1 most) ho in
         omega (arith, next-row i 1 most h, k .sells, interest-bound (bookOf rows) 1 most b)
 
-  pub passed-end : {d s i : ℕ} → Passed rows least most d s i → length rows ≤ i → record { demand = d; supply = s } ≡ interestAt (bookOf rows) least most
+  pub passed-end :
+      {d s i : ℕ}
+      → Passed rows least most d s i
+      → length rows ≤ i
+      → record { demand = d; supply = s } ≡ interestAt (bookOf rows) least most
   unfolding interestAt
   passed-end {d} {s} {i} k h =
       let none : bookOf (drop i rows) ≡ [] = ap bookOf (drop-of-length-le rows h) in
@@ -214,6 +224,10 @@ pub pass-sells : (os : List Order) (least most : ℕ) {r : Interest} → r ≡ i
 unfolding interestAt
 pass-sells os least most e = ap (λ r. r .supply) e
 
-pub pass-volume : (os : List Order) (p : ℕ) {v : ℕ} {r : Interest} → r ≡ interestAt os p p → v ≡ min (r .demand) (r .supply) → v ≡ volume os p
+pub pass-volume :
+    (os : List Order) (p : ℕ) {v : ℕ} {r : Interest}
+    → r ≡ interestAt os p p
+    → v ≡ min (r .demand) (r .supply)
+    → v ≡ volume os p
 unfolding volume
 pass-volume os p e hv = hv ∙ ap₂ min (pass-buys os p p e) (pass-sells os p p e)

@@ -1,21 +1,17 @@
 -- The signed surplus: the difference of two sums over a book fits an i64, and the report that is put together of it.
-use Prim.Native.Nat.{ℕ, zero, suc, _+_, _-_, _≤_, _<_, min}
-use mathlib.Core.Path.{_≡_, refl, sym, ap, ap₂, _∙_}
-use mathlib.Core.Bool.{Bool, true, false}
+use Prim.Native.Nat.{ℕ, zero, suc, _+_, _-_, _≤_, min}
+use mathlib.Core.Path.{_≡_, refl, ap, ap₂, _∙_}
 use mathlib.Core.List.{List}
 use native.Mathlib.Omega.{arith}
 use native.Mathlib.Decide.{decLt}
 use borrow.Author.Tests.{lt-ltb, le-ltb, eq-eqb, ne-eqb}
-use lib.Dec.{ltb}
-use lib.IntN.{ℤ, pos, negsuc, _-ℤ_, subℕ}
+use lib.IntN.{ℤ, pos, _-ℤ_, subℕ}
 use lib.Signed.{mag}
 use mir.Syntax.{w64}
 use mir.Val.{SFits, toZ, ofZ}
 use mir.ValLaws.{toZ-pos, toZ-ofZ}
 use Rattle.model.specs.declared.Order.{Order}
-use Rattle.model.specs.declared.ReportReply.{ReportReply}
 use Rattle.model.specs.declared.ReportReply.the-variants.{Priced}
-use Rattle.model.specs.Choice.{if_then_else_}
 use Rattle.model.specs.Auction.{demand, supply, volume, surplus}
 use Rattle.model.specs.AuctionCalls.{reportAt}
 use Rattle.book.specs.Standing.{Standing}
@@ -53,7 +49,13 @@ module _ (os : List Order) (p : ℕ) where
       omega (arith, pass-sells os p p e, supply-bound os p b),
     )
 
-    pub report-some : Standing os → (p ≡ 0 → ⊥) → {v : ℕ} {z : ℤ} → v ≡ min (r .demand) (r .supply) → z ≡ subℕ (r .demand) (r .supply) → Priced p v (toZ w64 (ofZ w64 z)) ≡ reportAt p os
+    pub report-some :
+        Standing os
+        → (p ≡ 0 → ⊥)
+        → {v : ℕ} {z : ℤ}
+        → v ≡ min (r .demand) (r .supply)
+        → z ≡ subℕ (r .demand) (r .supply)
+        → Priced p v (toZ w64 (ofZ w64 z)) ≡ reportAt p os
     unfolding reportAt volume surplus
     report-some b n {v} {z} hv hz =
         let f = both-small b in

@@ -1,8 +1,8 @@
 -- The qualifying prices are none, or all from one end to the other.
-use Prim.Native.Nat.{ℕ, zero, suc, _+_, _-_, _≤_, _<_}
+use Prim.Native.Nat.{ℕ, suc, _+_, _-_, _≤_, _<_}
 use mathlib.Core.Path.{_≡_, refl, sym, ap, _∙_}
 use mathlib.Core.Logic.{_⊎_, inl, inr, ⊎-elim}
-use mathlib.Core.List.{List, [], _∷_}
+use mathlib.Core.List.{List, []}
 use native.Mathlib.Decide.{decLt}
 use native.Mathlib.Omega.{arith}
 use lib.ListN.{length, getD}
@@ -11,7 +11,7 @@ use Rattle.model.specs.Lists.{from}
 use Rattle.model.specs.Auction.{qualifying}
 use Rattle.auction.specs.declared.Span.{Span}
 use Rattle.auction.specs.Spans.{ends, turnOf}
-use Rattle.auction.specs.Rule.{Price, Qualifies}
+use Rattle.auction.specs.Rule.{Qualifies}
 use Rattle.auction.proofs.Runs.{run-length, run-at}
 use Rattle.auction.proofs.Turning.{Turns, turn-law, between-turns, turned-qualifies}
 

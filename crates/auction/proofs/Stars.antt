@@ -1,27 +1,25 @@
 -- Every situation of the table is right: each row is tested at its two turning points and their neighbours.
-use Prim.Native.Nat.{ℕ, zero, suc, _+_, _-_, _≤_, _<_}
-use mathlib.Core.Path.{_≡_, refl, sym, ap, _∙_}
-use mathlib.Core.Logic.{⊎-elim}
+use Prim.Native.Nat.{ℕ, _+_, _-_, _≤_, _<_}
+use mathlib.Core.Path.{_≡_, refl, ap, _∙_}
 use mathlib.Core.Bool.{Bool, true, false, not, _&&_, _||_}
 use mathlib.Core.List.{List, [], _∷_}
-use native.Mathlib.Nat.{le-refl, le-trans}
+use native.Mathlib.Nat.{le-refl}
 use native.Mathlib.Decide.{decLt, ℕ-discrete}
 use native.Mathlib.Omega.{arith}
 use borrow.Author.Tests.{leb-true, lt-ltb, le-ltb, eq-eqb, ne-eqb, not-true}
-use lib.ListN.{length, getD}
-use lib.IntN.{ℤ}
+use lib.ListN.{getD}
 use lib.Dec.{leb, ltb, eqb}
 use Rattle.model.specs.declared.Order.{Order}
 use Rattle.model.specs.Choice.{if_then_else_}
 use Rattle.model.specs.Lists.{keep, total, from}
 use Rattle.model.specs.Book.{isLive, standsOn}
-use Rattle.model.specs.Auction.{distance, sharesOf, demand, supply, volume, qualifying, leftBy, surplus}
+use Rattle.model.specs.Auction.{distance, sharesOf, demand, supply, volume, leftBy, surplus}
 use Rattle.model.specs.AuctionCalls.{reportAt}
 use Rattle.book.specs.Standing.{Each}
 use Rattle.auction.specs.Spans.{turned, gap, flatter, nearestIn}
-use Rattle.auction.specs.Stars.{Shown, Star, Right, stars, star-a, star-b, star-c, star-d, star-e, star-f}
+use Rattle.auction.specs.Stars.{Star, Right, stars, star-a, star-b, star-c, star-d, star-e, star-f}
 use Rattle.auction.proofs.Bools.{not-both, and-left, and-right}
-use Rattle.auction.proofs.Turning.{Bracket, Turns, turned-up, unturned-down, between-turns}
+use Rattle.auction.proofs.Turning.{Turns, turned-up, unturned-down, between-turns}
 use Rattle.auction.proofs.Spanning.{turns-span, turns-none}
 use Rattle.auction.proofs.Ties.{flattest-one, flattest-many, left-is, none-left, nearest-same}
 

@@ -1,7 +1,7 @@
 -- Sums of shares over a book: one order more, a weaker test, a sum split in two, a bound, and no shares at all.
-use Prim.Native.Nat.{ℕ, zero, suc, _+_, _*_, _≤_, zero-le}
-use mathlib.Core.Path.{_≡_, refl, sym, ap, _∙_}
-use mathlib.Core.Bool.{Bool, true, false, _&&_}
+use Prim.Native.Nat.{ℕ, _+_, _*_, _≤_, zero-le}
+use mathlib.Core.Path.{_≡_, refl, sym, _∙_}
+use mathlib.Core.Bool.{Bool, true, false}
 use mathlib.Core.List.{List, [], _∷_}
 use native.Mathlib.Nat.{le-refl}
 use native.Mathlib.Omega.{arith}
@@ -32,12 +32,16 @@ pub shares-end : (f : Order → Bool) → sharesOf f [] ≡ 0
 unfolding sharesOf keep total
 shares-end f = refl
 
-one-more : (b : Bool) (o : Order) (os : List Order) → total (λ p. p .left) (if b then o ∷ os else os) ≡ (if b then o .left else 0) + total (λ p. p .left) os
+one-more :
+    (b : Bool) (o : Order) (os : List Order)
+    → total (λ p. p .left) (if b then o ∷ os else os) ≡ (if b then o .left else 0) + total (λ p. p .left) os
 unfolding total
 one-more true o os = refl
 one-more false o os = omega arith
 
-pub shares-next : (f : Order → Bool) (o : Order) (os : List Order) → sharesOf f (o ∷ os) ≡ (if f o then o .left else 0) + sharesOf f os
+pub shares-next :
+    (f : Order → Bool) (o : Order) (os : List Order)
+    → sharesOf f (o ∷ os) ≡ (if f o then o .left else 0) + sharesOf f os
 unfolding sharesOf keep
 shares-next f o os = one-more (f o) o (keep f os)
 
@@ -52,7 +56,11 @@ shares-same f g h os =
     let b = shares-le g f (λ o e. h o ∙ e) os in
     omega arith
 
-pub shares-split : (f g k : Order → Bool) → ((o : Order) → (if f o then o .left else 0) ≡ (if g o then o .left else 0) + (if k o then o .left else 0)) → (os : List Order) → sharesOf f os ≡ sharesOf g os + sharesOf k os
+pub shares-split :
+    (f g k : Order → Bool)
+    → ((o : Order) → (if f o then o .left else 0) ≡ (if g o then o .left else 0) + (if k o then o .left else 0))
+    → (os : List Order)
+    → sharesOf f os ≡ sharesOf g os + sharesOf k os
 shares-split f g k h [] = omega (arith, shares-end f, shares-end g, shares-end k)
 shares-split f g k h (o ∷ os) =
     omega (arith, shares-next f o os, shares-next g o os, shares-next k o os, h o, shares-split f g k h os)

@@ -1,18 +1,17 @@
 -- The two tie rules on the qualifying prices: those of smallest difference lie together, and one of them is nearest.
-use Prim.Native.Nat.{ℕ, zero, suc, _+_, _-_, _≤_, _<_, min}
-use mathlib.Core.Path.{_≡_, refl, sym, ap, ap₂, _∙_}
+use Prim.Native.Nat.{ℕ, _+_, _-_, _≤_, _<_, min}
+use mathlib.Core.Path.{_≡_, refl, sym, ap, _∙_}
 use mathlib.Core.Logic.{_⊎_, inl, inr, ⊎-elim}
-use mathlib.Core.Bool.{Bool, true, false}
 use mathlib.Core.List.{List, [], _∷_}
-use native.Mathlib.Nat.{le-refl, le-trans}
-use native.Mathlib.Decide.{decLt, decLe, ℕ-discrete}
+use native.Mathlib.Nat.{le-refl}
+use native.Mathlib.Decide.{decLt, decLe}
 use native.Mathlib.Omega.{arith}
 use borrow.Author.Tests.{lt-ltb, le-ltb}
-use lib.ListN.{length, getD}
+use lib.ListN.{getD}
 use lib.Dec.{ltb}
 use Rattle.model.specs.declared.Order.{Order}
 use Rattle.model.specs.Choice.{if_then_else_}
-use Rattle.model.specs.Lists.{among, atLeast, from}
+use Rattle.model.specs.Lists.{atLeast, from}
 use Rattle.model.specs.Auction.{distance, demand, supply, qualifying, leastDifference, leftBy}
 use Rattle.auction.specs.declared.Span.{Span}
 use Rattle.auction.specs.declared.Interest.{Interest}
@@ -21,7 +20,7 @@ use Rattle.auction.specs.Spans.{ends, gap, flatter, nearestIn}
 use Rattle.auction.proofs.Sides.{pass-buys, pass-sells}
 use Rattle.auction.proofs.Runs.{Least, least-run}
 use Rattle.auction.proofs.Conditions.{inner-level}
-use Rattle.auction.proofs.Spanning.{Spans, SpanCases, span-cases, span-law}
+use Rattle.auction.proofs.Spanning.{Spans, span-cases}
 
 -- ---- where a function that is 0 strictly between lo and hi is least
 module _ (g : ℕ → ℕ) (lo hi m : ℕ) where
@@ -31,7 +30,14 @@ module _ (g : ℕ → ℕ) (lo hi m : ℕ) where
   abbrev High : ℕ → Type 0
   High high = ((high ≡ hi) × (g hi ≡ m)) ⊎ ((high + 1 ≡ hi) × (m < g hi))
 
-  least-ends : {low high : ℕ} → ((q : ℕ) → lo < q → q < hi → g q ≡ m) → Low low → High high → low ≤ high → g low ≡ m → Least g lo hi low high
+  least-ends :
+      {low high : ℕ}
+      → ((q : ℕ) → lo < q → q < hi → g q ≡ m)
+      → Low low
+      → High high
+      → low ≤ high
+      → g low ≡ m
+      → Least g lo hi low high
   least-ends {low} {high} inner l h some e =
       record {
         from-lo = ⊎-elim (λ k. omega arith) (λ k. omega arith) l;
@@ -51,13 +57,20 @@ module _ (g : ℕ → ℕ) (lo hi m : ℕ) where
         ]
       ]
 
-  low-by-test : (g (lo + 1) < g lo → m < g lo) → (g lo ≤ g (lo + 1) → g lo ≡ m) → Low (if ltb (g (lo + 1)) (g lo) then lo + 1 else lo)
+  low-by-test :
+      (g (lo + 1) < g lo → m < g lo)
+      → (g lo ≤ g (lo + 1) → g lo ≡ m)
+      → Low (if ltb (g (lo + 1)) (g lo) then lo + 1 else lo)
   low-by-test move stay = elim (decLt (g (lo + 1)) (g lo)) [
     | yes h ↦ rw (lt-ltb (g (lo + 1)) (g lo) h) (inr (refl, move h))
     | no h ↦ let k : g lo ≤ g (lo + 1) = omega arith in rw (le-ltb (g (lo + 1)) (g lo) k) (inl (refl, stay k))
   ]
 
-  high-by-test : lo < hi → (g (hi - 1) < g hi → m < g hi) → (g hi ≤ g (hi - 1) → g hi ≡ m) → High (if ltb (g (hi - 1)) (g hi) then hi - 1 else hi)
+  high-by-test :
+      lo < hi
+      → (g (hi - 1) < g hi → m < g hi)
+      → (g hi ≤ g (hi - 1) → g hi ≡ m)
+      → High (if ltb (g (hi - 1)) (g hi) then hi - 1 else hi)
   high-by-test l move stay = elim (decLt (g (hi - 1)) (g hi)) [
     | yes h ↦ rw (lt-ltb (g (hi - 1)) (g hi) h) (inr (omega arith, move h))
     | no h ↦ let k : g hi ≤ g (hi - 1) = omega arith in rw (le-ltb (g (hi - 1)) (g hi) k) (inl (refl, stay k))
@@ -112,14 +125,20 @@ least-alone g p =
       above = λ q h k. absurd (omega arith);
     }
 
-pub flattest : (os : List Order) {lo hi : ℕ} → Spans os lo hi → lo < hi → Least (gap os) lo hi (flatter os lo (lo + 1)) (flatter os hi (hi - 1))
+pub flattest :
+    (os : List Order) {lo hi : ℕ}
+    → Spans os lo hi
+    → lo < hi
+    → Least (gap os) lo hi (flatter os lo (lo + 1)) (flatter os hi (hi - 1))
 unfolding flatter
 flattest os {lo} {hi} s h =
     least-between (gap os) lo hi h
     (λ q k l. gap-level os q (inner-level os (s .each lo (le-refl lo) (s .some)) (s .each hi (s .some) (le-refl hi)) k l))
 
 -- ---- the nearest
-nearest-is : (ref a b : ℕ) → ((nearestIn ref a b ≡ a) × (ref < a)) ⊎ (((nearestIn ref a b ≡ b) × (a ≤ ref) × (b < ref)) ⊎ ((nearestIn ref a b ≡ ref) × (a ≤ ref) × (ref ≤ b)))
+nearest-is :
+    (ref a b : ℕ)
+    → ((nearestIn ref a b ≡ a) × (ref < a)) ⊎ (((nearestIn ref a b ≡ b) × (a ≤ ref) × (b < ref)) ⊎ ((nearestIn ref a b ≡ ref) × (a ≤ ref) × (ref ≤ b)))
 unfolding nearestIn
 nearest-is ref a b = elim (decLt ref a) [
   | yes k ↦ inl (rw (lt-ltb ref a k), k)
@@ -129,7 +148,11 @@ nearest-is ref a b = elim (decLt ref a) [
   ]
 ]
 
-nearest-point : (ref a b n : ℕ) → a ≤ b → ((n ≡ a) × (ref < a)) ⊎ (((n ≡ b) × (a ≤ ref) × (b < ref)) ⊎ ((n ≡ ref) × (a ≤ ref) × (ref ≤ b))) → Least (λ p. distance p ref) a b n n
+nearest-point :
+    (ref a b n : ℕ)
+    → a ≤ b
+    → ((n ≡ a) × (ref < a)) ⊎ (((n ≡ b) × (a ≤ ref) × (b < ref)) ⊎ ((n ≡ ref) × (a ≤ ref) × (ref ≤ b)))
+    → Least (λ p. distance p ref) a b n n
 unfolding distance
 nearest-point ref a b n h (inl k) =
     record {
@@ -211,30 +234,53 @@ module _ (os : List Order) {lo hi : ℕ} (s : Spans os lo hi) where
 
 -- ---- what the code answers
 -- a span of one price, or none
-pub price-alone : (os : List Order) (ref : ℕ) {s : Span} → s ≡ ends (qualifying os) → s .lo ≡ s .hi → s .lo ≡ getD (leftBy os ref) 0 0
+pub price-alone :
+    (os : List Order) (ref : ℕ) {s : Span}
+    → s ≡ ends (qualifying os)
+    → s .lo ≡ s .hi
+    → s .lo ≡ getD (leftBy os ref) 0 0
 price-alone os ref {s} e same =
     ⊎-elim
     (λ k. rw (none-left os ref (k .2)) (k .0))
     (λ k. rw (left-is os k ref (flattest-one os k same)) (sym (nearest-same ref (s .lo))))
     (span-cases os e)
 
-pub price-among : (os : List Order) (ref : ℕ) {s : Span} {low high r : ℕ} → s ≡ ends (qualifying os) → (s .lo ≡ s .hi → ⊥) → low ≡ flatter os (s .lo) (s .lo + 1) → high ≡ flatter os (s .hi) (s .hi - 1) → r ≡ nearestIn ref low high → r ≡ getD (leftBy os ref) 0 0
+pub price-among :
+    (os : List Order) (ref : ℕ) {s : Span} {low high r : ℕ}
+    → s ≡ ends (qualifying os)
+    → (s .lo ≡ s .hi → ⊥)
+    → low ≡ flatter os (s .lo) (s .lo + 1)
+    → high ≡ flatter os (s .hi) (s .hi - 1)
+    → r ≡ nearestIn ref low high
+    → r ≡ getD (leftBy os ref) 0 0
 price-among os ref {s} e apart hl hh hr =
     ⊎-elim
     (λ k. absurd (apart (k .0 ∙ sym (k .1))))
     (λ k. let l : s .lo < s .hi = omega (arith, k .some) in rw (left-is os k ref (flattest-many os k l)) (rw (hr, hl, hh)))
     (span-cases os e)
 
-pub many-span : (os : List Order) {s : Span} → s ≡ ends (qualifying os) → (s .lo ≡ s .hi → ⊥) → (s .lo < s .hi) × (s .hi ≤ 999_999)
+pub many-span :
+    (os : List Order) {s : Span}
+    → s ≡ ends (qualifying os)
+    → (s .lo ≡ s .hi → ⊥)
+    → (s .lo < s .hi) × (s .hi ≤ 999_999)
 many-span os {s} e apart =
     ⊎-elim (λ k. absurd (apart (k .0 ∙ sym (k .1)))) (λ k. (omega (arith, k .some), k .to-999999)) (span-cases os e)
 
 -- the absolute difference, of one pass
-pub gap-below : (os : List Order) (p : ℕ) {r : Interest} → r ≡ interestAt os p p → r .demand < r .supply → r .supply - r .demand ≡ gap os p
+pub gap-below :
+    (os : List Order) (p : ℕ) {r : Interest}
+    → r ≡ interestAt os p p
+    → r .demand < r .supply
+    → r .supply - r .demand ≡ gap os p
 unfolding gap distance
 gap-below os p e h = omega (arith, pass-buys os p p e, pass-sells os p p e)
 
-pub gap-above : (os : List Order) (p : ℕ) {r : Interest} → r ≡ interestAt os p p → r .supply ≤ r .demand → r .demand - r .supply ≡ gap os p
+pub gap-above :
+    (os : List Order) (p : ℕ) {r : Interest}
+    → r ≡ interestAt os p p
+    → r .supply ≤ r .demand
+    → r .demand - r .supply ≡ gap os p
 unfolding gap distance
 gap-above os p e h = omega (arith, pass-buys os p p e, pass-sells os p p e)
 

@@ -1,17 +1,14 @@
 -- The two turning points, the search for one, and the qualifying prices between them.
 use Prim.Native.Nat.{ℕ, zero, suc, _+_, _-_, _≤_, _<_}
-use mathlib.Core.Path.{_≡_, refl, sym, ap, _∙_}
-use mathlib.Core.Logic.{_⊎_, inl, inr, ⊎-elim}
-use mathlib.Core.Bool.{Bool, true, false, not, _&&_}
+use mathlib.Core.Path.{_≡_, refl, sym, _∙_}
+use mathlib.Core.Bool.{Bool, true, false, not}
 use mathlib.Core.List.{List}
 use native.Mathlib.Nat.{le-refl, le-trans}
-use native.Mathlib.Decide.{decLt, decLe, ℕ-discrete}
+use native.Mathlib.Decide.{decLt, ℕ-discrete}
 use native.Mathlib.Omega.{arith}
 use borrow.Author.Tests.{leb-true, le-leb, ne-eqb, not-false}
-use lib.ListN.{getD}
-use lib.Dec.{leb, eqb}
+use lib.Dec.{leb}
 use Rattle.model.specs.declared.Order.{Order}
-use Rattle.model.specs.Choice.{if_then_else_}
 use Rattle.model.specs.Lists.{keep, from}
 use Rattle.model.specs.Auction.{prices, demand, supply, qualifies, qualifying}
 use Rattle.auction.specs.declared.Interest.{Interest}
@@ -20,7 +17,7 @@ use Rattle.auction.specs.Spans.{covered, turned, turnOf}
 use Rattle.auction.specs.Rule.{Price, Qualifies}
 use Rattle.auction.proofs.Bools.{not-both, not-true-false, not-false-true, and-left, and-right, and-both}
 use Rattle.auction.proofs.Sides.{pass-buys, pass-sells}
-use Rattle.auction.proofs.Runs.{Holds, keep-run, run-at, run-length}
+use Rattle.auction.proofs.Runs.{keep-run, run-at}
 use Rattle.auction.proofs.Conditions.{SellsCover, BuysCover, sells-cover-up, buys-cover-down, qualifies-clears, clears-qualifies, test-told, told-test}
 
 -- ---- the test
@@ -76,11 +73,21 @@ module _ (os : List Order) (p : ℕ) where
   qualifies-buys k = unturned-buys (qualifies-clears os k .buys)
 
 -- what the code computes of one pass
-pub buys-answer : (os : List Order) (side p : ℕ) {r : Interest} {b : Bool} → side ≡ 0 → r ≡ interestAt os p (p - 1) → b ≡ covered (r .demand) (r .supply) → not b ≡ turned os side p
+pub buys-answer :
+    (os : List Order) (side p : ℕ) {r : Interest} {b : Bool}
+    → side ≡ 0
+    → r ≡ interestAt os p (p - 1)
+    → b ≡ covered (r .demand) (r .supply)
+    → not b ≡ turned os side p
 unfolding turned
 buys-answer os side p z e hb = rw (z, hb, pass-buys os p (p - 1) e, pass-sells os p (p - 1) e)
 
-pub sells-answer : (os : List Order) (side p : ℕ) {r : Interest} {b : Bool} → (side ≡ 0 → ⊥) → r ≡ interestAt os (p + 1) p → b ≡ covered (r .supply) (r .demand) → b ≡ turned os side p
+pub sells-answer :
+    (os : List Order) (side p : ℕ) {r : Interest} {b : Bool}
+    → (side ≡ 0 → ⊥)
+    → r ≡ interestAt os (p + 1) p
+    → b ≡ covered (r .supply) (r .demand)
+    → b ≡ turned os side p
 unfolding turned
 sells-answer os side p z e hb = rw (ne-eqb side 0 z, hb, pass-buys os (p + 1) p e, pass-sells os (p + 1) p e)
 
@@ -117,7 +124,13 @@ module _ (os : List Order) (side : ℕ) where
         after = λ p h k. absurd (omega arith);
       }
 
-  pub bracket-up : {lo hi mid : ℕ} → Bracket os side lo hi → lo ≤ mid → mid < hi → turned os side mid ≡ false → Bracket os side (mid + 1) hi
+  pub bracket-up :
+      {lo hi mid : ℕ}
+      → Bracket os side lo hi
+      → lo ≤ mid
+      → mid < hi
+      → turned os side mid ≡ false
+      → Bracket os side (mid + 1) hi
   bracket-up b h k e =
       record {
         from-1 = omega arith;
@@ -127,7 +140,13 @@ module _ (os : List Order) (side : ℕ) where
         after = b .after;
       }
 
-  pub bracket-down : {lo hi mid : ℕ} → Bracket os side lo hi → lo ≤ mid → mid < hi → turned os side mid ≡ true → Bracket os side lo mid
+  pub bracket-down :
+      {lo hi mid : ℕ}
+      → Bracket os side lo hi
+      → lo ≤ mid
+      → mid < hi
+      → turned os side mid ≡ true
+      → Bracket os side lo mid
   bracket-down b h k e =
       record {
         from-1 = b .from-1;
@@ -178,7 +197,11 @@ search-turn : (os : List Order) (side n lo hi : ℕ) → lo + n ≡ hi → Brack
 search-turn os side zero lo hi e b = (lo, bracket-turns os side b (omega arith))
 search-turn os side (suc n) lo hi e b = go (turned os side lo) refl (search-turn os side n (lo + 1) hi (omega arith))
   where
-    go : (t : Bool) → turned os side lo ≡ t → (Bracket os side (lo + 1) hi → (r : ℕ) × Turns os side r) → (r : ℕ) × Turns os side r
+    go :
+        (t : Bool)
+        → turned os side lo ≡ t
+        → (Bracket os side (lo + 1) hi → (r : ℕ) × Turns os side r)
+        → (r : ℕ) × Turns os side r
     go true t more = (lo, bracket-turns os side (bracket-down os side b (le-refl lo) (omega arith) t) (le-refl lo))
     go false t more = more (bracket-up os side b (le-refl lo) (omega arith) t)
 

@@ -1,8 +1,8 @@
 -- The price list: the qualifying prices from the asked one on, and the loop that writes them at the front of a lent list.
-use Prim.Native.Nat.{ℕ, zero, suc, _+_, _-_, _≤_, _<_, min, zero-le}
+use Prim.Native.Nat.{ℕ, _+_, _-_, _≤_, _<_, min, zero-le}
 use mathlib.Core.Path.{_≡_, refl, sym, ap, _∙_}
-use mathlib.Core.Logic.{_⊎_, inl, inr, ⊎-elim}
-use mathlib.Core.List.{List, [], _∷_, _++_}
+use mathlib.Core.Logic.{_⊎_, ⊎-elim}
+use mathlib.Core.List.{List, [], _++_}
 use native.Mathlib.Nat.{le-refl, zero-add}
 use native.Mathlib.Numerals.{add-one}
 use native.Mathlib.Decide.{decLe}
@@ -18,8 +18,8 @@ use Rattle.model.specs.AuctionCalls.{due}
 use Rattle.auction.specs.declared.Span.{Span}
 use Rattle.auction.specs.declared.Listed.{Listed}
 use Rattle.auction.specs.Spans.{ends}
-use Rattle.auction.specs.Written.{written, listed}
-use Rattle.auction.proofs.Runs.{run-length, run-at, Holds, keep-run}
+use Rattle.auction.specs.Fitting.{fitted, listed}
+use Rattle.auction.proofs.Runs.{run-length, run-at, keep-run}
 use Rattle.auction.proofs.Spanning.{span-cases, spanned}
 
 -- ---- a list at the front of another
@@ -30,9 +30,9 @@ front l d i = take i l ++ drop i d
 front-next : (l d : List ℕ) (i : ℕ) → i < length d → i < length l → set (front l d i) i (getD l i 0) ≡ front l d (i + 1)
 front-next l d i h k = rw (add-one) (simp zero-add at (paste-suc d 0 l i 0 (omega arith) k))
 
-front-written : (l d : List ℕ) (i : ℕ) → i ≡ min (length d) (length l) → front l d i ≡ written l d
-unfolding written
-front-written l d i e = elim (decLe (length l) (length d)) [
+front-fitted : (l d : List ℕ) (i : ℕ) → i ≡ min (length d) (length l) → front l d i ≡ fitted l d
+unfolding fitted
+front-fitted l d i e = elim (decLe (length l) (length d)) [
   | yes h ↦
       let z : i ≡ length l = omega arith in
       rw z (rw (take-all (length l) l (le-refl (length l)), take-all (length d) l h))
@@ -41,7 +41,11 @@ front-written l d i e = elim (decLe (length l) (length d)) [
       rw z (rw (drop-length d, drop-of-length-le d {i = length l} (omega arith)))
 ]
 
-listed-is : (l d : List ℕ) (i x : ℕ) → i ≡ min (length d) (length l) → x ≡ getD l (length d) 0 → record { count = i; next = x } ≡ listed l d
+listed-is :
+    (l d : List ℕ) (i x : ℕ)
+    → i ≡ min (length d) (length l)
+    → x ≡ getD l (length d) 0
+    → record { count = i; next = x } ≡ listed l d
 unfolding listed
 listed-is l d i x p q = λ k. record { count = p k; next = q k }
 
@@ -56,13 +60,18 @@ pub record Filled (first hi : ℕ) (d : List ℕ) (out : List ℕ) (i p : ℕ) :
 
 -- what is handed back and what the lent list has become
 abbrev pub Wrote : List ℕ → List ℕ → Listed → List ℕ → Type 0
-Wrote l d r out = (r ≡ listed l d) × (out ≡ written l d)
+Wrote l d r out = (r ≡ listed l d) × (out ≡ fitted l d)
 
 module _ (first hi : ℕ) (d : List ℕ) where
   pub filled-start : Filled first hi d d 0 first
   filled-start = record { room = zero-le; due = zero-le; next = omega arith; long = refl; same = refl }
 
-  pub filled-next : {out : List ℕ} {i p : ℕ} → Filled first hi d out i p → i < length d → p ≤ hi → Filled first hi d (set out i p) (i + 1) (p + 1)
+  pub filled-next :
+      {out : List ℕ} {i p : ℕ}
+      → Filled first hi d out i p
+      → i < length d
+      → p ≤ hi
+      → Filled first hi d (set out i p) (i + 1) (p + 1)
   filled-next {out} {i} {p} f h k =
       let l = from first (hi + 1 - first) in
       let n : i < hi + 1 - first = omega (arith, f .next) in
@@ -75,14 +84,23 @@ module _ (first hi : ℕ) (d : List ℕ) where
         same = rw (f .same, v) (front-next l d i h (omega (arith, run-length first (hi + 1 - first))));
       }
 
-  filled-ends : {out : List ℕ} {i p x : ℕ} → Filled first hi d out i p → i ≡ min (length d) (hi + 1 - first) → x ≡ getD (from first (hi + 1 - first)) (length d) 0 → Wrote (from first (hi + 1 - first)) d (record { count = i; next = x }) out
+  filled-ends :
+      {out : List ℕ} {i p x : ℕ}
+      → Filled first hi d out i p
+      → i ≡ min (length d) (hi + 1 - first)
+      → x ≡ getD (from first (hi + 1 - first)) (length d) 0
+      → Wrote (from first (hi + 1 - first)) d (record { count = i; next = x }) out
   filled-ends {out} {i} {p} {x} f e v =
       let l = from first (hi + 1 - first) in
       let z : i ≡ min (length d) (length l) = rw (run-length first (hi + 1 - first)) e in
-      (listed-is l d i x z v, f .same ∙ front-written l d i z)
+      (listed-is l d i x z v, f .same ∙ front-fitted l d i z)
 
   -- the prices have ended: nothing is due
-  pub filled-full : {out : List ℕ} {i p : ℕ} → Filled first hi d out i p → hi < p → Wrote (from first (hi + 1 - first)) d (record { count = i; next = 0 }) out
+  pub filled-full :
+      {out : List ℕ} {i p : ℕ}
+      → Filled first hi d out i p
+      → hi < p
+      → Wrote (from first (hi + 1 - first)) d (record { count = i; next = 0 }) out
   filled-full {out} {i} {p} f h =
       let n : i ≡ hi + 1 - first = omega (arith, f .next, f .due) in
       filled-ends f (omega (arith, n, f .room))
@@ -90,7 +108,12 @@ module _ (first hi : ℕ) (d : List ℕ) where
       (List·getD-eq-default (from first (hi + 1 - first)) 0 (omega (arith, run-length first (hi + 1 - first), f .room))))
 
   -- the lent list has ended before the prices: p is due
-  pub filled-out : {out : List ℕ} {i p : ℕ} → Filled first hi d out i p → length d ≤ i → p ≤ hi → Wrote (from first (hi + 1 - first)) d (record { count = i; next = p }) out
+  pub filled-out :
+      {out : List ℕ} {i p : ℕ}
+      → Filled first hi d out i p
+      → length d ≤ i
+      → p ≤ hi
+      → Wrote (from first (hi + 1 - first)) d (record { count = i; next = p }) out
   filled-out {out} {i} {p} f h k =
       let e : i ≡ length d = omega (arith, f .room) in
       let v : p ≡ first + length d = omega (arith, f .next) in
@@ -157,4 +180,4 @@ pub wrote-as : (d : List ℕ) {l k out : List ℕ} {r : Listed} → l ≡ k → 
 wrote-as d e h = rw e at h
 
 pub wrote-none : {k : List ℕ} (d : List ℕ) → k ≡ [] → Wrote k d (record { count = 0; next = 0 }) d
-wrote-none d e = rw e (listed-is [] d 0 0 (omega arith) refl, front-written [] d 0 (omega arith))
+wrote-none d e = rw e (listed-is [] d 0 0 (omega arith) refl, front-fitted [] d 0 (omega arith))

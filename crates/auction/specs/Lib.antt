@@ -2,5 +2,5 @@
 pub mod Interest
 pub mod Spans
 pub mod Rule
-pub mod Written
+pub mod Fitting
 pub mod Stars

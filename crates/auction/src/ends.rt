@@ -3,7 +3,6 @@
 use crate::Span;
 use crate::depth::interest_at;
 ghost use mathlib.Core.Path.{_≡_};
-ghost use Prim.Native.Nat.{_≤_};
 ghost use Rattle.model.specs.Auction.{qualifying};
 ghost use Rattle.book.specs.Rows.{bookOf};
 ghost use Rattle.book.specs.Standing.{Standing};

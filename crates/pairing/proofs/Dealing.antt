@@ -1,23 +1,19 @@
 -- The loop of the pairing: the trades made so far, with those still to come of the volume that is left, are the auction's.
-use Prim.Native.Nat.{ℕ, zero, suc, _+_, _-_, _≤_, _<_, min}
+use Prim.Native.Nat.{ℕ, _+_, _-_, _≤_, _<_, min}
 use mathlib.Core.Path.{_≡_, refl, sym, ap, ap₂, _∙_}
-use mathlib.Core.List.{List, [], _∷_, nil≢cons}
-use native.Mathlib.Nat.{le-refl, le-trans}
+use mathlib.Core.List.{List, [], _∷_}
 use native.Mathlib.Omega.{arith}
 use borrow.Author.Tests.{lt-ltb, le-ltb}
 use lib.ListN.{length}
-use lib.Dec.{ltb}
 use Rattle.model.specs.declared.Order.{Order}
 use Rattle.model.specs.declared.Trade.{Trade}
-use Rattle.model.specs.Choice.{if_then_else_}
-use Rattle.model.specs.Lists.{keep, total}
 use Rattle.model.specs.Book.{standsOn, queue}
 use Rattle.model.specs.Auction.{sharesOf, demand, supply, volume}
-use Rattle.model.specs.Pairing.{Share, cut, pair, tradesAt}
+use Rattle.model.specs.Pairing.{Share, cut, tradesAt}
 use Rattle.book.specs.declared.Next.{Next}
 use Rattle.book.specs.declared.Next.the-variants.{At, Nothing}
 use Rattle.book.specs.Rows.{tradeRows}
-use Rattle.book.specs.Standing.{Each, Fair, Standing}
+use Rattle.book.specs.Standing.{Standing}
 use Rattle.book.specs.Priority.{key, beyond, nextOf}
 use Rattle.book.specs.Writing.{put, puts, front}
 use Rattle.book.proofs.Lists.{each, length-keep}
@@ -37,7 +33,10 @@ unfolding nextOf headOf
 nobody-next after [] e = refl
 nobody-next after (o ∷ os) e = absurd (let z : _≡_ {A = ℕ} 0 1 = cc in omega arith)
 
-first-next : (after : ℕ) (q : List Order) {o : Order} {k : ℕ} → nextOf q ≡ At o k → record { number = o .number; left = o .left; key = k } ≡ headOf after q
+first-next :
+    (after : ℕ) (q : List Order) {o : Order} {k : ℕ}
+    → nextOf q ≡ At o k
+    → record { number = o .number; left = o .left; key = k } ≡ headOf after q
 unfolding nextOf headOf
 first-next after [] e = absurd (let z : _≡_ {A = ℕ} 0 1 = cc in omega arith)
 first-next after (x ∷ os) {o} {k} e =
@@ -129,7 +128,12 @@ module _ (book : List Order) (s : Standing book) where
 
   -- ---- the loop
   module _ (price room : ℕ) (lent : List (List ℕ)) where
-    pub paired-start : {left : ℕ} {buy sell : Head} → left ≡ volume book price → buy ≡ headOf 0 (beyond 0 (queue 0 book)) → sell ≡ headOf 0 (beyond 0 (queue 1 book)) → Paired book price room lent left buy sell 0 lent
+    pub paired-start :
+        {left : ℕ} {buy sell : Head}
+        → left ≡ volume book price
+        → buy ≡ headOf 0 (beyond 0 (queue 0 book))
+        → sell ≡ headOf 0 (beyond 0 (queue 1 book))
+        → Paired book price room lent left buy sell 0 lent
     unfolding tradesAt pairs
     paired-start {left} {buy} {sell} hl hb hs =
         let b = all-wait 0 left in
@@ -179,7 +183,12 @@ module _ (book : List Order) (s : Standing book) where
         pub count-fits : made + 1 ≤ 8_192
         count-fits = omega (arith, ap length one-turn, k .count, few-trades price)
 
-        pub paired-next : {b c : Head} {out′ : List (List ℕ)} → out′ ≡ put room made traded out → b ≡ headPast q buy (queue 0 book) → c ≡ headPast q sell (queue 1 book) → Paired book price room lent (left - q) b c (made + 1) out′
+        pub paired-next :
+            {b c : Head} {out′ : List (List ℕ)}
+            → out′ ≡ put room made traded out
+            → b ≡ headPast q buy (queue 0 book)
+            → c ≡ headPast q sell (queue 1 book)
+            → Paired book price room lent (left - q) b c (made + 1) out′
         paired-next {b} {c} {out′} ho hb hc =
             rw (ho, hb, hc)
             (record {
@@ -198,7 +207,12 @@ module _ (book : List Order) (s : Standing book) where
         ap (λ l. pairs price l (cut 0 (waiting sell (queue 1 book)))) (cut-nothing (waiting buy (queue 0 book)))
         ∙ no-buys price (cut 0 (waiting sell (queue 1 book)))
 
-    pub paired-end : {left : ℕ} {buy sell : Head} {made : ℕ} {out : List (List ℕ)} → Paired book price room lent left buy sell made out → left ≤ 0 → room ≤ length lent → (made ≡ length (tradesAt price book)) × (out ≡ front room (tradeRows (tradesAt price book)) lent)
+    pub paired-end :
+        {left : ℕ} {buy sell : Head} {made : ℕ} {out : List (List ℕ)}
+        → Paired book price room lent left buy sell made out
+        → left ≤ 0
+        → room ≤ length lent
+        → (made ≡ length (tradesAt price book)) × (out ≡ front room (tradeRows (tradesAt price book)) lent)
     paired-end {left} {buy} {sell} {made} {out} k h r =
         let z : left ≡ 0 = omega arith in
         let e : coming book price left buy sell ≡ [] = ap (λ n. coming book price n buy sell) z ∙ nothing-comes buy sell in (

@@ -1,8 +1,7 @@
 -- What paired trades come to: all are at the price, together they are what either side holds, and each order is filled what
 -- its side's shares grant it.
-use Prim.Native.Nat.{ℕ, zero, suc, _+_, _-_, _*_, _≤_, _<_, min}
-use mathlib.Core.Path.{_≡_, refl, sym, ap, ap₂, _∙_}
-use mathlib.Core.Logic.{⊎-elim}
+use Prim.Native.Nat.{ℕ, zero, suc, _+_, _-_, _≤_, min}
+use mathlib.Core.Path.{_≡_, refl, sym, ap, _∙_}
 use mathlib.Core.Bool.{Bool, true, false, _||_}
 use mathlib.Core.List.{List, [], _∷_}
 use native.Mathlib.Nat.{le-refl}
@@ -17,7 +16,8 @@ use Rattle.model.specs.Lists.{keep, total}
 use Rattle.model.specs.Matching.{filled, isIn, filledOf}
 use Rattle.model.specs.Pairing.{Share, cut, headLess, pair}
 use Rattle.book.specs.Standing.{Each}
-use Rattle.auction.proofs.Sums.{part-is, part-none}
+use Rattle.book.proofs.Lists.{total-keep}
+use Rattle.book.proofs.Settlements.{part, filled-none, filled-cons}
 use Rattle.pairing.specs.Granted.{held, granted, bought, sold}
 use Rattle.pairing.proofs.Turns.{head-stays, head-goes, one-goes, dealt, pair-turn, pair-no-buy, pair-no-sell, pairs, cut-some, cut-nothing, cut-nobody}
 use Rattle.pairing.proofs.Waiting.{shares}
@@ -27,7 +27,7 @@ held-next : (s : Share) (ss : List Share) → held (s ∷ ss) ≡ s .left + held
 unfolding held total
 held-next s ss = refl
 
-held-none : held [] ≡ 0
+pub held-none : held [] ≡ 0
 unfolding held total
 held-none = refl
 
@@ -35,12 +35,14 @@ filled-next : (t : Trade) (ts : List Trade) → filled (t ∷ ts) ≡ t .quantit
 unfolding filled total
 filled-next t ts = refl
 
-filled-none : filled [] ≡ 0
+nothing-traded : filled [] ≡ 0
 unfolding filled total
-filled-none = refl
+nothing-traded = refl
 
 -- the sum of those that a test keeps, one at a time
-kept-next : {A : Type 0} (f : A → Bool) (g : A → ℕ) (x : A) (xs : List A) → total g (keep f (x ∷ xs)) ≡ (if f x then g x else 0) + total g (keep f xs)
+pub kept-next :
+    {A : Type 0} (f : A → Bool) (g : A → ℕ) (x : A) (xs : List A)
+    → total g (keep f (x ∷ xs)) ≡ (if f x then g x else 0) + total g (keep f xs)
 unfolding keep total
 kept-next f g x xs = go (f x)
   where
@@ -48,27 +50,20 @@ kept-next f g x xs = go (f x)
     go true = refl
     go false = omega arith
 
-kept-most : {A : Type 0} (f : A → Bool) (g : A → ℕ) (xs : List A) → total g (keep f xs) ≤ total g xs
-unfolding keep total
-kept-most f g [] = le-refl 0
-kept-most f g (x ∷ xs) = go (f x) (kept-most f g xs)
-  where
-    go : (b : Bool) → total g (keep f xs) ≤ total g xs → total g (if b then x ∷ keep f xs else keep f xs) ≤ g x + total g xs
-    go true h = omega arith
-    go false h = omega arith
-
 module _ (n : ℕ) where
-  granted-next : (s : Share) (ss : List Share) → granted n (s ∷ ss) ≡ (if eqb (s .number) n then s .left else 0) + granted n ss
+  pub granted-next :
+      (s : Share) (ss : List Share)
+      → granted n (s ∷ ss) ≡ (if eqb (s .number) n then s .left else 0) + granted n ss
   unfolding granted held
   granted-next s ss = kept-next (λ s. eqb (s .number) n) (λ s. s .left) s ss
 
-  granted-none : granted n [] ≡ 0
+  pub granted-none : granted n [] ≡ 0
   unfolding granted held keep total
   granted-none = refl
 
   granted-most : (ss : List Share) → granted n ss ≤ held ss
   unfolding granted held
-  granted-most ss = kept-most (λ s. eqb (s .number) n) (λ s. s .left) ss
+  granted-most ss = total-keep (λ s. s .left) (λ s. eqb (s .number) n) ss
 
   bought-next : (t : Trade) (ts : List Trade) → bought n (t ∷ ts) ≡ (if eqb (t .buyer) n then t .quantity else 0) + bought n ts
   unfolding bought filled
@@ -87,7 +82,10 @@ module _ (n : ℕ) where
   sold-none = refl
 
   -- ---- a head that has traded q
-  head-granted : (q : ℕ) (s : Share) (ss : List Share) → q ≤ s .left → (if eqb (s .number) n then q else 0) + granted n (headLess q s ss) ≡ granted n (s ∷ ss)
+  head-granted :
+      (q : ℕ) (s : Share) (ss : List Share)
+      → q ≤ s .left
+      → (if eqb (s .number) n then q else 0) + granted n (headLess q s ss) ≡ granted n (s ∷ ss)
   head-granted q s ss h = elim (decLt q (s .left)) [
     | yes l ↦
         rw (head-stays q s ss l)
@@ -123,13 +121,16 @@ nothing-filled : (n : ℕ) (bs ss : List Share) (ts : List Trade) → ts ≡ [] 
 nothing-filled n bs ss ts e b s =
     rw e
     (record {
-      whole = omega (arith, filled-none);
+      whole = omega (arith, nothing-traded);
       buyer = omega (arith, bought-none n, granted-most n bs);
       seller = omega (arith, sold-none n, granted-most n ss);
     })
 
 -- one trade more
-dealt-fills : (n p : ℕ) (b s : Share) (bs ss : List Share) (ts : List Trade) → Filled n (headLess (min (b .left) (s .left)) b bs) (headLess (min (b .left) (s .left)) s ss) ts → Filled n (b ∷ bs) (s ∷ ss) (dealt p b s ∷ ts)
+dealt-fills :
+    (n p : ℕ) (b s : Share) (bs ss : List Share) (ts : List Trade)
+    → Filled n (headLess (min (b .left) (s .left)) b bs) (headLess (min (b .left) (s .left)) s ss) ts
+    → Filled n (b ∷ bs) (s ∷ ss) (dealt p b s ∷ ts)
 unfolding dealt
 dealt-fills n p b s bs ss ts r =
     let q : ℕ = min (b .left) (s .left) in
@@ -211,24 +212,20 @@ cut-held v (o ∷ os) = elim (decLt 0 v) [
 ]
 
 -- ---- who only buys is filled what he bought, who only sells what he sold
-in-next : (n : ℕ) (t : Trade) (ts : List Trade) → filledOf n (t ∷ ts) ≡ (if isIn n t then t .quantity else 0) + filledOf n ts
-unfolding filledOf filled
-in-next n t ts = kept-next (isIn n) (λ t. t .quantity) t ts
-
-in-none : (n : ℕ) → filledOf n [] ≡ 0
-unfolding filledOf filled keep total
-in-none n = refl
-
-either : (a b : Bool) (q : ℕ) → ((if a then q else 0) ≤ (if a || b then q else 0)) × ((if b then q else 0) ≤ (if a || b then q else 0)) × ((if a || b then q else 0) ≤ (if a then q else 0) + (if b then q else 0))
+either :
+    (a b : Bool) (q : ℕ)
+    → ((if a then q else 0) ≤ (if a || b then q else 0)) × ((if b then q else 0) ≤ (if a || b then q else 0)) × ((if a || b then q else 0) ≤ (if a then q else 0) + (if b then q else 0))
 either true true q = (omega arith, omega arith, omega arith)
 either true false q = (omega arith, omega arith, omega arith)
 either false true q = (omega arith, omega arith, omega arith)
 either false false q = (omega arith, omega arith, omega arith)
 
-pub in-both : (n : ℕ) (ts : List Trade) → (bought n ts ≤ filledOf n ts) × (sold n ts ≤ filledOf n ts) × (filledOf n ts ≤ bought n ts + sold n ts)
-unfolding isIn
-in-both n [] = omega (arith, in-none n, bought-none n, sold-none n)
+pub in-both :
+    (n : ℕ) (ts : List Trade)
+    → (bought n ts ≤ filledOf n ts) × (sold n ts ≤ filledOf n ts) × (filledOf n ts ≤ bought n ts + sold n ts)
+unfolding isIn part
+in-both n [] = omega (arith, filled-none n, bought-none n, sold-none n)
 in-both n (t ∷ ts) =
     let e = either (eqb (t .buyer) n) (eqb (t .seller) n) (t .quantity) in
     let r = in-both n ts in
-    omega (arith, in-next n t ts, bought-next n t ts, sold-next n t ts)
+    omega (arith, filled-cons n t ts, bought-next n t ts, sold-next n t ts)

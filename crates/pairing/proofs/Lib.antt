@@ -3,3 +3,7 @@ pub mod Turns
 pub mod Waiting
 pub mod Dealing
 pub mod Grants
+pub mod Filling
+pub mod Auctioned
+pub mod Uncrossing
+pub mod Auctions

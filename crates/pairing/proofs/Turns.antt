@@ -1,20 +1,21 @@
 -- One turn of the pairing: the two heads trade the smaller remainder, and one of them is used up, so there are turns enough.
 use Prim.Native.Nat.{ℕ, zero, suc, _+_, _-_, _≤_, _<_, min}
-use mathlib.Core.Path.{_≡_, refl, sym, ap, ap₂, _∙_}
+use mathlib.Core.Path.{_≡_, refl, sym, ap, _∙_}
 use mathlib.Core.List.{List, [], _∷_}
 use native.Mathlib.Nat.{le-refl}
 use native.Mathlib.Decide.{decLt, decLe}
 use native.Mathlib.Omega.{arith}
 use borrow.Author.Tests.{lt-ltb, le-ltb}
 use lib.ListN.{length}
-use lib.Dec.{ltb}
 use Rattle.model.specs.declared.Order.{Order}
 use Rattle.model.specs.declared.Trade.{Trade}
-use Rattle.model.specs.Choice.{if_then_else_}
 use Rattle.model.specs.Pairing.{Share, cut, headLess, pair}
 
 -- ---- a head that has traded
-pub head-stays : (q : ℕ) (s : Share) (ss : List Share) → q < s .left → headLess q s ss ≡ record { number = s .number; left = s .left - q } ∷ ss
+pub head-stays :
+    (q : ℕ) (s : Share) (ss : List Share)
+    → q < s .left
+    → headLess q s ss ≡ record { number = s .number; left = s .left - q } ∷ ss
 unfolding headLess
 head-stays q s ss h = rw (lt-ltb q (s .left) h)
 
@@ -29,7 +30,9 @@ head-long q s ss = elim (decLt q (s .left)) [
 ]
 
 -- of two heads that trade the smaller remainder one is used up
-pub one-goes : (b s : Share) (bs ss : List Share) → length (headLess (min (b .left) (s .left)) b bs) + length (headLess (min (b .left) (s .left)) s ss) ≤ length bs + suc (length ss)
+pub one-goes :
+    (b s : Share) (bs ss : List Share)
+    → length (headLess (min (b .left) (s .left)) b bs) + length (headLess (min (b .left) (s .left)) s ss) ≤ length bs + suc (length ss)
 one-goes b s bs ss =
     let q : ℕ = min (b .left) (s .left) in
     elim (decLe (b .left) (s .left)) [
@@ -46,7 +49,9 @@ one-goes b s bs ss =
 unfoldable pub dealt : ℕ → Share → Share → Trade
 dealt p b s = record { price = p; quantity = min (b .left) (s .left); buyer = b .number; seller = s .number }
 
-pub pair-turn : (n p : ℕ) (b s : Share) (bs ss : List Share) → pair (suc n) p (b ∷ bs) (s ∷ ss) ≡ dealt p b s ∷ pair n p (headLess (min (b .left) (s .left)) b bs) (headLess (min (b .left) (s .left)) s ss)
+pub pair-turn :
+    (n p : ℕ) (b s : Share) (bs ss : List Share)
+    → pair (suc n) p (b ∷ bs) (s ∷ ss) ≡ dealt p b s ∷ pair n p (headLess (min (b .left) (s .left)) b bs) (headLess (min (b .left) (s .left)) s ss)
 unfolding pair dealt
 pair-turn n p b s bs ss = refl
 
@@ -93,11 +98,9 @@ pub no-buys : (p : ℕ) (ss : List Share) → pairs p [] ss ≡ []
 unfolding pairs
 no-buys p ss = pair-no-buy (0 + length ss) p ss
 
-pub no-sells : (p : ℕ) (bs : List Share) → pairs p bs [] ≡ []
-unfolding pairs
-no-sells p bs = pair-no-sell (length bs + 0) p bs
-
-pub turn : (p : ℕ) (b s : Share) (bs ss : List Share) → pairs p (b ∷ bs) (s ∷ ss) ≡ dealt p b s ∷ pairs p (headLess (min (b .left) (s .left)) b bs) (headLess (min (b .left) (s .left)) s ss)
+pub turn :
+    (p : ℕ) (b s : Share) (bs ss : List Share)
+    → pairs p (b ∷ bs) (s ∷ ss) ≡ dealt p b s ∷ pairs p (headLess (min (b .left) (s .left)) b bs) (headLess (min (b .left) (s .left)) s ss)
 unfolding pairs
 turn p b s bs ss =
     let q : ℕ = min (b .left) (s .left) in
@@ -110,7 +113,10 @@ turn p b s bs ss =
     (headLess q s ss) (omega arith) (le-refl _))
 
 -- ---- a queue cut to a volume
-pub cut-some : (v : ℕ) (o : Order) (os : List Order) → 0 < v → cut v (o ∷ os) ≡ record { number = o .number; left = min v (o .left) } ∷ cut (v - o .left) os
+pub cut-some :
+    (v : ℕ) (o : Order) (os : List Order)
+    → 0 < v
+    → cut v (o ∷ os) ≡ record { number = o .number; left = min v (o .left) } ∷ cut (v - o .left) os
 unfolding cut
 cut-some v o os h = rw (lt-ltb 0 v h)
 

@@ -1,16 +1,13 @@
 -- Who is still to trade on a side, and what the volume that is left grants them, as the loop goes on.
-use Prim.Native.Nat.{ℕ, zero, suc, _+_, _-_, _≤_, _<_, min}
-use mathlib.Core.Path.{_≡_, refl, sym, ap, ap₂, _∙_}
-use mathlib.Core.List.{List, [], _∷_, nil≢cons, head-eq-of-cons-eq, tail-eq-of-cons-eq}
+use Prim.Native.Nat.{ℕ, _+_, _-_, _≤_, _<_, min}
+use mathlib.Core.Path.{_≡_, refl, sym, ap, _∙_}
+use mathlib.Core.List.{List, [], _∷_}
 use native.Mathlib.Nat.{le-refl}
-use native.Mathlib.Decide.{decLt, decLe}
+use native.Mathlib.Decide.{decLt}
 use native.Mathlib.Omega.{arith}
 use borrow.Author.Tests.{lt-ltb, le-ltb}
-use lib.ListN.{length}
-use lib.Dec.{ltb}
 use Rattle.model.specs.declared.Order.{Order}
-use Rattle.model.specs.Choice.{if_then_else_}
-use Rattle.model.specs.Lists.{keep, total}
+use Rattle.model.specs.Lists.{total}
 use Rattle.model.specs.Pairing.{Share, cut, headLess}
 use Rattle.book.specs.Standing.{Each}
 use Rattle.book.specs.Priority.{key, beyond}
@@ -36,7 +33,10 @@ waiting-none : (h : Head) (queue : List Order) → h .left ≤ 0 → waiting h q
 unfolding waiting
 waiting-none h queue k = rw (le-ltb 0 (h .left) k)
 
-cut-head : (v : ℕ) (h : Head) (os : List Order) → 0 < v → cut v (asOrder h ∷ os) ≡ record { number = h .number; left = min v (h .left) } ∷ cut (v - h .left) os
+cut-head :
+    (v : ℕ) (h : Head) (os : List Order)
+    → 0 < v
+    → cut v (asOrder h ∷ os) ≡ record { number = h .number; left = min v (h .left) } ∷ cut (v - h .left) os
 unfolding asOrder
 cut-head v h os a = cut-some v (asOrder h) os a
 
@@ -44,7 +44,11 @@ head-holds : (h : Head) (os : List Order) → shares (asOrder h ∷ os) ≡ h .l
 unfolding asOrder shares total
 head-holds h os = refl
 
-alike : (n : ℕ) (os : List Order) {a b v w : ℕ} → a ≡ b → v ≡ w → record { number = n; left = a } ∷ cut v os ≡ record { number = n; left = b } ∷ cut w os
+alike :
+    (n : ℕ) (os : List Order) {a b v w : ℕ}
+    → a ≡ b
+    → v ≡ w
+    → record { number = n; left = a } ∷ cut v os ≡ record { number = n; left = b } ∷ cut w os
 alike n os e f = rw (e, f)
 
 -- a queue in priority, whose orders all have shares
@@ -58,7 +62,12 @@ module _ (queue : List Order) (k : Queued queue) where
   each-past after = each-keep (λ o. 1 ≤ o .left) _ queue (k .some)
 
   -- the first after a key and those behind it are all that come after the key
-  first-waits : (after : ℕ) (os : List Order) → beyond after queue ≡ os → Each (λ o. 1 ≤ o .left) os → (v : ℕ) → (cut v (waiting (headOf after os) queue) ≡ cut v os) × (shares (waiting (headOf after os) queue) ≡ shares os)
+  first-waits :
+      (after : ℕ) (os : List Order)
+      → beyond after queue ≡ os
+      → Each (λ o. 1 ≤ o .left) os
+      → (v : ℕ)
+      → (cut v (waiting (headOf after os) queue) ≡ cut v os) × (shares (waiting (headOf after os) queue) ≡ shares os)
   unfolding headOf asOrder cut shares total
   first-waits after [] e f v =
       let z = waiting-none (headOf after []) queue (le-refl 0) in
@@ -76,7 +85,10 @@ module _ (queue : List Order) (k : Queued queue) where
   head-shares after = first-waits after (beyond after queue) refl (each-past after) 0 .1
 
   -- ---- a head that trades q
-  past-some : (q : ℕ) (h : Head) → q < h .left → waiting (headPast q h queue) queue ≡ asOrder (record { number = h .number; left = h .left - q; key = h .key }) ∷ beyond (h .key) queue
+  past-some :
+      (q : ℕ) (h : Head)
+      → q < h .left
+      → waiting (headPast q h queue) queue ≡ asOrder (record { number = h .number; left = h .left - q; key = h .key }) ∷ beyond (h .key) queue
   unfolding headPast
   past-some q h l =
       rw (lt-ltb q (h .left) l)
@@ -87,7 +99,12 @@ module _ (queue : List Order) (k : Queued queue) where
   past-none q h l = rw (le-ltb q (h .left) l)
 
   -- what is granted to the head, less what it trades, is what the rest of the volume grants to the rest of the side
-  pub past-cut : (v q : ℕ) (h : Head) → 0 < v → q ≤ v → q ≤ h .left → headLess q (record { number = h .number; left = min v (h .left) }) (cut (v - h .left) (beyond (h .key) queue)) ≡ cut (v - q) (waiting (headPast q h queue) queue)
+  pub past-cut :
+      (v q : ℕ) (h : Head)
+      → 0 < v
+      → q ≤ v
+      → q ≤ h .left
+      → headLess q (record { number = h .number; left = min v (h .left) }) (cut (v - h .left) (beyond (h .key) queue)) ≡ cut (v - q) (waiting (headPast q h queue) queue)
   past-cut v q h a b c =
       let behind : List Order = beyond (h .key) queue in
       let s : Share = record { number = h .number; left = min v (h .left) } in
@@ -116,7 +133,12 @@ module _ (queue : List Order) (k : Queued queue) where
             ∙ head-cut (v - q) (h .key))
       ]
 
-  pub past-shares : (v q : ℕ) (h : Head) → 0 < h .left → q ≤ h .left → v ≤ shares (waiting h queue) → v - q ≤ shares (waiting (headPast q h queue) queue)
+  pub past-shares :
+      (v q : ℕ) (h : Head)
+      → 0 < h .left
+      → q ≤ h .left
+      → v ≤ shares (waiting h queue)
+      → v - q ≤ shares (waiting (headPast q h queue) queue)
   past-shares v q h a b c = elim (decLt q (h .left)) [
     | yes l ↦ omega (arith, ap shares (past-some q h l), head-holds (record { number = h .number; left = h .left - q; key = h .key }) (beyond (h .key) queue), ap shares (waiting-some h queue a), head-holds h (beyond (h .key) queue))
     | no l ↦ omega (arith, ap (λ g. shares (waiting g queue)) (past-none q h (omega arith)), head-shares (h .key), ap shares (waiting-some h queue a), head-holds h (beyond (h .key) queue))
@@ -129,5 +151,9 @@ module _ (queue : List Order) (k : Queued queue) where
     | no l ↦ absurd (omega (arith, ap shares (waiting-none h queue (omega arith)), shares-none))
   ]
 
-  pub waiting-cut : (v : ℕ) (h : Head) → 0 < v → 0 < h .left → cut v (waiting h queue) ≡ record { number = h .number; left = min v (h .left) } ∷ cut (v - h .left) (beyond (h .key) queue)
+  pub waiting-cut :
+      (v : ℕ) (h : Head)
+      → 0 < v
+      → 0 < h .left
+      → cut v (waiting h queue) ≡ record { number = h .number; left = min v (h .left) } ∷ cut (v - h .left) (beyond (h .key) queue)
   waiting-cut v h a b = ap (cut v) (waiting-some h queue b) ∙ cut-head v h (beyond (h .key) queue) a

@@ -5,8 +5,8 @@ use lib.ListN.{length, getD, take, drop}
 use Rattle.auction.specs.declared.Listed.{Listed}
 
 -- as many as fit stand at the front, the rest of the lent list stays
-unfoldable pub written : List ℕ → List ℕ → List ℕ
-written ps lent = take (length lent) ps ++ drop (length ps) lent
+unfoldable pub fitted : List ℕ → List ℕ → List ℕ
+fitted ps lent = take (length lent) ps ++ drop (length ps) lent
 
 -- how many that were, and the next one due, or 0
 unfoldable pub listed : List ℕ → List ℕ → Listed
