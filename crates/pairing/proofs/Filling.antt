@@ -17,7 +17,7 @@ use Rattle.book.proofs.Lists.{both, each, every, total-same}
 use Rattle.book.proofs.Sorting.{Distinct}
 use Rattle.book.proofs.Queues.{Stands, on-live, on-side, queue-stands, total-queue}
 use Rattle.book.proofs.Best.{on-each}
-use Rattle.book.proofs.Shares.{ofNumber, of-only}
+use Rattle.book.proofs.Shares.{ofNumber, Only, each-only}
 use Rattle.pairing.specs.Granted.{granted}
 use Rattle.pairing.proofs.Turns.{cut-some, cut-nothing, cut-nobody}
 use Rattle.pairing.proofs.Grants.{kept-next, granted-next, granted-none}
@@ -73,10 +73,9 @@ module _ (book : List Order) (s : Standing book) where
   times-on : (side other : ℕ) → Each (λ o. times (o .number) (queue other book) ≡ tick (standsOn other o)) (queue side book)
   times-on side other =
       on-each (λ o. times (o .number) (queue other book) ≡ tick (standsOn other o)) side book
-      (each (λ o. (o .number ≡ 0 → ⊥) → ofNumber (o .number) (λ x. tick (standsOn other x)) book ≡ tick (standsOn other o))
-      (λ o. standsOn side o ≡ true → times (o .number) (queue other book) ≡ tick (standsOn other o)) book
-      (λ o h t. times-queue (o .number) other book ∙ h (on-live side o t))
-      (of-only (λ x. tick (standsOn other x)) book (s .apart)))
+      (each (Only book) (λ o. standsOn side o ≡ true → times (o .number) (queue other book) ≡ tick (standsOn other o)) book
+      (λ o h t. times-queue (o .number) other book ∙ h (on-live side o t) (λ x. tick (standsOn other x)))
+      (each-only book (s .apart)))
 
   -- each number stands once in its queue, and not in the other
   times-own : (side : ℕ) → Each (λ o. times (o .number) (queue side book) ≡ 1) (queue side book)
