@@ -22,7 +22,7 @@ use Rattle.model.proofs.Bools.{not-both}
 use Rattle.model.proofs.Rules.{Numbered, none-holds}
 use Rattle.book.specs.Standing.{Standing}
 use Rattle.auction.specs.declared.Listed.{Listed}
-use Rattle.auction.specs.Written.{written, listed}
+use Rattle.auction.specs.Fitting.{fitted, listed}
 use Rattle.auction.specs.Rule.{Qualifies}
 use Rattle.auction.proofs.Rules.{never-undecided, auction-price-cases}
 use Rattle.day.specs.Promises.{listLeft}
@@ -99,7 +99,7 @@ module _ (d : Day) (book : List Order) where
         {r : Listed} {after : List ℕ}
         → unsound d book ≡ false
         → r ≡ listed (due asked book) lent
-        → after ≡ written (due asked book) lent
+        → after ≡ fitted (due asked book) lent
         → listLeft (ListReply.the-variants.Listed (r .count) (r .next)) after ≡ listCall d asked book lent
-    unfolding listCall listRules firstOf _when_ listed written
+    unfolding listCall listRules firstOf _when_ listed fitted
     list-accepted u e f = rw (u, e, f)

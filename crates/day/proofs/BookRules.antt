@@ -23,7 +23,6 @@ use Rattle.model.proofs.Bools.{and-both, not-both}
 use Rattle.book.specs.Rows.{orderOf, bookOf}
 use Rattle.book.specs.Standing.{Standing}
 use Rattle.book.specs.Places.{lowestFree}
-use Rattle.book.specs.Writing.{front}
 use Rattle.book.proofs.Finding.{full, not-full, lowest-bound}
 use Rattle.book.proofs.Best.{best-price}
 use Rattle.matching.specs.declared.Swept.{Swept}
@@ -137,11 +136,6 @@ module _ (rows : List (List ℕ)) {n : ℕ} (e : n ≡ lowestFree (bookOf rows))
   pub free-of : (n ≡ length rows → ⊥) → all isLive (bookOf rows) ≡ false
   free-of h = not-full (bookOf rows) (omega (arith, places, lowest-bound (bookOf rows)))
 
--- a first pass counts, and leaves the list as it is
 pub counted-trades : {s : Swept} (ts : List Trade) → s ≡ comesTo ts → s .trades ≡ length ts
 unfolding comesTo
 counted-trades ts e = rw e
-
-pub list-kept : (rows lent : List (List ℕ)) {after : List (List ℕ)} → after ≡ front 0 rows lent → after ≡ lent
-unfolding front
-list-kept rows lent e = e

@@ -4,7 +4,8 @@ use native.Mathlib.Omega.{arith}
 use borrow.Author.Needs.{needs}
 use lib.ListN.{length}
 use Rattle.model.specs.Entry.{entryTrades}
-use Rattle.book.specs.Rows.{bookOf, tradeRows}
+use Rattle.book.specs.Rows.{bookOf}
+use Rattle.book.proofs.Written.{front-zero}
 use Rattle.day.proofs.BookRules.{
   book-range,
   book-full,
@@ -14,7 +15,6 @@ use Rattle.day.proofs.BookRules.{
   full-of,
   free-of,
   counted-trades,
-  list-kept,
 }
 use Rattle.day.proofs.book_checks.book_refusal.Statement.{statement}
 use Rattle.day.proofs.book_checks.book_refusal.Tie as tie
@@ -64,7 +64,7 @@ returns-4 c =
     let s = c .before .before .before .before .before .before .before .before .before .before .before in
     let e = c .before .before .before .enter-trades in
     let book = bookOf (s .args .rows .now) in
-    let k : e .last .1 .0 ≡ s .args .trades .now = list-kept (tradeRows (entryTrades (s .args .d) (s .args .a) book)) _ (e .ensures .1) in
+    let k : e .last .1 .0 ≡ s .args .trades .now = e .ensures .1 ∙ front-zero _ _ in
     let l : length (e .last .1 .0) ≡ length (s .args .trades .now) = ap length k in
     let n : e .result .trades ≡ length (entryTrades (s .args .d) (s .args .a) book) = counted-trades _ (e .ensures .0) in (
       book-room (s .args .d) (s .args .a) book _
@@ -83,7 +83,7 @@ returns-5 c =
     let s = c .before .before .before .before .before .before .before .before .before .before .before in
     let e = c .before .before .before .enter-trades in
     let book = bookOf (s .args .rows .now) in
-    let k : e .last .1 .0 ≡ s .args .trades .now = list-kept (tradeRows (entryTrades (s .args .d) (s .args .a) book)) _ (e .ensures .1) in
+    let k : e .last .1 .0 ≡ s .args .trades .now = e .ensures .1 ∙ front-zero _ _ in
     let l : length (e .last .1 .0) ≡ length (s .args .trades .now) = ap length k in
     let n : e .result .trades ≡ length (entryTrades (s .args .d) (s .args .a) book) = counted-trades _ (e .ensures .0) in (
       book-none (s .args .d) (s .args .a) book _
