@@ -1,0 +1,3 @@
+-- Laws of the program's lines.
+pub mod Words
+pub mod Commands

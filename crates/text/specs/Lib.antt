@@ -1,0 +1,2 @@
+-- What the program's functions on text say, in terms of the definitions' lines.
+pub mod Words
