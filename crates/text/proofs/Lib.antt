@@ -1,3 +1,5 @@
 -- Laws of the program's lines.
 pub mod Words
 pub mod Commands
+pub mod Printed
+pub mod Lines

@@ -1,2 +1,3 @@
 -- What the program's functions on text say, in terms of the definitions' lines.
 pub mod Words
+pub mod Printing
