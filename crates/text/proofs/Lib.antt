@@ -2,4 +2,6 @@
 pub mod Words
 pub mod Commands
 pub mod Printed
-pub mod Lines
+pub mod Replied
+pub mod Blocks
+pub mod Carrying

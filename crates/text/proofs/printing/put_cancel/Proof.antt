@@ -1,6 +1,6 @@
 -- Each case of the reply is one law of its line.
 use Rattle.text.proofs.Printed.{put-as}
-use Rattle.text.proofs.Lines.{cancel-refused, withdrawn-is}
+use Rattle.text.proofs.Replied.{cancel-refused, withdrawn-is}
 use borrow.Author.Needs.{needs}
 use Rattle.text.proofs.printing.put_cancel.Statement.{statement}
 use Rattle.text.proofs.printing.put_cancel.Tie as tie

@@ -1,6 +1,6 @@
 -- Each case of the reply is one law of its line.
 use Rattle.text.proofs.Printed.{put-as}
-use Rattle.text.proofs.Lines.{clock-refused, moved-is}
+use Rattle.text.proofs.Replied.{clock-refused, moved-is}
 use borrow.Author.Needs.{needs}
 use Rattle.text.proofs.printing.put_clock.Statement.{statement}
 use Rattle.text.proofs.printing.put_clock.Tie as tie

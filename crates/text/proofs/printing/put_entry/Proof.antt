@@ -1,6 +1,6 @@
 -- The two numbers of the remainder are the definitions'.
 use Rattle.text.proofs.Printed.{put-as}
-use Rattle.text.proofs.Lines.{entry-is}
+use Rattle.text.proofs.Replied.{entry-is}
 use borrow.Author.Needs.{needs}
 use Rattle.text.proofs.printing.put_entry.Statement.{statement}
 use Rattle.text.proofs.printing.put_entry.Tie as tie

@@ -1,6 +1,6 @@
 -- Each case of the reply is one law of its line.
 use Rattle.text.proofs.Printed.{put-as}
-use Rattle.text.proofs.Lines.{open-refused, opened-is}
+use Rattle.text.proofs.Replied.{open-refused, opened-is}
 use borrow.Author.Needs.{needs}
 use Rattle.text.proofs.printing.put_open.Statement.{statement}
 use Rattle.text.proofs.printing.put_open.Tie as tie

@@ -1,6 +1,6 @@
 -- Each case of the reply is one law of its line.
 use Rattle.text.proofs.Printed.{put-as}
-use Rattle.text.proofs.Lines.{order-refused, accepted-is}
+use Rattle.text.proofs.Replied.{order-refused, accepted-is}
 use borrow.Author.Needs.{needs}
 use Rattle.text.proofs.printing.put_order.Statement.{statement}
 use Rattle.text.proofs.printing.put_order.Tie as tie

@@ -7,7 +7,7 @@ use Rattle.model.specs.Lines.{tradeLines}
 use Rattle.book.specs.Rows.{tradesOf}
 use Rattle.text.specs.Printing.{Wrote}
 use Rattle.text.proofs.Printed.{put-long}
-use Rattle.text.proofs.Lines.{trades-start, trades-room, trades-on}
+use Rattle.text.proofs.Replied.{trades-start, trades-room, trades-on}
 use borrow.Author.Needs.{needs}
 use Rattle.text.proofs.printing.put_trades.Statement.{statement}
 use Rattle.text.proofs.printing.put_trades.Tie as tie
