@@ -3,7 +3,7 @@
 use Prim.Native.Nat.{ℕ, suc, _+_, _-_, _≤_, _<_}
 use mathlib.Core.Path.{_≡_, refl, sym, ap, _∙_}
 use mathlib.Core.Bool.{Bool, true, false, cond}
-use mathlib.Core.List.{List, [], _∷_, _++_, append-assoc, append-nil}
+use mathlib.Core.List.{List, [], _∷_, _++_, append-nil}
 use native.Mathlib.Nat.{add-zero}
 use native.Mathlib.Numerals.{add-one}
 use native.Mathlib.Omega.{arith}
@@ -17,7 +17,7 @@ use Rattle.model.specs.Lines.{Line, onto, linesOf, lineCommand}
 use Rattle.book.specs.Standing.{Each}
 use Rattle.text.specs.declared.Bounds as Bounds
 use Rattle.text.specs.declared.Next as Next
-use Rattle.text.specs.Blocks.{boundsAt, nextLine, asksAfter, commandAt, nextCommand, behindFirst, commandsFrom}
+use Rattle.text.specs.Blocks.{asksOf, tailOf, tailLong, boundsAt, nextLine, asksAfter, commandAt, nextCommand, behindFirst}
 
 -- ---- looking for the newline, byte by byte
 
@@ -84,36 +84,44 @@ grown-first b [] [] = refl
 grown-first b [] (l ∷ ls) = refl
 grown-first b (d ∷ t) ls = rw (grown-first d t ls)
 
--- the bytes up to the first newline, and those behind it; or none is there
-data Cut (s : List ℕ) : Type 0 where
-  cut : (t rest : List ℕ) → Unended t → s ≡ t ++ 10 ∷ rest → Cut s
-  uncut : Unended s → Cut s
+-- an input cut at its newlines: each line's bytes, and those behind the last newline
+pub data Cut : List ℕ → Type 0 where
+  cut : {s : List ℕ} (t rest : List ℕ) → Unended t → s ≡ t ++ 10 ∷ rest → Cut rest → Cut s
+  uncut : {s : List ℕ} → Unended s → Cut s
 
 cut-one : (b : ℕ) (s : List ℕ) → (b ≡ 10 → ⊥) → Cut s → Cut (b ∷ s)
-cut-one b s h (cut t rest u e) = cut (b ∷ t) rest (h, u) (ap (λ (l : List ℕ). b ∷ l) e)
-cut-one b s h (uncut u) = uncut (h, u)
+cut-one b s h (cut t rest u e c) = cut (b ∷ t) rest (h, u) (ap (λ (l : List ℕ). b ∷ l) e) c
+cut-one b s h (uncut u) = uncut {s = b ∷ s} (h, u)
 
-cut-up : (s : List ℕ) → Cut s
+pub cut-up : (s : List ℕ) → Cut s
 cut-up [] = uncut tt
 cut-up (b ∷ s) = go (eqb b 10) refl (cut-up s)
   where
     go : (t : Bool) → eqb b 10 ≡ t → Cut s → Cut (b ∷ s)
-    go true e c = cut [] s tt (ap (λ (x : ℕ). x ∷ s) (eqb-true b 10 e))
+    go true e c = cut [] s tt (ap (λ (x : ℕ). x ∷ s) (eqb-true b 10 e)) c
     go false e c = cut-one b s (eqb-false b 10 e) c
 
 -- ---- the next line of a block
 
-from-ended :
-    (long : Bool) (t rest : List ℕ)
-    → Unended t
-    → commandsFrom long (t ++ 10 ∷ rest) ≡ asksAfter long (record { text = t; ended = true }) ∷ commandsFrom false rest
-unfolding commandsFrom
-from-ended true t rest u = rw (lines-ended t rest u)
-from-ended false t rest u = rw (lines-ended t rest u)
-
-lines-open : (t : List ℕ) → Unended t → linesOf t ≡ ontoAll t []
+pub lines-open : (t : List ℕ) → Unended t → linesOf t ≡ ontoAll t []
 unfolding linesOf
 lines-open t u = sym (ap linesOf (append-nil t)) ∙ lines-grow t [] u
+
+-- a tail asks for nothing
+pub open-asks : (t : List ℕ) (long : Bool) → asksOf long (ontoAll t []) ≡ []
+unfolding asksOf ontoAll
+open-asks [] long = refl
+open-asks (b ∷ t) long = rw (grown-first b t [])
+
+pub open-tail : (t : List ℕ) → tailOf (ontoAll t []) ≡ t
+unfolding tailOf ontoAll
+open-tail [] = refl
+open-tail (b ∷ t) = rw (grown-first b t [], append-nil t)
+
+pub open-long : (t : List ℕ) (long : Bool) → tailLong long (ontoAll t []) ≡ long
+unfolding tailLong ontoAll
+open-long [] long = refl
+open-long (b ∷ t) long = rw (grown-first b t [])
 
 module _ (start at : ℕ) (long : Bool) where
   tail-bounds : (t : List ℕ) → boundsAt start at (ontoAll t []) ≡ Bounds.the-variants.Tail
@@ -184,7 +192,7 @@ module _ (block : List ℕ) (at : ℕ) where
   bounded start end p = go (cut-up there)
     where
       go : Cut there → Bounded start end
-      go (cut t rest u e) =
+      go (cut t rest u e _) =
           let q = sym (line-cut t rest u e) ∙ p in
           let f : start ≡ at = cc in
           let g : end ≡ at + length t = cc in
@@ -220,40 +228,61 @@ module _ (block : List ℕ) (at : ℕ) where
   unbounded long p = go (cut-up there)
     where
       go : Cut there → nextCommand long block at ≡ Next.the-variants.Tail
-      go (cut t rest u e) = let q = sym (line-cut t rest u e) ∙ p in let z : _≡_ {A = ℕ} 0 1 = cc in absurd (omega arith)
+      go (cut t rest u e _) = let q = sym (line-cut t rest u e) ∙ p in let z : _≡_ {A = ℕ} 0 1 = cc in absurd (omega arith)
       go (uncut u) = command-uncut long u
 
-  -- a line that was taken: the input asks for it, and for what stands behind it
+  -- a line that was taken: the block asks for it, and then for what stands behind it
   pub record Taken (long : Bool) (command : Command) (place : ℕ) : Type 0 where
     pub onward : at < place
     pub inside : place ≤ length block
-    pub asks : (more : List ℕ) → commandsFrom long (there ++ more) ≡ command ∷ commandsFrom false (drop place block ++ more)
+    pub asks : asksOf long (linesOf there) ≡ command ∷ asksOf false (linesOf (drop place block))
+    pub tail : tailOf (linesOf there) ≡ tailOf (linesOf (drop place block))
+    pub still : tailLong long (linesOf there) ≡ tailLong false (linesOf (drop place block))
 
-  pub taken : (long : Bool) (command : Command) (place : ℕ) → nextCommand long block at ≡ Next.the-variants.Line command place → Taken long command place
+  pub taken :
+      (long : Bool) (command : Command) (place : ℕ)
+      → nextCommand long block at ≡ Next.the-variants.Line command place
+      → Taken long command place
+  unfolding asksOf tailOf tailLong
   taken long command place p = go (cut-up there)
     where
       go : Cut there → Taken long command place
-      go (cut t rest u e) =
+      go (cut t rest u e _) =
           let q = sym (command-cut t rest u e long) ∙ p in
           let f : asksAfter long (first t rest u e) ≡ command = cc in
           let g : at + length t + 1 ≡ place = cc in
           let w = first-within t rest u e in
-          let b : rest ≡ drop place block = sym (first-behind t rest u e) ∙ ap (λ (k : ℕ). drop k block) g in
+          let l : linesOf there ≡ first t rest u e ∷ linesOf (drop place block) =
+          first-ended t rest u e
+          ∙ ap (λ (s : List ℕ). first t rest u e ∷ linesOf s) (sym (first-behind t rest u e) ∙ ap (λ (k : ℕ). drop k block) g)
+          in
           record {
             onward = omega arith;
             inside = omega arith;
-            asks = λ more.
-                ap (λ (l : List ℕ). commandsFrom long (l ++ more)) e
-                ∙ ap (commandsFrom long) (append-assoc t (10 ∷ rest) more)
-                ∙ from-ended long t (rest ++ more) u
-                ∙ ap (λ (c : Command). c ∷ commandsFrom false (rest ++ more)) f
-                ∙ ap (λ (l : List ℕ). command ∷ commandsFrom false (l ++ more)) b;
+            asks = ap (asksOf long) l ∙ ap (λ (c : Command). c ∷ asksOf false (linesOf (drop place block))) f;
+            tail = ap tailOf l;
+            still = ap (tailLong long) l;
           }
       go (uncut u) = let q = sym (command-uncut long u) ∙ p in let z : _≡_ {A = ℕ} 0 1 = cc in absurd (omega arith)
 
-  pub all-taken : (long : Bool) → nextCommand long block at ≡ Next.the-variants.Tail → Unended there
+  -- no line is left: the rest is the block's tail
+  pub record AllTaken (long : Bool) : Type 0 where
+    pub unended : Unended there
+    pub asks : asksOf long (linesOf there) ≡ []
+    pub tail : tailOf (linesOf there) ≡ there
+    pub still : tailLong long (linesOf there) ≡ long
+
+  pub all-taken : (long : Bool) → nextCommand long block at ≡ Next.the-variants.Tail → AllTaken long
   all-taken long p = go (cut-up there)
     where
-      go : Cut there → Unended there
-      go (cut t rest u e) = let q = sym (command-cut t rest u e long) ∙ p in let z : _≡_ {A = ℕ} 0 1 = cc in absurd (omega arith)
-      go (uncut u) = u
+      go : Cut there → AllTaken long
+      go (cut t rest u e _) =
+          let q = sym (command-cut t rest u e long) ∙ p in let z : _≡_ {A = ℕ} 0 1 = cc in absurd (omega arith)
+      go (uncut u) =
+          let l = lines-open there u in
+          record {
+            unended = u;
+            asks = ap (asksOf long) l ∙ open-asks there long;
+            tail = ap tailOf l ∙ open-tail there;
+            still = ap (tailLong long) l ∙ open-long there long;
+          }

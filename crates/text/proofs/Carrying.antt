@@ -41,7 +41,7 @@ moved-on buf₀ buf start i h e =
 
 -- ---- the carry
 
-abbrev kept-if : Bool → List ℕ → Carry
+abbrev pub kept-if : Bool → List ℕ → Carry
 kept-if b t = cond b (record { kept = 0; long = true }) (record { kept = length t; long = false })
 
 module _ (more : List ℕ) where

@@ -5,3 +5,4 @@ pub mod Printed
 pub mod Replied
 pub mod Blocks
 pub mod Carrying
+pub mod Sessions

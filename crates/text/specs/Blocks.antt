@@ -60,3 +60,19 @@ behindFirst (l ∷ ls) = ls
 unfoldable pub commandsFrom : Bool → List ℕ → List Command
 commandsFrom false input = map lineCommand (linesOf input)
 commandsFrom true input = Malformed ∷ map lineCommand (behindFirst (linesOf input))
+
+-- ---- a block as a whole
+
+-- what the lines ask for that end in it
+unfoldable pub asksOf : Bool → List Line → List Command
+asksOf long [] = []
+asksOf long (l ∷ ls) = if l .ended then asksAfter long l ∷ asksOf false ls else []
+
+-- the line that does not end in it, and whether a part of that line that was too long is gone
+unfoldable pub tailOf : List Line → List ℕ
+tailOf [] = []
+tailOf (l ∷ ls) = if l .ended then tailOf ls else l .text
+
+unfoldable pub tailLong : Bool → List Line → Bool
+tailLong long [] = long
+tailLong long (l ∷ ls) = if l .ended then tailLong false ls else long

@@ -2,3 +2,4 @@
 pub mod Words
 pub mod Printing
 pub mod Blocks
+pub mod Answers
