@@ -1,15 +1,15 @@
 -- What is carried over from block to block stands for the bytes that it leaves out. Assumes nothing.
-use Prim.Native.Nat.{ℕ, suc, _+_, _≤_, _<_}
+use Prim.Native.Nat.{ℕ, zero, suc, _+_, _-_, _≤_, _<_}
 use mathlib.Core.Path.{_≡_, refl, sym, ap, _∙_}
 use mathlib.Core.Bool.{Bool, true, false, cond, _||_}
 use mathlib.Core.List.{List, [], _∷_, _++_, map, append-nil}
-use native.Mathlib.Nat.{add-comm}
+use native.Mathlib.Nat.{add-comm, le-refl}
 use native.Mathlib.Numerals.{add-one}
 use native.Mathlib.Omega.{arith}
 use lib.Dec.{ltb}
 use lib.ListN.{length, getD, take, drop, set, length-append, length-drop}
-use lib.Seq.{drop-cons, append-snoc, take-suc, take-length, set-at, getD-drop, getD-append-add, length-take-le}
-use borrow.Author.Tests.{lt-ltb, le-ltb, ltb-true}
+use lib.Seq.{drop-cons, append-snoc, take-suc, take-length, set-at, getD-drop, getD-append-add, length-take-le, take-nil}
+use borrow.Author.Tests.{lt-ltb, le-ltb, ltb-true, ltb-false}
 use Rattle.model.specs.declared.Command.{Command}
 use Rattle.model.specs.declared.Command.the-variants.{Malformed}
 use Rattle.model.specs.Lines.{linesOf, lineCommand}
@@ -39,10 +39,37 @@ moved-on buf₀ buf start i h e =
     one-further : (front l : List ℕ) (i v : ℕ) → length front ≡ i → i < length l → set (front ++ drop i l) i v ≡ front ++ (v ∷ []) ++ drop (i + 1) l
     one-further front l i v e h = rw (drop-cons l i v h, add-one, append-snoc, set-at front _ _ v i e)
 
+-- what is read from a buffer up to n stands there from any place on
+pub drop-take : (at n : ℕ) (buf : List ℕ) → drop at (take n buf) ≡ take (n - at) (drop at buf)
+drop-take zero n buf = let e : n ≡ n - 0 = omega arith in ap (λ (k : ℕ). take k buf) e
+drop-take (suc at) zero buf =
+    let e : 0 ≡ 0 - suc at = omega arith in ap (λ (k : ℕ). take k (drop (suc at) buf)) e
+drop-take (suc at) (suc n) [] = sym (take-nil (suc n - suc at))
+drop-take (suc at) (suc n) (b ∷ buf) =
+    let e : n - at ≡ suc n - suc at = omega arith in drop-take at n buf ∙ ap (λ (k : ℕ). take k (drop at buf)) e
+
 -- ---- the carry
 
-abbrev pub kept-if : Bool → List ℕ → Carry
+abbrev kept-if : Bool → List ℕ → Carry
 kept-if b t = cond b (record { kept = 0; long = true }) (record { kept = length t; long = false })
+
+-- it keeps no more than there is, and never more than 79 bytes
+pub kept-fits : (long : Bool) (t : List ℕ) → carryOf long t .kept ≤ length t
+unfolding carryOf
+kept-fits long t = go (long || ltb 79 (length t))
+  where
+    go : (b : Bool) → kept-if b t .kept ≤ length t
+    go true = omega arith
+    go false = le-refl (length t)
+
+pub kept-few : (long : Bool) (t : List ℕ) → carryOf long t .kept ≤ 79
+unfolding carryOf
+kept-few true t = omega arith
+kept-few false t = go (ltb 79 (length t)) refl
+  where
+    go : (b : Bool) → ltb 79 (length t) ≡ b → kept-if b t .kept ≤ 79
+    go true e = omega arith
+    go false e = ltb-false 79 (length t) e
 
 module _ (more : List ℕ) where
   -- more bytes of a line that is too long change nothing

@@ -1,15 +1,11 @@
 -- Answering block by block gives the definitions' session, however the input is cut into blocks. Assumes nothing.
-use Prim.Native.Nat.{ℕ, zero, suc, _-_, _≤_}
+use Prim.Native.Nat.{ℕ, zero, suc, _≤_}
 use mathlib.Core.Path.{_≡_, refl, sym, ap, _∙_}
-use mathlib.Core.Bool.{Bool, true, false, _||_}
+use mathlib.Core.Bool.{Bool, true, false}
 use mathlib.Core.List.{List, [], _∷_, _++_, map, flatten, append-assoc, append-nil}
 use mathlib.Core.Option.{Option, none}
-use native.Mathlib.Nat.{le-refl}
-use native.Mathlib.Omega.{arith}
-use lib.Dec.{ltb}
 use lib.ListN.{length, take, drop}
-use lib.Seq.{length-take-le, take-at, take-nil}
-use borrow.Author.Tests.{ltb-false}
+use lib.Seq.{length-take-le, take-at}
 use Rattle.model.specs.declared.Command.{Command}
 use Rattle.model.specs.Lines.{Line, linesOf, lineCommand}
 use Rattle.model.specs.Session.{Desk, answer, answers, session}
@@ -17,7 +13,7 @@ use Rattle.text.specs.declared.Carry.{Carry}
 use Rattle.text.specs.Blocks.{asksAfter, carryOf, CarriedOver, commandsFrom, asksOf, tailOf, tailLong}
 use Rattle.text.specs.Answers.{repliesTo, deskAfter, carryAfter, keptAfter, blockwise}
 use Rattle.text.proofs.Blocks.{Unended, Cut, cut, uncut, cut-up, ontoAll, lines-ended, lines-open, open-asks, open-tail, open-long}
-use Rattle.text.proofs.Carrying.{kept-if, carried, ended}
+use Rattle.text.proofs.Carrying.{kept-fits, kept-few, carried, ended}
 
 -- ---- answers one behind the other
 
@@ -34,6 +30,13 @@ unfolding answers repliesTo
 answers-are [] desk = refl
 answers-are (l ∷ ls) desk =
     ap (λ (t : List ℕ). answer (lineCommand l) desk .text ++ t) (answers-are ls (answer (lineCommand l) desk .desk))
+
+pub answers-append :
+    (ls ms : List Line) (desk : Option Desk)
+    → answers (ls ++ ms) desk ≡ answers ls desk ++ answers ms (deskAfter (map lineCommand ls) desk)
+unfolding answers deskAfter
+answers-append [] ms desk = refl
+answers-append (l ∷ ls) ms desk = rw (answers-append ls ms (answer (lineCommand l) desk .desk), append-assoc)
 
 pub session-is : (input : List ℕ) → session input ≡ repliesTo (commandsFrom false input) none
 unfolding session commandsFrom
@@ -94,14 +97,6 @@ part-unended zero t u = tt
 part-unended (suc n) [] u = tt
 part-unended (suc n) (b ∷ t) u = (u .0, part-unended n t (u .1))
 
-kept-fits : (long : Bool) (t : List ℕ) → carryOf long t .kept ≤ length t
-unfolding carryOf
-kept-fits long t = go (long || ltb 79 (length t))
-  where
-    go : (b : Bool) → kept-if b t .kept ≤ length t
-    go true = omega arith
-    go false = le-refl (length t)
-
 pub blockwise-is :
     (bs : List (List ℕ)) (c : Carry) (kept : List ℕ) (desk : Option Desk)
     → Unended kept
@@ -133,27 +128,9 @@ block-by-block bs = blockwise-is bs (record { kept = 0; long = false }) [] none 
 
 -- ---- the carry of a block, as the buffer has it
 
-kept-few : (long : Bool) (t : List ℕ) → carryOf long t .kept ≤ 79
-unfolding carryOf
-kept-few true t = omega arith
-kept-few false t = go (ltb 79 (length t)) refl
-  where
-    go : (b : Bool) → ltb 79 (length t) ≡ b → kept-if b t .kept ≤ 79
-    go true e = omega arith
-    go false e = ltb-false 79 (length t) e
-
 pub carry-few : (long : Bool) (block : List ℕ) → carryAfter long block .kept ≤ 79
 unfolding carryAfter
 carry-few long block = kept-few (tailLong long (linesOf block)) (tailOf (linesOf block))
-
--- what is read from a buffer up to n stands there from any place on
-pub drop-take : (at n : ℕ) (buf : List ℕ) → drop at (take n buf) ≡ take (n - at) (drop at buf)
-drop-take zero n buf = let e : n ≡ n - 0 = omega arith in ap (λ (k : ℕ). take k buf) e
-drop-take (suc at) zero buf =
-    let e : 0 ≡ 0 - suc at = omega arith in ap (λ (k : ℕ). take k (drop (suc at) buf)) e
-drop-take (suc at) (suc n) [] = sym (take-nil (suc n - suc at))
-drop-take (suc at) (suc n) (b ∷ buf) =
-    let e : n - at ≡ suc n - suc at = omega arith in drop-take at n buf ∙ ap (λ (k : ℕ). take k (drop at buf)) e
 
 module _ (before after : List ℕ) (long : Bool) (c : Carry) (long₀ : Bool) (block tail : List ℕ) where
   pub carried-after :

@@ -21,7 +21,7 @@ fn word_end(line: &[u8], at: usize) -> usize
 {
     let mut i = at;
     while i < line.len() {
-        if line[i] == 32 {
+        if line[i] == b' ' {
             return i;
         }
         i = i + 1;
@@ -36,16 +36,16 @@ fn is_bare(word: &[u8]) -> bool
     if word.len() < 2 {
         return word.len() == 1;
     }
-    word[0] != 48
+    word[0] != b'0'
 }
 
 fn is_digit(b: u8) -> bool
     ensures { λ r. ⌜ r ≡ isDigit b ⌝ }
 {
-    if b < 48 {
+    if b < b'0' {
         return false;
     }
-    b <= 57
+    b <= b'9'
 }
 
 // A decimal up to 4,294,967,295.
@@ -89,13 +89,13 @@ fn asked_for(letter: u8, n: usize, v: [u64; 5]) -> Command
     requires { ⌜ n ≤ 5 ⌝ }
     ensures { λ r. ⌜ r ≡ commandOf letter (take n v) ⌝ }
 {
-    if letter == 84 {
+    if letter == b'T' {
         if n == 1 {
             return Command::Moves(v[0]);
         }
         return Command::Malformed;
     }
-    if letter == 68 {
+    if letter == b'D' {
         if n == 2 {
             return Command::Opens {
                 close: v[0],
@@ -104,7 +104,7 @@ fn asked_for(letter: u8, n: usize, v: [u64; 5]) -> Command
         }
         return Command::Malformed;
     }
-    if letter == 67 {
+    if letter == b'C' {
         if n == 2 {
             return Command::Cancels {
                 account: v[0],
@@ -113,7 +113,7 @@ fn asked_for(letter: u8, n: usize, v: [u64; 5]) -> Command
         }
         return Command::Malformed;
     }
-    if letter == 79 {
+    if letter == b'O' {
         if n == 5 {
             return Command::Enters(asked(v));
         }
@@ -158,7 +158,7 @@ pub fn command_of(line: &[u8], ended: bool) -> Command
     if line.len() < 2 {
         return Command::Malformed;
     }
-    if line[1] != 32 {
+    if line[1] != b' ' {
         return Command::Malformed;
     }
     let letter = line[0];

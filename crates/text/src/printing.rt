@@ -49,7 +49,7 @@ fn put_number(out: &mut [u8], at: usize, x: u64) -> usize
     requires { ⌜ at + 21 ≤ length (now out) ⌝ }
     ensures { λ r. ⌜ Wrote (now (out .entry)) at (32 ∷ digits 20 x) (now (out .exit)) r ⌝ }
 {
-    let p = put_byte(out, at, 32);
+    let p = put_byte(out, at, b' ');
     put_digits(out, p, x)
 }
 
@@ -65,7 +65,7 @@ pub fn put_reply(out: &mut [u8], at: usize, letter: u8, n: usize, numbers: [u64;
         p = put_number(out, p, x);
         i = i + 1;
     }
-    put_byte(out, p, 10)
+    put_byte(out, p, b'\n')
 }
 
 fn put_trade(out: &mut [u8], at: usize, t: Trade) -> usize
@@ -73,7 +73,7 @@ fn put_trade(out: &mut [u8], at: usize, t: Trade) -> usize
     ensures { λ r. ⌜ Wrote (now (out .entry)) at (tradeLines (t ∷ [])) (now (out .exit)) r ⌝ }
 {
     let numbers = [t.price, t.quantity, t.buyer, t.seller, 0];
-    put_reply(out, at, 77, 4, numbers)
+    put_reply(out, at, b'M', 4, numbers)
 }
 
 // The lines of the first n trades of the list.
@@ -96,7 +96,7 @@ pub fn put_refusal(out: &mut [u8], at: usize, n: u64) -> usize
     ensures { λ r. ⌜ Wrote (now (out .entry)) at (refusalLine n) (now (out .exit)) r ⌝ }
 {
     let numbers = [n, 0, 0, 0, 0];
-    put_reply(out, at, 88, 1, numbers)
+    put_reply(out, at, b'X', 1, numbers)
 }
 
 pub fn put_open(out: &mut [u8], at: usize, answer: OpenReply) -> usize
@@ -107,7 +107,7 @@ pub fn put_open(out: &mut [u8], at: usize, answer: OpenReply) -> usize
         OpenReply::Refused(n) => put_refusal(out, at, n),
         OpenReply::Opened(_) => {
             let numbers = [0, 0, 0, 0, 0];
-            put_reply(out, at, 68, 0, numbers)
+            put_reply(out, at, b'D', 0, numbers)
         }
     }
 }
@@ -120,7 +120,7 @@ pub fn put_clock(out: &mut [u8], at: usize, answer: ClockReply) -> usize
         ClockReply::Refused(n) => put_refusal(out, at, n),
         ClockReply::Moved { phase, trades } => {
             let numbers = [phase, trades as u64, 0, 0, 0];
-            put_reply(out, at, 75, 2, numbers)
+            put_reply(out, at, b'K', 2, numbers)
         }
     }
 }
@@ -152,7 +152,7 @@ fn put_entry(out: &mut [u8], at: usize, e: Entry) -> usize
 {
     let rest = e.remainder;
     let numbers = [e.number, e.filled, resting(rest), withdrawn(rest), e.levels];
-    put_reply(out, at, 65, 5, numbers)
+    put_reply(out, at, b'A', 5, numbers)
 }
 
 pub fn put_order(out: &mut [u8], at: usize, answer: OrderReply) -> usize
@@ -174,7 +174,7 @@ pub fn put_cancel(out: &mut [u8], at: usize, number: u64, answer: CancelReply) -
         CancelReply::Refused(n) => put_refusal(out, at, n),
         CancelReply::Withdrawn(q) => {
             let numbers = [number, q, 0, 0, 0];
-            put_reply(out, at, 87, 2, numbers)
+            put_reply(out, at, b'W', 2, numbers)
         }
     }
 }

@@ -16,7 +16,7 @@ fn scan(block: &[u8], at: usize) -> Bounds
 {
     let mut i = at;
     while i < block.len() {
-        if block[i] == 10 {
+        if block[i] == b'\n' {
             return Bounds::Line { start: at, end: i };
         }
         i = i + 1;
