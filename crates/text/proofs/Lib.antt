@@ -6,3 +6,4 @@ pub mod Replied
 pub mod Blocks
 pub mod Carrying
 pub mod Sessions
+pub mod Lent
