@@ -15,7 +15,7 @@ use Rattle.model.specs.declared.Command.the-variants.{Malformed}
 use Rattle.model.specs.Lines.{linesOf, lineCommand}
 use Rattle.text.specs.declared.Carry.{Carry}
 use Rattle.text.specs.Blocks.{carryOf, CarriedOver, isLeft, behindFirst, commandsFrom}
-use Rattle.text.proofs.Commands.{unended-is, long-is}
+use Rattle.text.proofs.Forms.{unended-is, long-is}
 use Rattle.text.proofs.Blocks.{Unended, ontoAll, grown-first, firstText, firstEnded, lines-grow}
 
 -- ---- bytes moved to the front
@@ -31,12 +31,21 @@ moved-on buf₀ buf start i h e =
     let long : i < length (drop start buf₀) = rw length-drop (omega arith) in
     let n : length front ≡ i = length-take-le i (drop start buf₀) (omega arith) in
     let f : getD buf (start + i) 0 ≡ getD buf₀ (start + i) 0 =
-    rw (e, add-comm start i) (ap (λ (k : ℕ). getD (front ++ drop i buf₀) (k + start) 0) (sym n) ∙ getD-append-add front (drop i buf₀) start 0 ∙ getD-drop i buf₀ start 0)
+    rw (e, add-comm start i)
+    (ap (λ (k : ℕ). getD (front ++ drop i buf₀) (k + start) 0) (sym n)
+    ∙ getD-append-add front (drop i buf₀) start 0
+    ∙ getD-drop i buf₀ start 0)
     in
-    let g : take (i + 1) (drop start buf₀) ≡ front ++ (getD buf₀ (start + i) 0 ∷ []) = rw (add-one, take-suc (drop start buf₀) i 0 long, getD-drop) in
+    let g : take (i + 1) (drop start buf₀) ≡ front ++ (getD buf₀ (start + i) 0 ∷ []) =
+    rw (add-one, take-suc (drop start buf₀) i 0 long, getD-drop)
+    in
     rw (f, e, g) (one-further front buf₀ i (getD buf₀ (start + i) 0) n (omega arith))
   where
-    one-further : (front l : List ℕ) (i v : ℕ) → length front ≡ i → i < length l → set (front ++ drop i l) i v ≡ front ++ (v ∷ []) ++ drop (i + 1) l
+    one-further :
+        (front l : List ℕ) (i v : ℕ)
+        → length front ≡ i
+        → i < length l
+        → set (front ++ drop i l) i v ≡ front ++ (v ∷ []) ++ drop (i + 1) l
     one-further front l i v e h = rw (drop-cons l i v h, add-one, append-snoc, set-at front _ _ v i e)
 
 -- what is read from a buffer up to n stands there from any place on
@@ -109,7 +118,8 @@ unfolding commandsFrom linesOf
 end-open [] u = refl
 end-open (b ∷ t) u =
     sym (ap (λ (l : List ℕ). map lineCommand (linesOf l)) (append-nil (b ∷ t)))
-    ∙ rw (lines-grow (b ∷ t) [] u, grown-first b t [], lt-ltb 0 (suc (length t)) (omega arith)) (ap (λ (c : Command). c ∷ []) (sym (unended-is (b ∷ t ++ []) false refl)))
+    ∙ rw (lines-grow (b ∷ t) [] u, grown-first b t [], lt-ltb 0 (suc (length t)) (omega arith))
+    (ap (λ (c : Command). c ∷ []) (sym (unended-is (b ∷ t ++ []) false refl)))
 
 end-long : (t : List ℕ) → Unended t → commandsFrom true t ≡ Malformed ∷ []
 unfolding commandsFrom linesOf
@@ -129,11 +139,20 @@ ended c t u e = go (c .long)
 -- ---- the buffer that is carried over
 
 module _ (before tail after : List ℕ) where
-  pub carried-long : (long : Bool) → long ≡ true → after ≡ before → CarriedOver before tail long after (record { kept = 0; long = true })
+  pub carried-long :
+      (long : Bool)
+      → long ≡ true
+      → after ≡ before
+      → CarriedOver before tail long after (record { kept = 0; long = true })
   unfolding carryOf
   carried-long long e f = record { carry = rw e; bytes = f }
 
-  pub carried-grown : (long : Bool) → long ≡ false → 79 < length tail → after ≡ before → CarriedOver before tail long after (record { kept = 0; long = true })
+  pub carried-grown :
+      (long : Bool)
+      → long ≡ false
+      → 79 < length tail
+      → after ≡ before
+      → CarriedOver before tail long after (record { kept = 0; long = true })
   unfolding carryOf
   carried-grown long e h f = record { carry = rw (e, lt-ltb 79 (length tail) h); bytes = f }
 

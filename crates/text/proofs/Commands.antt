@@ -1,7 +1,8 @@
--- A letter takes its own count of numbers and no other; no other letter takes any. Assumes nothing.
+-- A letter with the numbers behind it: it takes its own count of numbers and no other, and no other letter takes any. Assumes
+-- nothing.
 use Prim.Native.Nat.{ℕ, _+_, _-_, _≤_, _<_}
 use mathlib.Core.Path.{_≡_, refl, sym, ap, _∙_}
-use mathlib.Core.Bool.{Bool, true, false, cond, _&&_}
+use mathlib.Core.Bool.{false}
 use mathlib.Core.List.{List, [], _∷_, _++_, append-nil}
 use mathlib.Core.Option.{Option, none, some}
 use native.Mathlib.Numerals.{add-one}
@@ -9,15 +10,14 @@ use native.Mathlib.Omega.{arith}
 use lib.Dec.{eqb}
 use lib.ListN.{length, take, drop, getD, set, length-set, length-drop, drop-of-length-le}
 use lib.Seq.{length-take-le, append-snoc, take-suc-set}
-use borrow.Author.Tests.{eq-eqb, ne-eqb, eqb-true, le-leb, lt-leb}
-use Rattle.model.specs.declared.Command.{Command}
+use borrow.Author.Tests.{eqb-true}
 use Rattle.model.specs.declared.Command.the-variants.{Malformed, Opens, Moves, Enters, Cancels}
-use Rattle.model.specs.Lines.{ontoWord, wordsOf, numberOf, numbersOf, commandOf, wordsCommand, lineCommand, Line}
+use Rattle.model.specs.Lines.{numberOf, commandOf}
 use Rattle.model.proofs.Bools.{not-true-false}
 use Rattle.text.specs.declared.Number.{Number}
 use Rattle.text.specs.declared.Number.the-variants.{Is, Bad}
 use Rattle.text.specs.Words.{askedOf, firstWord, found, numbersAfter, commandWith}
-use Rattle.text.proofs.Words.{ahead, word-fits, word-front, words-first, number-next, number-bad}
+use Rattle.text.proofs.Words.{ahead, word-fits, word-front, number-next, number-bad}
 
 -- the letter does not want this count
 pub record Unwanted (c n : ℕ) : Type 0 where
@@ -29,7 +29,7 @@ pub record Unwanted (c n : ℕ) : Type 0 where
 other : (c d : ℕ) → (c ≡ d → ⊥) → eqb c d ≡ false
 other c d h = not-true-false (λ e. h (eqb-true c d e))
 
-unwanted-is : (c : ℕ) (ns : List ℕ) → Unwanted c (length ns) → commandOf c ns ≡ Malformed
+pub unwanted-is : (c : ℕ) (ns : List ℕ) → Unwanted c (length ns) → commandOf c ns ≡ Malformed
 unfolding commandOf
 unwanted-is c [] u = refl
 unwanted-is c (x ∷ []) u = rw (other c 84 (λ e. u .time e refl))
@@ -102,7 +102,12 @@ found-bad (some w) e = let z : _≡_ {A = ℕ} 0 1 = cc in absurd (omega arith)
 pub gather-starts : (s : List ℕ) → 1 ≤ length s → Gathered s (0 ∷ 0 ∷ 0 ∷ 0 ∷ 0 ∷ []) 0 1
 gather-starts s h = record { long = refl; few = omega arith; within = h; all = ahead-none _ }
 
-sixth : (c : ℕ) (values : List ℕ) → length values ≡ 5 → (v : ℕ) (o : Option (List ℕ)) → Malformed ≡ commandWith c (ahead (take 5 values) (ahead (v ∷ []) o))
+-- no letter wants a sixth number
+sixth :
+    (c : ℕ) (values : List ℕ)
+    → length values ≡ 5
+    → (v : ℕ) (o : Option (List ℕ))
+    → Malformed ≡ commandWith c (ahead (take 5 values) (ahead (v ∷ []) o))
 unfolding commandWith commandOf
 sixth c values h v none = refl
 sixth c values h v (some ns) = five (λ w. Malformed ≡ commandOf c (take 5 w ++ v ∷ ns)) (λ a b d e f. refl) values h
@@ -131,14 +136,20 @@ module _ (s values : List ℕ) (n i : ℕ) (g : Gathered s values n i) where
         go none p = bad-word c p
         go (some v) p =
             sixth c values (g .long) v (numbersAfter (drop (i + 1 + length word) s))
-            ∙ sym (ap (commandWith c) (g .all ∙ ap (λ (k : ℕ). ahead (take k values) (numbersAfter (drop i s))) e ∙ ap (ahead (take 5 values)) (number-next s i h v p)))
+            ∙ sym
+            (ap (commandWith c)
+            (g .all
+            ∙ ap (λ (k : ℕ). ahead (take k values) (numbersAfter (drop i s))) e
+            ∙ ap (ahead (take 5 values)) (number-next s i h v p)))
 
     -- the word ends at e, and o is what was made of it
     module _ (e : ℕ) (o : Number) (ends : e ≡ i + 1 + length word) (is : o ≡ found (numberOf (take (e - (i + 1)) (drop (i + 1) s)))) where
       heard : o ≡ found (numberOf word)
       heard =
           let l : e - (i + 1) ≡ length word = omega arith in
-          is ∙ ap (λ (k : ℕ). found (numberOf (take k (drop (i + 1) s)))) l ∙ ap (λ (w : List ℕ). found (numberOf w)) (word-front (drop (i + 1) s))
+          is
+          ∙ ap (λ (k : ℕ). found (numberOf (take k (drop (i + 1) s)))) l
+          ∙ ap (λ (w : List ℕ). found (numberOf w)) (word-front (drop (i + 1) s))
 
       pub gather-bad : (c : ℕ) → o ≡ Bad → Malformed ≡ commandWith c (numbersAfter (drop 1 s))
       gather-bad c p = bad-word c (found-bad _ (sym heard ∙ p))
@@ -161,83 +172,3 @@ module _ (s values : List ℕ) (n i : ℕ) (g : Gathered s values n i) where
                 ∙ ap (λ (l : List ℕ). ahead l (numbersAfter (drop (i + 1 + length word) s))) (sym t)
                 ∙ ap (λ (k : ℕ). ahead (take (n + 1) (set values n v)) (numbersAfter (drop k s))) (sym ends);
           }
-
--- ---- a line by its first two bytes
-
-spaces : (o : Option (List ℕ)) → commandWith 32 o ≡ Malformed
-unfolding commandWith
-spaces none = refl
-spaces (some ns) =
-    unwanted-is 32 ns (record { time = λ p q. omega arith; opening = λ p q. omega arith; cancel = λ p q. omega arith; order = λ p q. omega arith })
-
-short-line : (s : List ℕ) → length s < 2 → wordsCommand (wordsOf s) ≡ Malformed
-unfolding wordsOf wordsCommand ontoWord numbersOf commandOf
-short-line [] h = refl
-short-line (c ∷ []) h = go (eqb c 32)
-  where
-    go : (t : Bool) → wordsCommand (cond t ([] ∷ [] ∷ []) ((c ∷ []) ∷ [])) ≡ Malformed
-    go true = refl
-    go false = refl
-short-line (c ∷ d ∷ s) h = absurd (omega arith)
-
-two-letters : (c d : ℕ) (w : List ℕ) (ws : List (List ℕ)) → wordsCommand (cond (eqb c 32) ([] ∷ (d ∷ w) ∷ ws) (ontoWord c ((d ∷ w) ∷ ws))) ≡ Malformed
-unfolding wordsCommand ontoWord
-two-letters c d w ws = go (eqb c 32)
-  where
-    go : (t : Bool) → wordsCommand (cond t ([] ∷ (d ∷ w) ∷ ws) ((c ∷ d ∷ w) ∷ ws)) ≡ Malformed
-    go true = refl
-    go false = refl
-
-other-line : (s : List ℕ) → 2 ≤ length s → (getD s 1 0 ≡ 32 → ⊥) → wordsCommand (wordsOf s) ≡ Malformed
-unfolding wordsOf ontoWord firstWord
-other-line [] h e = absurd (omega arith)
-other-line (c ∷ []) h e = absurd (omega arith)
-other-line (c ∷ d ∷ s) h e = rw (wordsOf, ne-eqb d 32 e, words-first s) (two-letters c d _ _)
-
-with-cases : (c : ℕ) (o : Option (List ℕ)) → commandWith c o ≡ (elim o as (λ _. Command) [ none ↦ Malformed | some ns ↦ commandOf c ns ])
-unfolding commandWith
-with-cases c none = refl
-with-cases c (some ns) = refl
-
-letter-line : (s : List ℕ) → 2 ≤ length s → getD s 1 0 ≡ 32 → commandWith (getD s 0 0) (numbersAfter (drop 1 s)) ≡ wordsCommand (wordsOf s)
-unfolding wordsOf ontoWord numbersAfter wordsCommand commandWith
-letter-line [] h e = absurd (omega arith)
-letter-line (c ∷ []) h e = absurd (omega arith)
-letter-line (c ∷ d ∷ s) h e = rw (wordsOf, eq-eqb d 32 e) (go (eqb c 32) refl)
-  where
-    go : (t : Bool) → eqb c 32 ≡ t → commandWith c (numbersOf (wordsOf s)) ≡ wordsCommand (cond t ([] ∷ [] ∷ wordsOf s) ((c ∷ []) ∷ wordsOf s))
-    go true p = rw (eqb-true c 32 p) (spaces (numbersOf (wordsOf s)))
-    go false p = with-cases c (numbersOf (wordsOf s))
-
--- ---- a line as a whole
-
-module _ (s : List ℕ) where
-  abbrev line : Bool → Line
-  line b = record { text = s; ended = b }
-
-  pub unended-is : (b : Bool) → b ≡ false → Malformed ≡ lineCommand (line b)
-  unfolding lineCommand
-  unended-is b e = rw e
-
-  -- a line that is too long says nothing, whatever it is
-  pub long-is : (b : Bool) → 79 < length s → Malformed ≡ lineCommand (line b)
-  unfolding lineCommand
-  long-is b h = rw (lt-leb (length s) 79 h) (go b)
-    where
-      go : (t : Bool) → Malformed ≡ cond (t && false) (wordsCommand (wordsOf s)) Malformed
-      go true = refl
-      go false = refl
-
-  whole : (b : Bool) → b ≡ true → length s ≤ 79 → lineCommand (line b) ≡ wordsCommand (wordsOf s)
-  unfolding lineCommand
-  whole b e h = rw (e, le-leb (length s) 79 h)
-
-  module _ (b : Bool) (e : b ≡ true) (h : length s ≤ 79) where
-    pub short-is : length s < 2 → Malformed ≡ lineCommand (line b)
-    short-is f = sym (whole b e h ∙ short-line s f)
-
-    pub other-is : 2 ≤ length s → (getD s 1 0 ≡ 32 → ⊥) → Malformed ≡ lineCommand (line b)
-    other-is f g = sym (whole b e h ∙ other-line s f g)
-
-    pub letter-is : 2 ≤ length s → getD s 1 0 ≡ 32 → commandWith (getD s 0 0) (numbersAfter (drop 1 s)) ≡ lineCommand (line b)
-    letter-is f g = letter-line s f g ∙ sym (whole b e h)

@@ -1,6 +1,7 @@
--- Laws of the program's lines.
+-- The laws behind the functions on lines, and those that callers cite.
 pub mod Words
 pub mod Commands
+pub mod Forms
 pub mod Printed
 pub mod Replied
 pub mod Blocks

@@ -116,7 +116,9 @@ unfolding reply
 reply-fits c ns = let g = spaced-fits ns in rw length-append (omega arith)
 
 -- the next number behind those that are put
-module _ (ns : List ℕ) {out₀ : List ℕ} {p₀ : ℕ} {out : List ℕ} {p : ℕ} (i : ℕ) (w : Wrote out₀ p₀ (spaced (take i ns)) out p) where
+module _
+    (ns : List ℕ) {out₀ : List ℕ} {p₀ : ℕ} {out : List ℕ} {p : ℕ} (i : ℕ)
+    (w : Wrote out₀ p₀ (spaced (take i ns)) out p) where
   pub numbers-room : i ≤ length ns → p ≤ p₀ + 21 * i
   numbers-room h = omega (arith, w .place, spaced-fits (take i ns), length-take-le i ns h)
 

@@ -52,7 +52,10 @@ at-newline b s (cut t rest u e c) =
     ∙ sym (ap (λ (ls : List Line). ls ++ linesOf b) (front []))
   where
     front : (x : List ℕ) → linesOf (s ++ 10 ∷ x) ≡ record { text = t; ended = true } ∷ linesOf (rest ++ 10 ∷ x)
-    front x = ap (λ (l : List ℕ). linesOf (l ++ 10 ∷ x)) e ∙ ap linesOf (append-assoc t (10 ∷ rest) (10 ∷ x)) ∙ lines-ended t (rest ++ 10 ∷ x) u
+    front x =
+        ap (λ (l : List ℕ). linesOf (l ++ 10 ∷ x)) e
+        ∙ ap linesOf (append-assoc t (10 ∷ rest) (10 ∷ x))
+        ∙ lines-ended t (rest ++ 10 ∷ x) u
 at-newline b s (uncut u) = lines-ended s b u ∙ sym (ap (λ (ls : List Line). ls ++ linesOf b) (lines-ended s [] u))
 
 -- at a newline the lines of the two parts stand one behind the other
@@ -142,4 +145,8 @@ module _ (before after : List ℕ) (long : Bool) (c : Carry) (long₀ : Bool) (b
   carried-after o e f =
       let k : c ≡ carryOf (tailLong long₀ (linesOf block)) (tailOf (linesOf block)) = o .carry ∙ rw (e, f) in
       let n : length (take (c .kept) tail) ≡ c .kept = length-take-le (c .kept) tail (rw (o .carry) (kept-fits long tail)) in
-      (k, ap (λ (l : List ℕ). take (c .kept) l) (o .bytes) ∙ take-at (take (c .kept) tail) (drop (c .kept) before) (c .kept) n ∙ rw (e, k))
+      let t : take (c .kept) after ≡ take (c .kept) tail =
+      ap (λ (l : List ℕ). take (c .kept) l) (o .bytes)
+      ∙ take-at (take (c .kept) tail) (drop (c .kept) before) (c .kept) n
+      in
+      (k, t ∙ rw (e, k))

@@ -46,7 +46,10 @@ unfolding firstWord
 word-front [] = refl
 word-front (b ∷ s) = go (eqb b 32) (word-front s)
   where
-    go : (t : Bool) → take (length (firstWord s)) s ≡ firstWord s → take (length (cond t [] (b ∷ firstWord s))) (b ∷ s) ≡ cond t [] (b ∷ firstWord s)
+    go :
+        (t : Bool)
+        → take (length (firstWord s)) s ≡ firstWord s
+        → take (length (cond t [] (b ∷ firstWord s))) (b ∷ s) ≡ cond t [] (b ∷ firstWord s)
     go true h = refl
     go false h = ap (λ (l : List ℕ). b ∷ l) h
 

@@ -1,7 +1,7 @@
 -- Each early answer is one law of a line; the last is the letter with its numbers.
 use mathlib.Core.Path.{_∙_}
 use borrow.Author.Tests.{not-true, not-false}
-use Rattle.text.proofs.Commands.{unended-is, long-is, short-is, other-is, letter-is}
+use Rattle.text.proofs.Forms.{unended-is, long-is, short-is, other-is, letter-is}
 use borrow.Author.Needs.{needs}
 use Rattle.text.proofs.parsing.command_of.Statement.{statement}
 use Rattle.text.proofs.parsing.command_of.Tie as tie
