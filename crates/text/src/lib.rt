@@ -1,0 +1,32 @@
+// The lines of the rehearsal program: what a line asks for, how replies are printed, and where lines end in the blocks that
+// are read.
+pub mod parsing;
+pub mod printing;
+pub mod reading;
+
+use model::Command;
+
+// A word as a decimal, if it is one.
+pub enum Number {
+    Is(u64),
+    Bad,
+}
+
+// Where the next line of a block stands, without its newline; the block's tail has none.
+pub enum Bounds {
+    Line { start: usize, end: usize },
+    Tail,
+}
+
+// What the next line of a block asks for, and the place behind its newline.
+pub enum Next {
+    Line { command: Command, place: usize },
+    Tail,
+}
+
+// What goes from block to block of a line that has not ended: how many of its bytes stand at the buffer's front, or that
+// it is too long already, and then none.
+pub struct Carry {
+    pub kept: usize,
+    pub long: bool,
+}

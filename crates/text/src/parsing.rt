@@ -1,0 +1,166 @@
+// What a line asks for: a letter, and numbers, each after one space.
+ghost use mathlib.Core.Path.{_≡_};
+ghost use Prim.Native.Nat.{_+_, _≤_};
+ghost use lib.ListN.{length, take, drop};
+ghost use Rattle.model.specs.Lines.{bare, isDigit, numberOf, commandOf, lineCommand};
+ghost use Rattle.text.specs.Words.{firstWord, askedOf, found, numbersAfter, commandWith};
+use crate::Number;
+use model::Asked;
+use model::Command;
+
+fn wide(x: u8) -> u64
+    ensures { λ r. ⌜ r ≡ x ⌝ }
+{
+    x as u64
+}
+
+// The place of the first space from a place on, or the line's end.
+fn word_end(line: &[u8], at: usize) -> usize
+    requires { ⌜ at ≤ length (now line) ⌝ }
+    ensures { λ r. ⌜ r ≡ at + length (firstWord (drop at (now (line .entry)))) ⌝ }
+{
+    let mut i = at;
+    while i < line.len() {
+        if line[i] == b' ' {
+            return i;
+        }
+        i = i + 1;
+    }
+    i
+}
+
+// No extra leading zero: a 0 in front stands alone.
+fn is_bare(word: &[u8]) -> bool
+    ensures { λ r. ⌜ r ≡ bare (now (word .entry)) ⌝ }
+{
+    if word.len() < 2 {
+        return word.len() == 1;
+    }
+    word[0] != b'0'
+}
+
+fn is_digit(b: u8) -> bool
+    ensures { λ r. ⌜ r ≡ isDigit b ⌝ }
+{
+    if b < b'0' {
+        return false;
+    }
+    b <= b'9'
+}
+
+// A decimal up to 4,294,967,295.
+fn number_of(word: &[u8]) -> Number
+    ensures { λ r. ⌜ r ≡ found (numberOf (now (word .entry))) ⌝ }
+{
+    if !is_bare(word) {
+        return Number::Bad;
+    }
+    let mut value: u64 = 0;
+    let mut i: usize = 0;
+    while i < word.len() {
+        let b = word[i];
+        if !is_digit(b) {
+            return Number::Bad;
+        }
+        value = 10 * value + (wide(b) - 48);
+        if 4294967295 < value {
+            return Number::Bad;
+        }
+        i = i + 1;
+    }
+    Number::Is(value)
+}
+
+// Five numbers as an order that is asked for.
+fn asked(v: [u64; 5]) -> Asked
+    ensures { λ r. ⌜ r ≡ askedOf v ⌝ }
+{
+    Asked {
+        side: v[0],
+        kind: v[1],
+        account: v[2],
+        quantity: v[3],
+        price: v[4],
+    }
+}
+
+// A letter wants its own count of numbers.
+fn asked_for(letter: u8, n: usize, v: [u64; 5]) -> Command
+    requires { ⌜ n ≤ 5 ⌝ }
+    ensures { λ r. ⌜ r ≡ commandOf letter (take n v) ⌝ }
+{
+    if letter == b'T' {
+        if n == 1 {
+            return Command::Moves(v[0]);
+        }
+        return Command::Malformed;
+    }
+    if letter == b'D' {
+        if n == 2 {
+            return Command::Opens {
+                close: v[0],
+                mark: v[1],
+            };
+        }
+        return Command::Malformed;
+    }
+    if letter == b'C' {
+        if n == 2 {
+            return Command::Cancels {
+                account: v[0],
+                number: v[1],
+            };
+        }
+        return Command::Malformed;
+    }
+    if letter == b'O' {
+        if n == 5 {
+            return Command::Enters(asked(v));
+        }
+    }
+    Command::Malformed
+}
+
+// The letter with the numbers behind it. No letter wants a sixth number.
+fn numbered(letter: u8, line: &[u8]) -> Command
+    requires { ⌜ 1 ≤ length (now line) ⌝ }
+    ensures { λ r. ⌜ r ≡ commandWith letter (numbersAfter (drop 1 (now (line .entry)))) ⌝ }
+{
+    let mut values = [0u64; 5];
+    let mut n: usize = 0;
+    let mut i: usize = 1;
+    while i < line.len() {
+        if n == 5 {
+            return Command::Malformed;
+        }
+        let start = i + 1;
+        let end = word_end(line, start);
+        let Number::Is(value) = number_of(&line[start..end]) else {
+            return Command::Malformed;
+        };
+        values[n] = value;
+        n = n + 1;
+        i = end;
+    }
+    asked_for(letter, n, values)
+}
+
+// What a line asks for: its bytes without the newline, and whether it had one.
+pub fn command_of(line: &[u8], ended: bool) -> Command
+    ensures { λ r. ⌜ r ≡ lineCommand (record { text = now (line .entry); ended = ended }) ⌝ }
+{
+    if !ended {
+        return Command::Malformed;
+    }
+    if 79 < line.len() {
+        return Command::Malformed;
+    }
+    if line.len() < 2 {
+        return Command::Malformed;
+    }
+    if line[1] != b' ' {
+        return Command::Malformed;
+    }
+    let letter = line[0];
+    numbered(letter, line)
+}
