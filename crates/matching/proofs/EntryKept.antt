@@ -17,9 +17,8 @@ use Rattle.model.specs.Calls.{placed}
 use Rattle.book.specs.Standing.{Each, Fair, Standing}
 use Rattle.book.proofs.Lists.{each}
 use Rattle.book.proofs.Best.{best-price}
-use Rattle.book.proofs.Kept.{standing-settle, standing-rest, fresh-settle}
+use Rattle.book.proofs.Kept.{New, new-fresh, standing-settle, standing-rest, fresh-settle}
 use Rattle.matching.proofs.Trades.{Deal}
-use Rattle.matching.proofs.Fills.{New}
 use Rattle.matching.proofs.EntryLaws.{last-has, taker, each-entry}
 
 module _ (d : Day) (a : Asked) (book : List Order) (standing : Standing book) (price : a .price ≤ 999_999) where
@@ -108,6 +107,5 @@ module _ (d : Day) (a : Asked) (book : List Order) (standing : Standing book) (p
         go false x false y =
             standing-rest remainder (settle ts book)
             (fair-rest (eqb-false (a .quantity - filled ts) 0 x) (eqb-false (restPrice a ts book) 0 y))
-            (fresh-settle ts number book
-            (each (λ (o : Order). o .number ≡ number → ⊥) (λ (o : Order). o .number ≡ number → number ≡ 0) book (λ o f e. absurd (f e)) (new .fresh)))
+            (fresh-settle ts number book (new-fresh number book new))
             (standing-settle ts book standing)
