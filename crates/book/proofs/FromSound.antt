@@ -10,17 +10,30 @@ use lib.Dec.{leb, eqb}
 use borrow.Author.Tests.{eqb-true, eqb-false, leb-true, not-true, not-false}
 use Rattle.model.specs.declared.Order.{Order}
 use Rattle.model.specs.declared.Day.{Day}
-use Rattle.model.specs.Lists.{all, any, total}
+use Rattle.model.specs.Lists.{all, any}
 use Rattle.model.specs.Clock.{isTime}
 use Rattle.model.specs.Limits.{isPrice, inBand}
 use Rattle.model.specs.Book.{free, isLive}
 use Rattle.model.specs.Figures.{nextNumber}
 use Rattle.model.specs.Sound.{
-  hasPlaces, isMark, mayStand, soundFigures, isFree, isOrder, ownNumbers, isEmpty, crosses, between, sharesFit, pricesFit, turnoverFits, sound,
+  hasPlaces,
+  isMark,
+  mayStand,
+  soundFigures,
+  isFree,
+  isOrder,
+  ownNumbers,
+  isEmpty,
+  crosses,
+  between,
+  sharesFit,
+  pricesFit,
+  turnoverFits,
+  sound,
 }
 use Rattle.model.specs.Refusals.{unsound}
 use Rattle.book.specs.Standing.{Each, Fair, Apart, Standing}
-use Rattle.book.proofs.Lists.{both, each, every}
+use Rattle.book.proofs.Lists.{each, every}
 use Rattle.book.proofs.Queues.{and-both}
 use Rattle.book.proofs.Kept.{fair-free, free-number, New}
 
@@ -39,11 +52,11 @@ any-none p [] e = tt
 any-none p (x ∷ xs) e = go (p x) refl e (any-none p xs)
   where
     go :
-      (b : Bool)
-      → p x ≡ b
-      → b || any p xs ≡ false
-      → (any p xs ≡ false → Each (λ y. p y ≡ false) xs)
-      → (p x ≡ false) × Each (λ y. p y ≡ false) xs
+        (b : Bool)
+        → p x ≡ b
+        → b || any p xs ≡ false
+        → (any p xs ≡ false → Each (λ y. p y ≡ false) xs)
+        → (p x ≡ false) × Each (λ y. p y ≡ false) xs
     go true f g rest = let z : _≡_ {A = ℕ} 0 1 = cc in absurd (omega arith)
     go false f g rest = (f, rest g)
 
@@ -60,17 +73,18 @@ free-is o e =
     let p = and-both (eqb (o .side) 0 && eqb (o .account) 0 && eqb (o .left) 0) (eqb (o .price) 0) (n .0) in
     let l = and-both (eqb (o .side) 0 && eqb (o .account) 0) (eqb (o .left) 0) (p .0) in
     let a = and-both (eqb (o .side) 0) (eqb (o .account) 0) (l .0) in
-    zeros (o .side) (o .account) (o .left) (o .price) (o .number) (eqb-true (o .side) 0 (a .0)) (eqb-true (o .account) 0 (a .1))
-      (eqb-true (o .left) 0 (l .1)) (eqb-true (o .price) 0 (p .1)) (eqb-true (o .number) 0 (n .1))
+    zeros (o .side) (o .account) (o .left) (o .price) (o .number) (eqb-true (o .side) 0 (a .0))
+    (eqb-true (o .account) 0 (a .1))
+    (eqb-true (o .left) 0 (l .1)) (eqb-true (o .price) 0 (p .1)) (eqb-true (o .number) 0 (n .1))
   where
     zeros :
-      (s a l p n : ℕ)
-      → s ≡ 0
-      → a ≡ 0
-      → l ≡ 0
-      → p ≡ 0
-      → n ≡ 0
-      → _≡_ {A = Order} (record { side = s; account = a; left = l; price = p; number = n })
+        (s a l p n : ℕ)
+        → s ≡ 0
+        → a ≡ 0
+        → l ≡ 0
+        → p ≡ 0
+        → n ≡ 0
+        → _≡_ {A = Order} (record { side = s; account = a; left = l; price = p; number = n })
         (record { side = 0; account = 0; left = 0; price = 0; number = 0 })
     zeros s a l p n hs ha hl hp hn = cc
 
@@ -123,8 +137,7 @@ module _ (d : Day) where
           let z : o ≡ free = free-is o f in
           (rw z fair-free, omega (arith, ap (λ (x : Order). x .number) z, free-number))
       go (inr f) =
-          let s : Sound d o = order-is d o f in
-          (
+          let s : Sound d o = order-is d o f in (
             record {
               side = s .side;
               price = s .price;
@@ -146,17 +159,16 @@ apart-is : (os : List Order) → ownNumbers os ≡ true → Apart os
 unfolding ownNumbers
 apart-is [] e = tt
 apart-is (o ∷ os) e =
-    let h = and-both (not (isLive o && any (λ p. eqb (p .number) (o .number)) os)) (ownNumbers os) e in
-    (
+    let h = and-both (not (isLive o && any (λ p. eqb (p .number) (o .number)) os)) (ownNumbers os) e in (
       go (eqb (o .number) 0) refl (not-true (isLive o && any (λ p. eqb (p .number) (o .number)) os) (h .0)),
       apart-is os (h .1),
     )
   where
     go :
-      (b : Bool)
-      → eqb (o .number) 0 ≡ b
-      → isLive o && any (λ p. eqb (p .number) (o .number)) os ≡ false
-      → Each (λ p. p .number ≡ o .number → o .number ≡ 0) os
+        (b : Bool)
+        → eqb (o .number) 0 ≡ b
+        → isLive o && any (λ p. eqb (p .number) (o .number)) os ≡ false
+        → Each (λ p. p .number ≡ o .number → o .number ≡ 0) os
     go true e f = every (λ (p : Order). p .number ≡ o .number → o .number ≡ 0) os (λ p g. eqb-true (o .number) 0 e)
     go false e f =
         each (λ p. eqb (p .number) (o .number) ≡ false) (λ p. p .number ≡ o .number → o .number ≡ 0) os
@@ -184,7 +196,7 @@ module _ (d : Day) (book : List Order) (e : unsound d book ≡ false) where
 
   -- the parts of soundness that speak of the places
   places-hold :
-    ((soundFigures d ≡ true) × (all (λ o. isFree o || isOrder d o) book ≡ true)) × (ownNumbers book ≡ true)
+      ((soundFigures d ≡ true) × (all (λ o. isFree o || isOrder d o) book ≡ true)) × (ownNumbers book ≡ true)
   unfolding sound
   places-hold =
       let f = soundFigures d in
@@ -223,7 +235,8 @@ module _ (d : Day) (book : List Order) (e : unsound d book ≡ false) where
       record {
         real = λ z. omega arith;
         fresh =
-            each (λ o. Fair o × (o .number ≤ d .issued)) (λ o. o .number ≡ suc (d .issued) → ⊥) book (λ o h z. omega (arith, h .1)) places;
+            each (λ o. Fair o × (o .number ≤ d .issued)) (λ o. o .number ≡ suc (d .issued) → ⊥) book
+            (λ o h z. omega (arith, h .1)) places;
       }
 
   pub sound-issued : d .issued ≤ 999_999

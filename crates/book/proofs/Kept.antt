@@ -57,7 +57,8 @@ pub record New (n : ℕ) (book : List Order) : Type 0 where
 
 pub new-fresh : (n : ℕ) (book : List Order) → New n book → Fresh n book
 new-fresh n book w =
-    each (λ (o : Order). o .number ≡ n → ⊥) (λ (o : Order). o .number ≡ n → n ≡ 0) book (λ o f e. absurd (f e)) (w .fresh)
+    each (λ (o : Order). o .number ≡ n → ⊥) (λ (o : Order). o .number ≡ n → n ≡ 0) book (λ o f e. absurd (f e))
+    (w .fresh)
 
 set-apart : (os : List Order) (i : ℕ) (o : Order) → Fresh (o .number) os → Apart os → Apart (set os i o)
 set-apart [] i o f a = tt

@@ -159,6 +159,17 @@ module _ (d : Day) (a : Asked) (book : List Order) where
   abbrev pub taker : Taker
   taker = record { side = a .side; number = nextNumber d; limit = entryPrice a book }
 
+  -- what is left of it as it rests
+  abbrev pub remainder : ℕ → Order
+  remainder number =
+      record {
+        side = a .side;
+        account = a .account;
+        left = a .quantity - filled (entryTrades d a book);
+        price = restPrice a (entryTrades d a book) book;
+        number = number;
+      }
+
   -- there are none, or they are those of a sweep
   pub entry-cases :
       (P : List Trade → Type 0)
