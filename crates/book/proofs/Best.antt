@@ -27,7 +27,7 @@ use Rattle.book.proofs.Queues.{
 
 -- ---- who is in a queue: the orders of the book that stand on its side, and no others
 
-each-kept :
+pub each-kept :
     {A : Type 0} (P : A → Type 0) (t : A → Bool) (xs : List A)
     → Each P (keep t xs)
     → Each (λ x. t x ≡ true → P x) xs

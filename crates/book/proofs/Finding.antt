@@ -19,7 +19,7 @@ use Rattle.book.specs.Rows.{orderOf, rowOf, bookOf, rowsOf}
 use Rattle.book.specs.Standing.{Each, Apart}
 use Rattle.book.specs.Places.{firstWith, lowestFree, placeOf}
 use Rattle.book.proofs.Lists.{each, keep-true, keep-false, keep-none}
-use Rattle.book.proofs.Memory.{book-set, rows-set}
+use Rattle.book.proofs.Memory.{book-at, book-set, rows-set}
 use Rattle.book.proofs.Queues.{live-number, and-both, ltb-same}
 
 -- ---- a walk from the first place on
@@ -184,7 +184,7 @@ module _ (account number : ℕ) where
       go p n false f = refl
 
   -- the book without it
-  abbrev taken : Order → Order
+  abbrev pub taken : Order → Order
   taken o = if own o then free else o
 
   untouched : (os : List Order) → Each (λ p. own p ≡ false) os → map taken os ≡ os
@@ -225,3 +225,27 @@ module _ (account number : ℕ) where
           (keep-true own o os e ∙ ap (λ (l : List Order). o ∷ l) (keep-none own os (others o os e (a .0))))
           ∙ unfold total in omega arith
       go false e h = ap (total (λ x. x .left)) (keep-false own o os e) ∙ h
+
+  -- as rows: the place is set free, and what was left there is withdrawn
+  pub cancel-rows :
+      (rows rows′ : List (List ℕ)) (place : ℕ)
+      → Apart (bookOf rows)
+      → place ≡ placeOf account number (bookOf rows)
+      → rows′ ≡ set rows place (rowOf free)
+      → bookOf rows′ ≡ map taken (bookOf rows)
+  cancel-rows rows rows′ place a p e =
+      ap bookOf e
+      ∙ book-set rows place free
+      ∙ ap (λ (n : ℕ). set (bookOf rows) n free) p
+      ∙ sym (cancel-set (bookOf rows) a)
+
+  pub cancel-rows-left :
+      (rows : List (List ℕ)) (place : ℕ) (o : Order)
+      → Apart (bookOf rows)
+      → place ≡ placeOf account number (bookOf rows)
+      → o ≡ orderOf (getD rows place [])
+      → o .left ≡ total (λ x. x .left) (keep (isOwn account number) (bookOf rows))
+  cancel-rows-left rows place o a p e =
+      ap (λ (x : Order). x .left) (e ∙ book-at rows place)
+      ∙ ap (λ (n : ℕ). getD (bookOf rows) n free .left) p
+      ∙ sym (cancel-left (bookOf rows) a)

@@ -50,6 +50,16 @@ set-each P (p ∷ os) (suc i) o h e = (e .0, set-each P os i o h (e .1))
 abbrev pub Fresh : ℕ → List Order → Type 0
 Fresh n os = Each (λ (p : Order). p .number ≡ n → n ≡ 0) os
 
+-- the number is a number, and no order of the book has it
+pub record New (n : ℕ) (book : List Order) : Type 0 where
+  pub real : n ≡ 0 → ⊥
+  pub fresh : Each (λ (o : Order). o .number ≡ n → ⊥) book
+
+pub new-fresh : (n : ℕ) (book : List Order) → New n book → Fresh n book
+new-fresh n book w =
+    each (λ (o : Order). o .number ≡ n → ⊥) (λ (o : Order). o .number ≡ n → n ≡ 0) book (λ o f e. absurd (f e))
+    (w .fresh)
+
 set-apart : (os : List Order) (i : ℕ) (o : Order) → Fresh (o .number) os → Apart os → Apart (set os i o)
 set-apart [] i o f a = tt
 set-apart (p ∷ os) zero o f a = (f .1, a .1)

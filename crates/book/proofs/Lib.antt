@@ -12,3 +12,4 @@ pub mod Kept
 pub mod Best
 pub mod Crossing
 pub mod Shares
+pub mod FromSound

@@ -2,23 +2,26 @@
 use Prim.Native.Nat.{ℕ, zero, suc, _+_, _-_, _≤_, _<_}
 use mathlib.Core.Path.{_≡_, refl, sym, ap, _∙_}
 use mathlib.Core.Bool.{Bool, true, false, cond, not, _||_}
-use mathlib.Core.List.{List, [], _∷_}
+use mathlib.Core.List.{List, [], _∷_, map}
+use mathlib.Core.Logic.{_⊎_, inl, inr}
 use native.Mathlib.Omega.{arith}
 use native.Mathlib.Nat.{not-suc-le-zero, le-of-suc-le-suc}
-use lib.ListN.{length, getD, set}
+use lib.ListN.{length, length-map, getD, set}
 use lib.Dec.{ltb, eqb}
 use borrow.Author.Tests.{eq-eqb, ne-eqb, eqb-true, eqb-false, ltb-true, ltb-false}
 use Rattle.model.specs.declared.Order.{Order}
 use Rattle.model.specs.declared.Trade.{Trade}
-use Rattle.model.specs.Lists.{total}
-use Rattle.model.specs.Book.{free, isLive}
+use Rattle.model.specs.Lists.{keep, total}
+use Rattle.model.specs.Book.{free, isLive, standsOn, queue}
 use Rattle.model.specs.Matching.{isIn, filledOf, lessBy, settle, rest}
 use Rattle.book.specs.Standing.{Each, Fair, Apart}
 use Rattle.book.specs.Places.{firstWith, lowestFree}
-use Rattle.book.proofs.Lists.{both, each, every, total-same, total-add, total-zero, total-set}
+use Rattle.book.proofs.Lists.{both, each, every, each-keep, total-same, total-add, total-zero, total-set}
+use Rattle.book.proofs.Queues.{on-live, total-queue}
+use Rattle.book.proofs.Best.{each-kept}
 use Rattle.book.proofs.Finding.{rest-set}
 use Rattle.book.proofs.Settlements.{part, filled-none, filled-cons}
-use Rattle.book.proofs.Kept.{free-left}
+use Rattle.book.proofs.Kept.{Less, after, after-less, free-left, free-number}
 
 -- ---- by number
 
@@ -61,6 +64,29 @@ each-only (o ∷ os) a = (
       (a .0)
       (each-only os (a .1)),
 )
+
+apart-keep : (p : Order → Bool) (os : List Order) → Apart os → Apart (keep p os)
+unfolding keep
+apart-keep p [] a = tt
+apart-keep p (o ∷ os) a = go (p o) (apart-keep p os (a .1))
+  where
+    go : (b : Bool) → Apart (keep p os) → Apart (cond b (o ∷ keep p os) (keep p os))
+    go true h = (each-keep (λ x. x .number ≡ o .number → o .number ≡ 0) p os (a .0), h)
+    go false h = h
+
+-- an order of a side is in its queue once
+pub queue-once :
+    (side : ℕ) (book : List Order)
+    → Apart book
+    → Each (λ o. standsOn side o ≡ true → (g : Order → ℕ) → ofNumber (o .number) g (queue side book) ≡ g o) book
+unfolding ofNumber
+queue-once side book a =
+    each (λ o. standsOn side o ≡ true → Only (keep (standsOn side) book) o)
+    (λ o. standsOn side o ≡ true → (g : Order → ℕ) → ofNumber (o .number) g (queue side book) ≡ g o) book
+    (λ o f t g.
+    total-queue (λ x. cond (eqb (x .number) (o .number)) (g x) 0) side book ∙ f t (on-live side o t) g)
+    (each-kept (Only (keep (standsOn side) book)) (standsOn side) book
+    (each-only (keep (standsOn side) book) (apart-keep (standsOn side) book a)))
 
 -- ---- what trades fill, over the book
 
@@ -175,6 +201,37 @@ free-there (o ∷ os) f h = go (eqb (o .number) 0) refl h (free-there os (f .1))
         → getD (o ∷ os) (cond (not (not b)) 0 (suc (lowestFree os))) free ≡ free
     go true e h rest = f .0 .none (eqb-true (o .number) 0 e)
     go false e h rest = rest (le-of-suc-le-suc h)
+
+-- and trades free places, and take none
+lowest-after : (ts : List Trade) (os : List Order) → lowestFree (settle ts os) ≤ lowestFree os
+unfolding settle lowestFree firstWith isLive
+lowest-after ts [] = omega arith
+lowest-after ts (o ∷ os) =
+    go (eqb (o .number) 0) refl (eqb (after ts o .number) 0) refl (lowest-after ts os)
+  where
+    gone : o .number ≡ 0 → (after ts o ≡ free) ⊎ Less o (after ts o) → after ts o .number ≡ 0
+    gone e (inl f) = ap (λ (x : Order). x .number) f ∙ free-number
+    gone e (inr l) = sym (l .number) ∙ e
+
+    go :
+        (b : Bool)
+        → eqb (o .number) 0 ≡ b
+        → (c : Bool)
+        → eqb (after ts o .number) 0 ≡ c
+        → lowestFree (map (after ts) os) ≤ lowestFree os
+        → cond (not (not c)) 0 (suc (lowestFree (map (after ts) os))) ≤ cond (not (not b)) 0 (suc (lowestFree os))
+    go b e true f h = omega arith
+    go true e false f h =
+        absurd (eqb-false (after ts o .number) 0 f (gone (eqb-true (o .number) 0 e) (after-less ts o)))
+    go false e false f h = omega arith
+
+pub room-after :
+    (ts : List Trade) (book : List Order)
+    → lowestFree book < length book
+    → lowestFree (settle ts book) < length (settle ts book)
+room-after ts book h =
+    let long : length (settle ts book) ≡ length book = unfold settle in length-map book (after ts) in
+    omega (arith, lowest-after ts book)
 
 pub rest-total :
     (o : Order) (book : List Order)

@@ -1,6 +1,6 @@
 // Places of the book found by what stands there.
 ghost use mathlib.Core.Path.{_≡_};
-ghost use Rattle.model.specs.Book.{isLive};
+ghost use Rattle.model.specs.Book.{free, isLive};
 ghost use Rattle.model.specs.Sound.{isFree};
 ghost use Rattle.model.specs.Calls.{isOwn};
 ghost use Rattle.book.specs.Rows.{bookOf};
@@ -8,13 +8,25 @@ ghost use Rattle.book.specs.Places.{lowestFree, placeOf};
 use crate::order_at;
 use model::Order;
 
+// A free place is all zeros.
+pub fn free_place() -> Order
+    ensures { λ r. ⌜ r ≡ free ⌝ }
+{
+    Order {
+        side: 0,
+        account: 0,
+        left: 0,
+        price: 0,
+        number: 0,
+    }
+}
+
 pub fn is_live(o: Order) -> bool
     ensures { λ r. ⌜ r ≡ isLive o ⌝ }
 {
     o.number != 0
 }
 
-// All zeros.
 pub fn is_free(o: Order) -> bool
     ensures { λ r. ⌜ r ≡ isFree o ⌝ }
 {

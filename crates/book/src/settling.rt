@@ -3,12 +3,12 @@ ghost use mathlib.Core.Path.{_≡_};
 ghost use Prim.Native.Nat.{_-_, _≤_};
 ghost use mathlib.Core.List.{[], _∷_};
 ghost use lib.ListN.{length, take};
-ghost use Rattle.model.specs.Book.{free};
 ghost use Rattle.model.specs.Matching.{isIn, filledOf, lessBy, settle};
 ghost use Rattle.model.specs.Calls.{cleared};
 ghost use Rattle.book.specs.Rows.{bookOf, rowsOf, tradesOf};
 ghost use Rattle.book.specs.Writing.{put};
 use crate::order_at;
+use crate::places::free_place;
 use crate::put_order;
 use crate::put_trade;
 use crate::trade_at;
@@ -63,18 +63,6 @@ fn left_after(trades: &[[u64; 4]], n: usize, number: u64, left: u64) -> u64
         i += 1;
     }
     rest
-}
-
-pub fn free_place() -> Order
-    ensures { λ r. ⌜ r ≡ free ⌝ }
-{
-    Order {
-        side: 0,
-        account: 0,
-        left: 0,
-        price: 0,
-        number: 0,
-    }
 }
 
 // An order after the first n trades: its place is free once nothing is left.

@@ -40,7 +40,7 @@ use Rattle.matching.proofs.Tallies.{worsens-levels}
 use Rattle.matching.proofs.Trades.{Deal, each-trade, filled-nil}
 use Rattle.matching.proofs.Remainders.{Gone, left-over, Front, cut-front}
 use Rattle.matching.proofs.Entries.{as-sweep, no-price}
-use Rattle.matching.proofs.EntryLaws.{meets-through, last-has, entry-allowed, only-five, taker}
+use Rattle.matching.proofs.EntryLaws.{meets-through, last-has, entry-allowed, only-five, taker, remainder}
 
 -- ---- prices that do not meet
 
@@ -165,7 +165,8 @@ module _ (d : Day) (a : Asked) (book : List Order) (standing : Standing book) (n
           (rw all
           (each-trade (taker d a book) (λ r. rank (other (a .side)) (r .price) < rank (other (a .side)) (o .price)) (a .quantity) cut
           (each (λ x. rank (other (a .side)) (x .price) < rank (other (a .side)) (o .price))
-          (λ x. (r : Trade) → Deal (taker d a book) x r → rank (other (a .side)) (r .price) < rank (other (a .side)) (o .price))
+          (λ x. (r : Trade) → Deal (taker d a book) x r → rank (other (a .side)) (r .price)
+          < rank (other (a .side)) (o .price))
           cut
           (λ x l r f. rw (f .price) l)
           h)))
@@ -239,11 +240,6 @@ module _ (d : Day) (a : Asked) (book : List Order) (standing : Standing book) (n
           let low : a .kind < 3 = omega arith in
           limit-unmet (lt-leb 3 (a .kind) low) n left
 
-  -- the remainder as it rests
-  abbrev remainder : ℕ → Order
-  remainder number =
-      record { side = a .side; account = a .account; left = a .quantity - filled ts; price = restPrice a ts book; number = number }
-
   -- a book in which buys did not reach sells is still one
   pub entered-uncrossed :
       (number : ℕ)
@@ -266,7 +262,7 @@ module _ (d : Day) (a : Asked) (book : List Order) (standing : Standing book) (n
           → crosses
           (cond (b || e) (settle ts book)
           (rest
-          (remainder number)
+          (remainder d a book number)
           (settle ts book)))
           ≡ false
       go true x e y = not-crossed (settle ts book) (uncrossed-settle ts book u)
@@ -275,10 +271,10 @@ module _ (d : Day) (a : Asked) (book : List Order) (standing : Standing book) (n
           let some : a .quantity - filled ts ≡ 0 → ⊥ = eqb-false (a .quantity - filled ts) 0 x in
           not-crossed
           (rest
-          (remainder number)
+          (remainder d a book number)
           (settle ts book))
           (uncrossed-rest
-          (remainder number)
+          (remainder d a book number)
           (settle ts book)
           (rest-unmet side kind u (omega arith) (eqb-false (restPrice a ts book) 0 y))
           (uncrossed-settle ts book u))

@@ -1,26 +1,31 @@
 -- An order keeps the book standing, in every phase: what rests of it has a side, a price, shares and its own number.
-use Prim.Native.Nat.{ℕ, _-_, _≤_, min, max}
+use Prim.Native.Nat.{ℕ, _+_, _-_, _<_, _≤_, min, max}
 use mathlib.Core.Path.{_≡_, refl}
 use mathlib.Core.Bool.{Bool, true, false, cond, _||_}
 use mathlib.Core.List.{List}
 use native.Mathlib.Omega.{arith}
+use lib.ListN.{length}
 use lib.Dec.{eqb}
-use borrow.Author.Tests.{eqb-false}
+use borrow.Author.Tests.{eqb-true, eqb-false}
 use Rattle.model.specs.declared.Order.{Order}
 use Rattle.model.specs.declared.Asked.{Asked}
 use Rattle.model.specs.declared.Trade.{Trade}
 use Rattle.model.specs.declared.Day.{Day}
+use Rattle.model.specs.Choice.{if_then_else_}
+use Rattle.model.specs.Lists.{total}
 use Rattle.model.specs.Book.{standsOn, best, other}
 use Rattle.model.specs.Matching.{within, filled, lastPrice, settle, rest}
+use Rattle.model.specs.Figures.{nextNumber}
 use Rattle.model.specs.Entry.{bestWithin, entryPrice, entryTrades, restPrice}
 use Rattle.model.specs.Calls.{placed}
 use Rattle.book.specs.Standing.{Each, Fair, Standing}
+use Rattle.book.specs.Places.{lowestFree}
 use Rattle.book.proofs.Lists.{each}
 use Rattle.book.proofs.Best.{best-price}
-use Rattle.book.proofs.Kept.{standing-settle, standing-rest, fresh-settle}
+use Rattle.book.proofs.Kept.{New, new-fresh, standing-settle, standing-rest, fresh-settle}
+use Rattle.book.proofs.Shares.{room-after, rest-total}
 use Rattle.matching.proofs.Trades.{Deal}
-use Rattle.matching.proofs.Fills.{New}
-use Rattle.matching.proofs.EntryLaws.{last-has, taker, each-entry}
+use Rattle.matching.proofs.EntryLaws.{last-has, taker, each-entry, entry-shares, remainder}
 
 module _ (d : Day) (a : Asked) (book : List Order) (standing : Standing book) (price : a .price ≤ 999_999) where
   abbrev ts : List Trade
@@ -76,12 +81,7 @@ module _ (d : Day) (a : Asked) (book : List Order) (standing : Standing book) (p
   module _
       (number : ℕ) (side : a .side ≤ 1) (quantity : a .quantity ≤ 1_000_000)
       (small : number ≤ 999_999) (new : New number book) where
-    -- the remainder as it rests
-    abbrev remainder : Order
-    remainder =
-        record { side = a .side; account = a .account; left = a .quantity - filled ts; price = restPrice a ts book; number = number }
-
-    fair-rest : (a .quantity - filled ts ≡ 0 → ⊥) → (restPrice a ts book ≡ 0 → ⊥) → Fair remainder
+    fair-rest : (a .quantity - filled ts ≡ 0 → ⊥) → (restPrice a ts book ≡ 0 → ⊥) → Fair (remainder d a book number)
     fair-rest q p =
         record {
           side = side;
@@ -102,12 +102,39 @@ module _ (d : Day) (a : Asked) (book : List Order) (standing : Standing book) (p
             → eqb (a .quantity - filled ts) 0 ≡ b
             → (e : Bool)
             → eqb (restPrice a ts book) 0 ≡ e
-            → Standing (cond (b || e) (settle ts book) (rest remainder (settle ts book)))
+            → Standing (cond (b || e) (settle ts book) (rest (remainder d a book number) (settle ts book)))
         go true x e y = standing-settle ts book standing
         go false x true y = standing-settle ts book standing
         go false x false y =
-            standing-rest remainder (settle ts book)
+            standing-rest (remainder d a book number) (settle ts book)
             (fair-rest (eqb-false (a .quantity - filled ts) 0 x) (eqb-false (restPrice a ts book) 0 y))
-            (fresh-settle ts number book
-            (each (λ (o : Order). o .number ≡ number → ⊥) (λ (o : Order). o .number ≡ number → number ≡ 0) book (λ o f e. absurd (f e)) (new .fresh)))
+            (fresh-settle ts number book (new-fresh number book new))
             (standing-settle ts book standing)
+
+  -- what rests afterwards and what was traded are what rested before and what rests of the order
+  pub entered-shares :
+      New (nextNumber d) book
+      → lowestFree book < length book
+      → total (λ o. o .left) (placed a (nextNumber d) (a .quantity - filled ts) (restPrice a ts book) (settle ts book))
+      + filled ts
+      ≡ total (λ o. o .left) book + (if eqb (restPrice a ts book) 0 then 0 else (a .quantity - filled ts))
+  unfolding placed
+  entered-shares new room =
+      go (entry-shares d a book standing new) (eqb (a .quantity - filled ts) 0) refl (eqb (restPrice a ts book) 0)
+    where
+      go :
+          total (λ o. o .left) (settle ts book) + filled ts ≡ total (λ o. o .left) book
+          → (b : Bool)
+          → eqb (a .quantity - filled ts) 0 ≡ b
+          → (e : Bool)
+          → total (λ o. o .left)
+          (cond (b || e) (settle ts book) (rest (remainder d a book (nextNumber d)) (settle ts book))) + filled ts
+          ≡ total (λ o. o .left) book + cond e 0 (a .quantity - filled ts)
+      go s true x true = omega arith
+      go s true x false = omega (arith, eqb-true (a .quantity - filled ts) 0 x)
+      go s false x true = omega arith
+      go s false x false =
+          omega (
+            arith,
+            rest-total (remainder d a book (nextNumber d)) (settle ts book) (standing-settle ts book standing .fair) (room-after ts book room),
+          )

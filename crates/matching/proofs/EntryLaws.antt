@@ -23,13 +23,14 @@ use Rattle.book.specs.Standing.{Each, Standing}
 use Rattle.book.proofs.Lists.{each, every, each-keep, length-keep, total-zero}
 use Rattle.book.proofs.Queues.{queue-length}
 use Rattle.book.proofs.Best.{on-each}
+use Rattle.book.proofs.Kept.{New}
 use Rattle.book.proofs.Settlements.{filled-none}
 use Rattle.book.proofs.Shares.{settle-total}
 use Rattle.matching.specs.Sweeping.{atBest}
 use Rattle.matching.specs.Entering.{mostPrices}
 use Rattle.matching.proofs.Cuts.{five-best}
 use Rattle.matching.proofs.Trades.{Some, some-each, Deal, each-trade, filled-nil, filled-within, count-within, levels-within}
-use Rattle.matching.proofs.Fills.{New, fills-within, shares-kept}
+use Rattle.matching.proofs.Fills.{fills-within, shares-kept}
 use Rattle.matching.proofs.Entries.{opposite-best}
 
 -- ---- limits
@@ -157,6 +158,17 @@ module _ (a : Asked) (book : List Order) where
 module _ (d : Day) (a : Asked) (book : List Order) where
   abbrev pub taker : Taker
   taker = record { side = a .side; number = nextNumber d; limit = entryPrice a book }
+
+  -- what is left of it as it rests
+  abbrev pub remainder : ℕ → Order
+  remainder number =
+      record {
+        side = a .side;
+        account = a .account;
+        left = a .quantity - filled (entryTrades d a book);
+        price = restPrice a (entryTrades d a book) book;
+        number = number;
+      }
 
   -- there are none, or they are those of a sweep
   pub entry-cases :

@@ -16,6 +16,7 @@ use Rattle.model.specs.Matching.{tradeWith, sweep, isIn, filled, filledOf, sett
 use Rattle.book.specs.Standing.{Each, Standing}
 use Rattle.book.proofs.Lists.{both, each, each-keep, kept, total-same, total-keep}
 use Rattle.book.proofs.Queues.{each-queue, on-live, total-queue}
+use Rattle.book.proofs.Kept.{New}
 use Rattle.book.proofs.Settlements.{part, filled-none, filled-cons}
 use Rattle.book.proofs.Shares.{ofNumber, of-none, of-cons, Only, each-only, stake, filled-stakes, settle-total}
 use Rattle.matching.specs.Sweeping.{wants, atBest}
@@ -71,11 +72,6 @@ module _ (t : Taker) where
       go false i = omega (arith, filled-none n)
 
 -- ---- in a book that stands, for a taker whose number no order of it has
-
--- no order has the number, and it is a number
-pub record New (n : ℕ) (book : List Order) : Type 0 where
-  pub real : n ≡ 0 → ⊥
-  pub fresh : Each (λ (o : Order). o .number ≡ n → ⊥) book
 
 module _ (t : Taker) (q n side : ℕ) (book : List Order) (standing : Standing book) (new : New (t .number) book) where
   -- the orders that it may meet

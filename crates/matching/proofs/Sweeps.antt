@@ -313,7 +313,8 @@ fine-price rows t quantity room s s′ left after l e f =
     rw e (record { filled = f .filled; count = f .count; holds = f .holds })
 
 module _
-    (rows : List (List ℕ)) (t : Taker) (quantity room : ℕ) (s : Swept) (left after : ℕ) (l : List (List ℕ)) (o : Order) (k : ℕ)
+    (rows : List (List ℕ)) (t : Taker) (quantity room : ℕ) (s : Swept) (left after : ℕ) (l : List (List ℕ))
+    (o : Order) (k : ℕ)
     (m : Met t left after (against t rows) o k) (f : Fine rows t quantity room s left after l) where
   shorter : length (beyond after (against t rows)) ≡ suc (length (beyond k (against t rows)))
   shorter = ap length (m .rest)
