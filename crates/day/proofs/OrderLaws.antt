@@ -87,19 +87,40 @@ asked-price d a e z =
 module _ (d : Day) (a : Asked) (book : List Order) (room : ℕ) where
   numbered : Numbered (orderRules d a book room)
   unfolding orderRules _when_
-  numbered =
-      (eqb-false 15 0 refl,
-      (eqb-false 2 0 refl,
-      (eqb-false 3 0 refl,
-      (eqb-false 4 0 refl,
-      (eqb-false 5 0 refl,
-      (eqb-false 6 0 refl,
-      (eqb-false 7 0 refl,
-      (eqb-false 8 0 refl,
-      (eqb-false 9 0 refl,
-      (eqb-false 10 0 refl,
-      (eqb-false 11 0 refl,
-      (eqb-false 13 0 refl, tt))))))))))))
+  numbered = (
+    eqb-false 15 0 refl,
+    (
+      eqb-false 2 0 refl,
+      (
+        eqb-false 3 0 refl,
+        (
+          eqb-false 4 0 refl,
+          (
+            eqb-false 5 0 refl,
+            (
+              eqb-false 6 0 refl,
+              (
+                eqb-false 7 0 refl,
+                (
+                  eqb-false 8 0 refl,
+                  (
+                    eqb-false 9 0 refl,
+                    (
+                      eqb-false 10 0 refl,
+                      (
+                        eqb-false 11 0 refl,
+                        (eqb-false 13 0 refl, tt),
+                      ),
+                    ),
+                  ),
+                ),
+              ),
+            ),
+          ),
+        ),
+      ),
+    ),
+  )
 
   pub taken : rules d a book room ≡ 0 → Taken d a book room
   unfolding orderRules _when_
@@ -169,12 +190,12 @@ module _ (d : Day) (a : Asked) (rows lent : List (List ℕ)) where
     entered-is rows₂ {p} {rows₁} {rem} {i} {day} ep er eb em ei ed =
         let n = add-one (d .issued) in
         let p' : p ≡ restPrice a ts book =
-            ep
-            ∙ ap (λ (f : ℕ). restAt a (best (a .side) book) (best (other (a .side)) book) f (s .last)) sold
-            ∙ ap (λ (l : ℕ). restAt a (best (a .side) book) (best (other (a .side)) book) (filled ts) l) last
-            ∙ sym (rest-price a book ts) in
+        ep
+        ∙ ap (λ (f : ℕ). restAt a (best (a .side) book) (best (other (a .side)) book) f (s .last)) sold
+        ∙ ap (λ (l : ℕ). restAt a (best (a .side) book) (best (other (a .side)) book) (filled ts) l) last
+        ∙ sym (rest-price a book ts) in
         let b' : bookOf rows₁ ≡ settle ts book =
-            ap bookOf er ∙ book-rows _ ∙ ap (λ (l : List Trade). settle l book) back in
+        ap bookOf er ∙ book-rows _ ∙ ap (λ (l : List Trade). settle l book) back in
         let t' : tradesOf trades ≡ written ts (tradesOf lent) = ap tradesOf w ∙ front-written (length lent) ts lent fits in
         let d' : day ≡ tally ts (issue d) = ed ∙ ap (λ (l : List Trade). tally l i) back ∙ ap (tally ts) ei in
         cc (made, sold, at-prices)

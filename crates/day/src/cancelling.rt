@@ -1,8 +1,8 @@
 // A cancel: it takes out the live order with that number and account, and nothing else.
 use book::order_at;
+use book::places::free_place;
 use book::places::place_of;
 use book::put_order;
-use book::settling::free_place;
 use clock::takes_cancels;
 use model::CancelReply;
 use model::Day;
