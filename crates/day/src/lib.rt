@@ -4,6 +4,7 @@ pub mod auctions;
 pub mod book_checks;
 pub mod cancelling;
 pub mod checks;
+pub mod entering;
 pub mod figures;
 pub mod opening;
 
