@@ -2,6 +2,7 @@ pub mod AskedRules
 pub mod AuctionLaws
 pub mod BookRules
 pub mod Cancels
+pub mod Determined
 pub mod Openings
 pub mod OrderLaws
 pub mod Readiness

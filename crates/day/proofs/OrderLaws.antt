@@ -28,11 +28,11 @@ use Rattle.model.specs.Calls.{Outcome, written, orderRules, ended, placed, ente
 use Rattle.model.proofs.Bools.{and-right, true-or-false}
 use Rattle.model.proofs.Rules.{hit, skip, Numbered, NoneHolds, none-holds, given-by, passed-by}
 use Rattle.book.specs.Rows.{bookOf, rowsOf, tradeOf, tradesOf, tradeRows}
-use Rattle.book.specs.Standing.{Each}
+use Rattle.book.specs.Standing.{Price, Each}
 use Rattle.book.specs.Writing.{front}
 use Rattle.book.proofs.Memory.{book-rows}
 use Rattle.book.proofs.Written.{front-trades, front-written}
-use Rattle.soundness.specs.SoundDay.{Price, SoundDay}
+use Rattle.soundness.specs.SoundDay.{SoundDay}
 use Rattle.soundness.proofs.Clauses.{says-price}
 use Rattle.matching.specs.declared.Swept.{Swept}
 use Rattle.matching.specs.Sweeping.{comesTo}
