@@ -1,0 +1,3 @@
+-- The proofs of the three demands.
+pub mod FirstRules
+pub mod Refusals

@@ -1,0 +1,2 @@
+-- The three demands, stated over the model's definitions. Each statement can be read without its proof.
+pub mod Refusing
