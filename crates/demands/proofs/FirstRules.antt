@@ -41,7 +41,7 @@ unfolding firstOf
 split-gives n [] rule behind p h e = rw h e
 split-gives n (r ∷ rs) rule behind p h e = rw (p .0) (split-gives n rs rule behind (p .1) h e)
 
-first-gives : (n : ℕ) (rs : List Rule) → FirstIs n rs → firstOf rs ≡ n
+pub first-gives : (n : ℕ) (rs : List Rule) → FirstIs n rs → firstOf rs ≡ n
 first-gives n rs f = ap firstOf (f .order) ∙ split-gives n (f .before) (f .rule) (f .behind) (f .passed) (f .holds) (f .number)
 
 further : {n : ℕ} (r : Rule) {rs : List Rule} → r .holds ≡ false → FirstIs n rs → FirstIs n (r ∷ rs)

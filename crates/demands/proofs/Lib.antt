@@ -1,3 +1,4 @@
 -- The proofs of the three demands.
 pub mod FirstRules
 pub mod Refusals
+pub mod Pricings

@@ -1,2 +1,3 @@
 -- The three demands, stated over the model's definitions. Each statement can be read without its proof.
 pub mod Refusing
+pub mod Pricing
