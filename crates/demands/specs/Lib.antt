@@ -1,3 +1,4 @@
 -- The three demands, stated over the model's definitions. Each statement can be read without its proof.
 pub mod Refusing
 pub mod Pricing
+pub mod Keeping
