@@ -16,7 +16,7 @@ unfolding firstOf
 none-gives [] h = refl
 none-gives (r ∷ rs) h = rw (h .0) (none-gives rs (h .1))
 
-gives-none : (rs : List Rule) → Numbers rs → firstOf rs ≡ 0 → NoneOf rs
+pub gives-none : (rs : List Rule) → Numbers rs → firstOf rs ≡ 0 → NoneOf rs
 unfolding firstOf
 gives-none [] k e = tt
 gives-none (r ∷ rs) k e = go (r .holds) refl e (gives-none rs (k .1))

@@ -7,3 +7,8 @@ pub mod Fresh
 pub mod Cancelled
 pub mod Tallied
 pub mod Hours
+pub mod Settled
+pub mod EntryPrices
+pub mod Entered
+pub mod Moved
+pub mod Demands

@@ -2,12 +2,12 @@
 use Prim.Native.Nat.{ℕ, _+_, _-_, _<_}
 use mathlib.Core.Path.{_≡_, refl, sym, ap, _∙_}
 use mathlib.Core.Logic.{_⊎_, inl, inr, ⊎-elim}
-use mathlib.Core.Bool.{Bool, true, false}
+use mathlib.Core.Bool.{Bool, true, false, _&&_}
 use mathlib.Core.List.{List, [], _∷_}
 use native.Mathlib.Omega.{arith}
 use lib.ListN.{length, getD}
 use lib.Dec.{ltb}
-use borrow.Author.Tests.{ltb-true, ltb-false}
+use borrow.Author.Tests.{ltb-true, ltb-false, not-false}
 use Rattle.model.specs.declared.Order.{Order}
 use Rattle.model.specs.declared.Day.{Day}
 use Rattle.model.specs.declared.ReportReply as ReportReply
@@ -15,11 +15,11 @@ use Rattle.model.specs.Lists.{any, from, among}
 use Rattle.model.specs.Matching.{settle}
 use Rattle.model.specs.Figures.{reference}
 use Rattle.model.specs.Auction.{qualifying, leftBy}
-use Rattle.model.specs.Sound.{sound, crosses}
+use Rattle.model.specs.Sound.{hasPlaces, sound, crosses}
 use Rattle.model.specs.Refusals.{_when_, firstOf, unsound}
 use Rattle.model.specs.ClockCall.{auctionPrice, auctionTrades, undecided}
 use Rattle.model.specs.AuctionCalls.{due, reportRules, reportCall, listRules, listCall}
-use Rattle.model.proofs.Bools.{not-both, true-or-false}
+use Rattle.model.proofs.Bools.{and-left, and-right, not-both, true-or-false}
 use Rattle.model.proofs.Rules.{hit, skip}
 use Rattle.book.specs.Standing.{Standing}
 use Rattle.book.proofs.Crossing.{uncrossed, not-crossed}
@@ -33,7 +33,7 @@ use Rattle.auction.proofs.Writing.{due-none, due-all, due-from}
 use Rattle.auction.proofs.Rules.{listed-qualifies, qualifies-listed, due-names, qualifying-rises, no-cross-empty, empty-no-cross, one-left, never-undecided}
 use Rattle.pairing.proofs.Auctioned.{buys-filled, sells-filled}
 use Rattle.pairing.proofs.Auctions.{auction-trades-are, auction-filled, auction-priced, auction-cases, auction-uncrosses}
-use Rattle.demands.specs.Pricing.{Sound, Listing, Called, OneLeft, TradesThere, Pricing}
+use Rattle.demands.specs.Pricing.{Sound, Listing, Called, OneLeft, TradesThere}
 use Rattle.demands.proofs.FirstRules.{first-gives}
 use Rattle.demands.proofs.Refusals.{report-refuses}
 
@@ -42,6 +42,12 @@ use Rattle.demands.proofs.Refusals.{report-refuses}
 pub not-unsound : (d : Day) (book : List Order) → Sound d book → unsound d book ≡ false
 unfolding unsound
 not-unsound d book s = rw (s .0, s .1)
+
+pub sound-if : (d : Day) (book : List Order) → unsound d book ≡ false → Sound d book
+unfolding unsound
+sound-if d book u =
+    let h = not-false (hasPlaces book && sound d book) u in
+    (and-left (hasPlaces book) (sound d book) h, and-right (hasPlaces book) (sound d book) h)
 
 pub sound-stands : (d : Day) (book : List Order) → Sound d book → Standing book
 sound-stands d book s = sound-standing d book (not-unsound d book s)
@@ -81,7 +87,7 @@ due-rises book asked =
         (rw y at (due-from book asked {s = ends (qualifying book)} refl (λ z. omega (arith, k .from-1)) (omega (arith, ltb-false asked lo e))))
 
 module _ (book : List Order) (s : Standing book) where
-  listing : Listing book
+  pub listing : Listing book
   listing =
       record {
         listed = λ p. ((λ e. listed-qualifies book e), (λ k. qualifies-listed book k));
@@ -92,7 +98,7 @@ module _ (book : List Order) (s : Standing book) where
         );
       }
 
-  one : (qualifying book ≡ [] → ⊥) → (ref : ℕ) → OneLeft book ref
+  pub one : (qualifying book ≡ [] → ⊥) → (ref : ℕ) → OneLeft book ref
   one n =
       ⊎-elim (λ t. one-left book s t) (λ f. absurd (n (no-cross-empty book s f))) (true-or-false (crosses book))
 
@@ -123,7 +129,7 @@ module _ (book : List Order) (s : Standing book) where
 
 -- ---- the calls
 
-called : (d : Day) (book : List Order) → Sound d book → (asked : ℕ) (lent : List ℕ) → Called d book asked lent
+pub called : (d : Day) (book : List Order) → Sound d book → (asked : ℕ) (lent : List ℕ) → Called d book asked lent
 unfolding listCall listRules firstOf _when_
 called d book s asked lent =
     record {
@@ -150,17 +156,7 @@ report-number d book = go (unsound d book) refl
     go false u =
         inr (skip 15 (18 when (undecided d book) ∷ []) u ∙ skip 18 [] (never-undecided book (sound-standing d book u) d) ∙ nothing)
 
-report-decided : (d : Day) (book : List Order) → reportCall d book ≡ ReportReply.the-variants.Refused 18 → ⊥
+pub report-decided : (d : Day) (book : List Order) → reportCall d book ≡ ReportReply.the-variants.Refused 18 → ⊥
 report-decided d book e =
     let h : firstOf (reportRules d book) ≡ 18 = first-gives 18 (reportRules d book) (report-refuses d book .refuses 18 .0 e) in
     ⊎-elim (λ k. absurd (omega arith)) (λ k. absurd (omega arith)) (report-number d book)
-
-pub pricing : Pricing
-pricing =
-    record {
-      listing = λ d book s. listing book (sound-stands d book s);
-      called = called;
-      one-left = λ d book s. one book (sound-stands d book s);
-      trades-there = λ d book s. trades-there book (sound-stands d book s) d;
-      report-decided = report-decided;
-    }

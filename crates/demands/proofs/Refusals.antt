@@ -72,7 +72,7 @@ module _ (close mark : ℕ) (book : List Order) where
   open-left n = second (λ (o : OpenOutcome). o .reply) (eqb (firstOf (openRules close mark book)) 0) _ _ (OpenReply.the-variants.Refused n) (open-apart n)
 
 module _ (d : Day) (a : Asked) (book : List Order) (lent : List Trade) where
-  order-numbers : Numbers (orderRules d a book (length lent))
+  pub order-numbers : Numbers (orderRules d a book (length lent))
   unfolding orderRules _when_
   order-numbers = (real 15 refl, (real 2 refl, (real 3 refl, (real 4 refl, (real 5 refl, (real 6 refl, (real 7 refl, (real 8 refl, (real 9 refl, (real 10 refl, (real 11 refl, (real 13 refl, tt))))))))))))
 
@@ -99,7 +99,7 @@ module _ (d : Day) (a : Asked) (book : List Order) (lent : List Trade) where
   order-left n = second (λ (o : Outcome OrderAnswer). o .answer .reply) (eqb (firstOf (orderRules d a book (length lent))) 0) _ _ (OrderReply.the-variants.Refused n) (order-apart n)
 
 module _ (d : Day) (account number : ℕ) (book : List Order) where
-  cancel-numbers : Numbers (cancelRules d account number book)
+  pub cancel-numbers : Numbers (cancelRules d account number book)
   unfolding cancelRules _when_
   cancel-numbers = (real 15 refl, (real 4 refl, (real 12 refl, tt)))
 
@@ -121,7 +121,7 @@ module _ (d : Day) (account number : ℕ) (book : List Order) where
   cancel-left n = second (λ (o : CancelOutcome). o .reply) (eqb (firstOf (cancelRules d account number book)) 0) _ _ (CancelReply.the-variants.Refused n) (cancel-apart n)
 
 module _ (d : Day) (t : ℕ) (book : List Order) (lent : List Trade) where
-  clock-numbers : Numbers (clockRules d t book (length lent))
+  pub clock-numbers : Numbers (clockRules d t book (length lent))
   unfolding clockRules _when_
   clock-numbers = (real 15 refl, (real 1 refl, (real 18 refl, (real 13 refl, tt))))
 

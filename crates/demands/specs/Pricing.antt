@@ -8,16 +8,19 @@ use lib.ListN.{length, getD, take, drop}
 use Rattle.model.specs.declared.Order.{Order}
 use Rattle.model.specs.declared.Trade.{Trade}
 use Rattle.model.specs.declared.Day.{Day}
+use Rattle.model.specs.declared.ClockReply as ClockReply
 use Rattle.model.specs.declared.ReportReply as ReportReply
 use Rattle.model.specs.declared.ListReply as ListReply
+use Rattle.model.specs.declared.Boundary.{Boundary}
 use Rattle.model.specs.Lists.{among}
+use Rattle.model.specs.Clock.{passes, boundaries}
 use Rattle.model.specs.Book.{standsOn, queue}
 use Rattle.model.specs.Matching.{filled, filledOf, settle}
 use Rattle.model.specs.Figures.{reference}
 use Rattle.model.specs.Auction.{volume, qualifying, leftBy}
 use Rattle.model.specs.Pairing.{cut}
 use Rattle.model.specs.Sound.{hasPlaces, sound}
-use Rattle.model.specs.ClockCall.{auctionPrice, auctionTrades}
+use Rattle.model.specs.ClockCall.{auctionPrice, auctionTrades, Held, pass, start, clockCall}
 use Rattle.model.specs.AuctionCalls.{due, reportCall, listCall}
 use Rattle.book.specs.Standing.{Each}
 use Rattle.auction.specs.Rule.{Qualifies, Rising}
@@ -67,11 +70,23 @@ pub record TradesThere (d : Day) (book : List Order) (ts : List Trade) : Type 0 
   pub none : qualifying book ≡ [] → ts ≡ []
   pub after : NoneReach (settle ts book)
 
+-- each auction that a move of the clock holds trades there, with the day and the book as they stand then
+abbrev pub EachAuction : ℕ → ℕ → List Boundary → Held → Type 0
+EachAuction old new [] h = Unit {0}
+EachAuction old new (b ∷ bs) h =
+    (passes (b .second) old new ≡ true → TradesThere (h .day) (h .book) (auctionTrades (h .day) (h .book)))
+    × EachAuction old new bs (pass old new b h)
+
 -- the demand, for any sound day
 pub record Pricing : Type 0 where
   pub listing : (d : Day) (book : List Order) → Sound d book → Listing book
   pub called : (d : Day) (book : List Order) → Sound d book → (asked : ℕ) (lent : List ℕ) → Called d book asked lent
   pub one-left : (d : Day) (book : List Order) → Sound d book → (qualifying book ≡ [] → ⊥) → (ref : ℕ) → OneLeft book ref
   pub trades-there : (d : Day) (book : List Order) → Sound d book → TradesThere d book (auctionTrades d book)
-  -- 18 is never given by the report, from any day
+  pub auctions : (d : Day) (book : List Order) → Sound d book → (t : ℕ) → EachAuction (d .time) t boundaries (start d book)
+  -- 18 is never given, from any day
   pub report-decided : (d : Day) (book : List Order) → reportCall d book ≡ ReportReply.the-variants.Refused 18 → ⊥
+  pub clock-decided :
+      (d : Day) (t : ℕ) (book : List Order) (lent : List Trade)
+      → clockCall d t book lent .answer .reply ≡ ClockReply.the-variants.Refused 18
+      → ⊥
