@@ -2,19 +2,17 @@
 use Prim.Native.Nat.{ℕ, _≤_, _<_}
 use mathlib.Core.Path.{_≡_, refl}
 use mathlib.Core.Logic.{inl}
-use mathlib.Core.Bool.{Bool, true, false, cond}
+use mathlib.Core.Bool.{Bool, true, false}
 use mathlib.Core.List.{List, [], _∷_, map}
 use native.Mathlib.Omega.{arith}
 use lib.ListN.{length-map, set}
-use lib.Dec.{eqb}
 use Rattle.model.specs.declared.Order.{Order}
 use Rattle.model.specs.declared.Day.{Day}
 use Rattle.model.specs.Choice.{if_then_else_}
 use Rattle.model.specs.Lists.{total}
 use Rattle.model.specs.Book.{free, isLive, standsOn}
 use Rattle.model.specs.Sound.{hasPlaces, sound}
-use Rattle.model.specs.Refusals.{firstOf}
-use Rattle.model.specs.Calls.{CancelOutcome, isOwn, cancelRules, cancelCall}
+use Rattle.model.specs.Calls.{isOwn, cancelCall}
 use Rattle.model.proofs.Bools.{not-both}
 use Rattle.book.specs.Standing.{Standing}
 use Rattle.book.specs.Places.{placeOf}
@@ -25,6 +23,7 @@ use Rattle.book.proofs.Crossing.{SellsAbove, Uncrossed, uncrossed, not-crossed}
 use Rattle.soundness.specs.SoundDay.{Place, Empty, SoundDay}
 use Rattle.soundness.proofs.SoundDays.{sound-day, day-sound}
 use Rattle.demands.specs.Pricing.{Sound}
+use Rattle.demands.proofs.Cases.{cancel-cases}
 use Rattle.demands.proofs.Pricings.{sound-stands}
 use Rattle.demands.proofs.Wholes.{Whole, Timely, whole-of, timely-of, sound-of}
 
@@ -106,13 +105,4 @@ module _ (account number : ℕ) (book : List Order) where
             }
 
     pub cancel-kept : Sound d (cancelCall d account number book .book)
-    unfolding cancelCall
-    cancel-kept = go (eqb (firstOf (cancelRules d account number book)) 0) _ _ refl refl
-      where
-        go :
-            (b : Bool) (x y : CancelOutcome)
-            → x .book ≡ map (taken account number) book
-            → y .book ≡ book
-            → Sound d (cond b x y .book)
-        go true x y e f = rw e taken-sound
-        go false x y e f = rw f s
+    cancel-kept = cancel-cases d account number book (λ o. Sound d (o .book)) (λ _. taken-sound) (λ _. s)

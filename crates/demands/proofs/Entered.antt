@@ -8,12 +8,11 @@ use native.Mathlib.Omega.{arith}
 use native.Mathlib.Nat.{lt-of-not-le}
 use lib.ListN.{length, length-set}
 use lib.Dec.{leb, eqb}
-use borrow.Author.Tests.{leb-true, eqb-true, eqb-false, eq-eqb, not-false}
+use borrow.Author.Tests.{leb-true, eqb-false, eq-eqb, not-false}
 use Rattle.model.specs.declared.Order.{Order}
 use Rattle.model.specs.declared.Asked.{Asked}
 use Rattle.model.specs.declared.Trade.{Trade}
 use Rattle.model.specs.declared.Day.{Day}
-use Rattle.model.specs.declared.OrderAnswer.{OrderAnswer}
 use Rattle.model.specs.Lists.{all, total}
 use Rattle.model.specs.Clock.{takesOrders}
 use Rattle.model.specs.Limits.{isPrice, isQuantity, inBand}
@@ -23,7 +22,7 @@ use Rattle.model.specs.Figures.{nextNumber, issue, tally}
 use Rattle.model.specs.Entry.{entryTrades, restPrice}
 use Rattle.model.specs.Sound.{hasPlaces, sound}
 use Rattle.model.specs.Refusals.{_when_, firstOf}
-use Rattle.model.specs.Calls.{Outcome, orderRules, placed, entered, orderCall}
+use Rattle.model.specs.Calls.{orderRules, placed, entered, orderCall}
 use Rattle.model.proofs.Bools.{and-left, and-right, and-true, not-both}
 use Rattle.book.specs.Standing.{Each, Standing}
 use Rattle.book.specs.Places.{lowestFree}
@@ -41,6 +40,7 @@ use Rattle.demands.specs.Refusing.{NoneOf}
 use Rattle.demands.specs.Pricing.{Sound}
 use Rattle.demands.proofs.FirstRules.{gives-none}
 use Rattle.demands.proofs.Refusals.{order-numbers}
+use Rattle.demands.proofs.Cases.{order-cases}
 use Rattle.demands.proofs.Pricings.{not-unsound, sound-stands}
 use Rattle.demands.proofs.Wholes.{Traded, Whole, Timely, timely-of, sound-of}
 use Rattle.demands.proofs.Hours.{none-early, none-late, then-continuous}
@@ -257,19 +257,8 @@ pub order-kept :
     (d : Day) (a : Asked) (book : List Order) (lent : List Trade)
     → Sound d book
     → Sound (orderCall d a book lent .answer .day) (orderCall d a book lent .book)
-unfolding orderCall entered
-order-kept d a book lent s = go (eqb (firstOf (orderRules d a book (length lent))) 0) refl _ _ refl refl refl refl
-  where
-    go :
-        (b : Bool)
-        → eqb (firstOf (orderRules d a book (length lent))) 0 ≡ b
-        → (x y : Outcome OrderAnswer)
-        → x .answer .day ≡ tally (entryTrades d a book) (issue d)
-        → x .book
-        ≡ placed a (nextNumber d) (a .quantity - filled (entryTrades d a book)) (restPrice a (entryTrades d a book) book) (settle (entryTrades d a book) book)
-        → y .answer .day ≡ d
-        → y .book ≡ book
-        → Sound (cond b x y .answer .day) (cond b x y .book)
-    go true e x y p q u v =
-        rw (p, q) (entered-sound d a book s (allowed d a book lent (eqb-true (firstOf (orderRules d a book (length lent))) 0 e)))
-    go false e x y p q u v = rw (u, v) s
+unfolding entered
+order-kept d a book lent s =
+    order-cases d a book lent (λ o. Sound (o .answer .day) (o .book))
+    (λ z. entered-sound d a book s (allowed d a book lent z))
+    (λ _. s)

@@ -1,6 +1,7 @@
 -- The proofs of the three demands.
 pub mod FirstRules
 pub mod Refusals
+pub mod Cases
 pub mod Pricings
 pub mod Wholes
 pub mod Fresh

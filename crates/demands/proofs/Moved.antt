@@ -6,13 +6,12 @@ use mathlib.Core.Bool.{Bool, true, false, cond, not, _&&_, _||_}
 use mathlib.Core.List.{List, [], _∷_, _++_}
 use native.Mathlib.Omega.{arith}
 use lib.ListN.{length}
-use lib.Dec.{leb, ltb, eqb}
-use borrow.Author.Tests.{leb-true, ltb-true, ltb-false, lt-ltb, le-ltb, le-leb, lt-leb, eqb-true}
+use lib.Dec.{leb, ltb}
+use borrow.Author.Tests.{leb-true, ltb-true, ltb-false, lt-ltb, le-ltb, le-leb, lt-leb}
 use Rattle.model.specs.declared.Order.{Order}
 use Rattle.model.specs.declared.Trade.{Trade}
 use Rattle.model.specs.declared.Day.{Day}
 use Rattle.model.specs.declared.Boundary.{Boundary}
-use Rattle.model.specs.declared.ClockAnswer.{ClockAnswer}
 use Rattle.model.specs.declared.ClockReply as ClockReply
 use Rattle.model.specs.Lists.{total}
 use Rattle.model.specs.Clock.{isTime, passes, boundaries}
@@ -20,7 +19,7 @@ use Rattle.model.specs.Matching.{filled, settle}
 use Rattle.model.specs.Figures.{at, tally}
 use Rattle.model.specs.Sound.{hasPlaces, sound, crosses}
 use Rattle.model.specs.Refusals.{_when_, firstOf, unsound}
-use Rattle.model.specs.Calls.{Outcome, cleared}
+use Rattle.model.specs.Calls.{cleared}
 use Rattle.model.specs.ClockCall.{auctionPrice, auctionTrades, undecided, Held, hold, pass, through, stuck, start, moved, clockRules, clockCall}
 use Rattle.model.proofs.Bools.{not-both}
 use Rattle.book.specs.Standing.{Standing}
@@ -34,6 +33,7 @@ use Rattle.pairing.proofs.Auctions.{auction-priced, auction-shares, auction-cas
 use Rattle.demands.specs.Pricing.{Sound, EachAuction}
 use Rattle.demands.proofs.FirstRules.{gives-none, first-gives}
 use Rattle.demands.proofs.Refusals.{clock-numbers, clock-refuses}
+use Rattle.demands.proofs.Cases.{clock-cases}
 use Rattle.demands.proofs.Pricings.{sound-if, sound-stands, trades-there}
 use Rattle.demands.proofs.Wholes.{Whole, whole-of, timely-of, sound-of, whole-stands}
 use Rattle.demands.proofs.Fresh.{cleared-empty, places-cleared, whole-cleared}
@@ -279,22 +279,10 @@ module _ (d : Day) (book : List Order) (s : Sound d book) where
     moves z = in-time t (gives-none (clockRules d t book (length lent)) (clock-numbers d t book lent) z .1 .0)
 
     pub clock-kept : Sound (clockCall d t book lent .answer .day) (clockCall d t book lent .book)
-    unfolding clockCall
-    clock-kept = go (eqb (firstOf (clockRules d t book (length lent))) 0) refl _ _ refl refl refl refl
-      where
-        go :
-            (b : Bool)
-            → eqb (firstOf (clockRules d t book (length lent))) 0 ≡ b
-            → (x y : Outcome ClockAnswer)
-            → x .answer .day ≡ at t (moved d t book .day)
-            → x .book ≡ moved d t book .book
-            → y .answer .day ≡ d
-            → y .book ≡ book
-            → Sound (cond b x y .answer .day) (cond b x y .book)
-        go true e x y p q u v =
-            let h = moves (eqb-true (firstOf (clockRules d t book (length lent))) 0 e) in
-            rw (p, q) (moved-sound t (h .0) (h .1))
-        go false e x y p q u v = rw (u, v) s
+    clock-kept =
+        clock-cases d t book lent (λ o. Sound (o .answer .day) (o .book))
+        (λ z. let h = moves z in moved-sound t (h .0) (h .1))
+        (λ _. s)
 
 -- ---- 18 is never given: 15 comes first, and from a sound day no auction on the way is undecided
 
