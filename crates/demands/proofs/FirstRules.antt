@@ -7,6 +7,7 @@ use mathlib.Core.List.{List, [], _∷_, _++_}
 use lib.Dec.{eqb}
 use borrow.Author.Tests.{eqb-true, eqb-false, eq-eqb, ne-eqb}
 use Rattle.model.specs.Refusals.{Rule, firstOf}
+use Rattle.book.specs.Standing.{Each}
 use Rattle.demands.specs.Refusing.{NoneOf, FirstIs, Numbers, FirstHolds, RefusesBy}
 
 -- ---- none holds
@@ -86,6 +87,16 @@ first-real n rs k f = go (f .before) rs k (f .order)
     go [] rs k e z = let h : Numbers (f .rule ∷ f .behind) = rw e at k in h .0 (f .number ∙ z)
     go (r ∷ before) rs k e z =
         let h : Numbers (r ∷ (before ++ (f .rule ∷ f .behind))) = rw e at k in go before _ (h .1) refl z
+
+-- a number that no rule has is not given
+pub not-given : (n : ℕ) (rs : List Rule) → (n ≡ 0 → ⊥) → Each (λ (r : Rule). r .number ≡ n → ⊥) rs → firstOf rs ≡ n → ⊥
+unfolding firstOf
+not-given n [] z h e = z (sym e)
+not-given n (r ∷ rs) z h e = go (r .holds) (not-given n rs z (h .1)) e
+  where
+    go : (b : Bool) → (firstOf rs ≡ n → ⊥) → cond b (r .number) (firstOf rs) ≡ n → ⊥
+    go true f x = h .0 x
+    go false f x = f x
 
 -- ---- a reply that is the refusal where a number is given, and another where none is
 

@@ -12,4 +12,8 @@ pub mod Settled
 pub mod EntryPrices
 pub mod Entered
 pub mod Moved
+pub mod Answers
+pub mod Issued
+pub mod Owned
+pub mod Runs
 pub mod Demands

@@ -2,3 +2,4 @@
 pub mod Refusing
 pub mod Pricing
 pub mod Keeping
+pub mod Running
