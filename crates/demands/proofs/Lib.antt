@@ -16,4 +16,5 @@ pub mod Answers
 pub mod Issued
 pub mod Owned
 pub mod Runs
+pub mod Entries
 pub mod Demands

@@ -3,3 +3,4 @@ pub mod Refusing
 pub mod Pricing
 pub mod Keeping
 pub mod Running
+pub mod Entering
