@@ -17,4 +17,5 @@ pub mod Issued
 pub mod Owned
 pub mod Runs
 pub mod Entries
+pub mod Owns
 pub mod Demands

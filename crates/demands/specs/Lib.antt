@@ -4,3 +4,4 @@ pub mod Pricing
 pub mod Keeping
 pub mod Running
 pub mod Entering
+pub mod Owning
