@@ -18,4 +18,5 @@ pub mod Owned
 pub mod Runs
 pub mod Entries
 pub mod Owns
+pub mod Stars
 pub mod Demands

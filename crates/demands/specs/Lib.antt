@@ -5,3 +5,4 @@ pub mod Keeping
 pub mod Running
 pub mod Entering
 pub mod Owning
+pub mod Starred
