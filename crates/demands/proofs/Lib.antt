@@ -18,5 +18,6 @@ pub mod Owned
 pub mod Runs
 pub mod Entries
 pub mod Owns
+pub mod Staying
 pub mod Stars
 pub mod Demands

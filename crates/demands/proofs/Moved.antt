@@ -144,7 +144,7 @@ module _ (second old new : ℕ) where
   unfolding passes
   passed a b = rw (lt-ltb old second a, le-leb second new b)
 
-  not-reached : new < second → passes second old new ≡ false
+  pub not-reached : new < second → passes second old new ≡ false
   unfolding passes
   not-reached a = rw (lt-leb second new a) (go (ltb old second))
     where
@@ -158,13 +158,13 @@ module _ (second old new : ℕ) where
 
 module _ (d : Day) (t : ℕ) (book : List Order) where
   -- the book after the two boundaries, by whether each is passed
-  abbrev opened : Bool → Held
+  abbrev pub opened : Bool → Held
   opened p = cond p (hold (record { second = 33_900; lapse = false }) (start d book)) (start d book)
 
-  abbrev both : Bool → Bool → Held
+  abbrev pub both : Bool → Bool → Held
   both p q = cond q (hold (record { second = 54_000; lapse = true }) (opened p)) (opened p)
 
-  moved-by :
+  pub moved-by :
       (p q : Bool) → passes 33_900 (d .time) t ≡ p → passes 54_000 (d .time) t ≡ q → moved d t book ≡ both p q
   unfolding moved boundaries through pass
   moved-by p q e f = rw (e, f)

@@ -56,7 +56,7 @@ one-place (o ∷ os) a (suc i) (suc j) l m e n =
     ap suc (one-place os (a .1) i j (le-of-suc-le-suc l) (le-of-suc-le-suc m) e n)
 
 -- the first place that passes a test passes it
-first-passes : (p : Order → Bool) (book : List Order) → firstWith p book < length book → p (getD book (firstWith p book) free) ≡ true
+pub first-passes : (p : Order → Bool) (book : List Order) → firstWith p book < length book → p (getD book (firstWith p book) free) ≡ true
 unfolding firstWith
 first-passes p [] l = absurd (not-suc-le-zero l)
 first-passes p (o ∷ os) l = go (p o) refl (first-passes p os) l
