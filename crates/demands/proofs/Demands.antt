@@ -1,13 +1,22 @@
--- The three demands, each theorem under its name. Assumes nothing.
+-- The three demands: each record of specs/ that is put together from several files. Demand 1 is in Refusals, the runs of
+-- demand 2 in Runs, the starred table in Stars. Assumes nothing.
 use Rattle.demands.specs.Pricing.{Pricing}
 use Rattle.demands.specs.Keeping.{Keeping}
+use Rattle.demands.specs.Entering.{Entering}
+use Rattle.demands.specs.Totalling.{Totalling}
+use Rattle.demands.specs.Owning.{OwnOnly}
 use Rattle.demands.proofs.Pricings.{sound-stands, listing, called, one, trades-there, report-decided}
 use Rattle.demands.proofs.Fresh.{open-fresh}
 use Rattle.demands.proofs.Cancelled.{cancel-kept}
 use Rattle.demands.proofs.Entered.{order-kept}
 use Rattle.demands.proofs.Moved.{move-auctions, clock-kept, clock-decided}
+use Rattle.demands.proofs.Entries.{accepted}
+use Rattle.demands.proofs.Totals.{order-totals, clock-totals}
+use Rattle.demands.proofs.Owns.{cancel-own}
+use Rattle.demands.proofs.Staying.{order-stays, clock-stays}
 
--- demand 2, its ground
+-- ---- demand 2
+
 pub keeping : Keeping
 keeping =
     record {
@@ -17,7 +26,22 @@ keeping =
       clock-kept = λ d t book lent s. clock-kept d book s t lent;
     }
 
--- demand 3
+pub entering : Entering
+entering = record { accepted = accepted }
+
+pub totalling : Totalling
+totalling = record { order = order-totals; clock = λ d t book lent s. clock-totals d book s t lent }
+
+pub own-only : OwnOnly
+own-only =
+    record {
+      cancel = λ d account number shares book s. cancel-own d account number book s shares;
+      order = λ d a book lent s. order-stays book (sound-stands d book s) d a lent;
+      clock = λ d t book lent s. clock-stays book (sound-stands d book s) d t lent;
+    }
+
+-- ---- demand 3
+
 pub pricing : Pricing
 pricing =
     record {

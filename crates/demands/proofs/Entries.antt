@@ -16,7 +16,7 @@ use Rattle.model.specs.declared.Remainder.the-variants.{Nothing, Rests, Withdra
 use Rattle.model.specs.declared.OrderReply as OrderReply
 use Rattle.model.specs.Book.{standsOn, other}
 use Rattle.model.specs.Matching.{filled, levels, settle}
-use Rattle.model.specs.Figures.{nextNumber, issue, tally}
+use Rattle.model.specs.Figures.{nextNumber}
 use Rattle.model.specs.Entry.{entryTrades, restPrice}
 use Rattle.model.specs.Replies.{restingOf, withdrawnOf}
 use Rattle.model.specs.Calls.{ended, placed, entered, orderCall}
@@ -104,7 +104,7 @@ module _ (d : Day) (a : Asked) (book : List Order) where
   entry = record { number = nextNumber d; filled = filled ts; levels = levels ts; remainder = ended left at }
 
   entry-accepted : (lent : List Trade) → Accepted d a book lent entry (entered d a book lent)
-  unfolding entered nextNumber tally issue
+  unfolding entered nextNumber
   entry-accepted lent =
       record {
         number = refl;
@@ -124,7 +124,6 @@ module _ (d : Day) (a : Asked) (book : List Order) where
               rests = λ n. rest-limit d a book (rests-somewhere n);
               book-after = placed-rests (nextNumber d) (settle ts book);
             };
-        totals = record { shares = refl; turnover = refl; first = refl; last = refl };
       }
 
 pub accepted :

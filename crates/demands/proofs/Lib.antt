@@ -4,6 +4,7 @@ pub mod Refusals
 pub mod Cases
 pub mod Pricings
 pub mod Wholes
+pub mod Elements
 pub mod Fresh
 pub mod Cancelled
 pub mod Tallied
@@ -17,6 +18,7 @@ pub mod Issued
 pub mod Owned
 pub mod Runs
 pub mod Entries
+pub mod Totals
 pub mod Owns
 pub mod Staying
 pub mod Stars

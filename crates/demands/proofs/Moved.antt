@@ -54,7 +54,7 @@ module _ (h : Held) (f : Fit h) where
   abbrev ts : List Trade
   ts = auctionTrades (h .day) (h .book)
 
-  auction-proper : Proper ts
+  pub auction-proper : Proper ts
   unfolding filled total
   auction-proper =
       ⊎-elim
@@ -212,7 +212,7 @@ module _ (d : Day) (t : ℕ) (book : List Order) where
 -- ---- the call
 
 module _ (d : Day) (book : List Order) (s : Sound d book) where
-  start-fit : Fit (start d book)
+  pub start-fit : Fit (start d book)
   unfolding start
   start-fit = record { many = s .0; whole = whole-of d book (sound-day d book (s .1)) }
 

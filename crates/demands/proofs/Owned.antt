@@ -27,7 +27,7 @@ use Rattle.book.proofs.Kept.{free-number, set-each}
 use Rattle.matching.proofs.Trades.{Some}
 use Rattle.demands.specs.Running.{Event, Moves, Enters, Cancels, Owner, Is, ownersBy, accepted, stepped, after, acceptedIn}
 use Rattle.demands.proofs.Cases.{order-cases, cancel-cases, clock-cases}
-use Rattle.demands.proofs.Settled.{each-map}
+use Rattle.demands.proofs.Elements.{each-map}
 
 -- an order is one of these, where the place is not free
 abbrev pub Known : List Owner → Order → Type 0

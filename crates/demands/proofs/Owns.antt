@@ -17,24 +17,20 @@ use Rattle.model.specs.Book.{free, isLive}
 use Rattle.model.specs.Refusals.{_when_, firstOf}
 use Rattle.model.specs.Calls.{isOwn, cancelRules, cancelCall}
 use Rattle.model.proofs.Bools.{and-left, and-right}
-use Rattle.book.specs.Standing.{Each, Fair, Apart, Standing}
+use Rattle.book.specs.Standing.{Fair, Apart, Standing}
 use Rattle.book.specs.Places.{firstWith, placeOf}
 use Rattle.book.proofs.Queues.{live-number}
 use Rattle.book.proofs.Finding.{own-any, cancel-set, cancel-left}
 use Rattle.demands.specs.Refusing.{NoneOf}
 use Rattle.demands.specs.Pricing.{Sound}
 use Rattle.demands.specs.Owning.{TakesOut}
+use Rattle.demands.proofs.Elements.{each-at}
 use Rattle.demands.proofs.FirstRules.{gives-none}
 use Rattle.demands.proofs.Refusals.{cancel-numbers}
 use Rattle.demands.proofs.Cases.{cancel-cases}
 use Rattle.demands.proofs.Pricings.{sound-stands}
 
 -- ---- places by their index
-
-pub each-at : {A : Type 0} (P : A → Type 0) (xs : List A) (d : A) → Each P xs → (i : ℕ) → i < length xs → P (getD xs i d)
-each-at P [] d h i l = absurd (not-suc-le-zero l)
-each-at P (x ∷ xs) d h zero l = h .0
-each-at P (x ∷ xs) d h (suc i) l = each-at P xs d (h .1) i (le-of-suc-le-suc l)
 
 -- one number, one live order
 one-place :

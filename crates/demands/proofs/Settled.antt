@@ -3,7 +3,7 @@ use Prim.Native.Nat.{ℕ, _-_, _≤_, _<_}
 use mathlib.Core.Path.{_≡_, refl, ap, _∙_}
 use mathlib.Core.Logic.{_⊎_, inl, inr, ⊎-elim}
 use mathlib.Core.Bool.{Bool, true, false, cond}
-use mathlib.Core.List.{List, [], _∷_, map}
+use mathlib.Core.List.{List}
 use native.Mathlib.Omega.{arith}
 use lib.Dec.{ltb}
 use lib.ListN.{length, length-map}
@@ -15,11 +15,8 @@ use Rattle.model.specs.Book.{free}
 use Rattle.model.specs.Matching.{filledOf, lessBy, settle}
 use Rattle.book.specs.Standing.{Each}
 use Rattle.book.proofs.Lists.{each}
+use Rattle.demands.proofs.Elements.{each-map}
 use Rattle.soundness.specs.SoundDay.{Rests, Place}
-
-pub each-map : {A B : Type 0} (P : B → Type 0) (f : A → B) (xs : List A) → Each (λ x. P (f x)) xs → Each P (map f xs)
-each-map P f [] h = tt
-each-map P f (x ∷ xs) h = (h .0, each-map P f xs (h .1))
 
 -- the same share, at a later point of the day
 pub record Later (d e : Day) : Type 0 where

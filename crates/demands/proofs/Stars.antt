@@ -1,6 +1,6 @@
 -- Every row of the starred table is right: a to f and k, l by their crates' tables, g to j by computing. Assumes nothing.
 use mathlib.Core.Path.{refl}
-use mathlib.Core.List.{List, [], _∷_, _++_, map}
+use mathlib.Core.List.{_++_, map}
 use Rattle.model.specs.Lists.{keep, all, any, total, among, once, different}
 use Rattle.model.specs.Clock.{closed, laterRows, holding, rowAt, phaseAt, takesOrders, continuous, isTime}
 use Rattle.model.specs.Book.{free, isLive, standsOn, better, ahead, insert, inPriority, queue, other, headPrice, best}
@@ -17,11 +17,7 @@ use Rattle.auction.specs.Stars.{stars}
 use Rattle.auction.proofs.Stars.{stars-right}
 use Rattle.matching.proofs.Situations.{table, situations}
 use Rattle.demands.specs.Starred.{Passes, limits, Priced, Limited, Swept, rows, Told}
-use Rattle.demands.proofs.Settled.{each-map}
-
-each-append : {A : Type 0} (P : A → Type 0) (xs ys : List A) → Each P xs → Each P ys → Each P (xs ++ ys)
-each-append P [] ys h k = k
-each-append P (x ∷ xs) ys h k = (h .0, each-append P xs ys (h .1) k)
+use Rattle.demands.proofs.Elements.{each-map, each-append}
 
 limits-right : Each Passes limits
 unfolding keep all any total among once different closed laterRows holding rowAt phaseAt takesOrders continuous isTime free isLive standsOn better ahead insert inPriority queue other headPrice best meets within fiveBest atFiveBest tradeWith sweep filled levels lastPrice firstPrice isIn filledOf lessBy settle rest isPrice isQuantity inBand nextNumber issue tally money bestWithin entryPrice opposite entryTrades restPrice hasPlaces isMark mayStand soundFigures isFree isOrder ownNumbers isEmpty crosses between sharesFit pricesFit turnoverFits sound _when_ firstOf unsound orderRules ended placed entered orderCall buyInRange sellInRange inRange reference base orderNumbers entryNumbers

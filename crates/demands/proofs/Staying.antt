@@ -30,9 +30,10 @@ use Rattle.book.proofs.Queues.{number-live}
 use Rattle.book.proofs.Finding.{rest-set}
 use Rattle.demands.specs.Owning.{Stays}
 use Rattle.demands.proofs.Cases.{order-cases, clock-cases}
+use Rattle.demands.proofs.Elements.{each-at}
 use Rattle.demands.proofs.Settled.{settle-length}
 use Rattle.demands.proofs.Moved.{both, not-reached, moved-by}
-use Rattle.demands.proofs.Owns.{each-at, first-passes}
+use Rattle.demands.proofs.Owns.{first-passes}
 
 -- ---- trades that do not name it
 

@@ -1,4 +1,4 @@
--- Demand 2, one accepted order: its shares add up, nothing is beyond its limit, and the day's totals grow by its trades.
+-- Demand 2, one accepted order: its shares add up, and nothing is beyond its limit.
 use Prim.Native.Nat.{ℕ, suc, _+_, _≤_}
 use mathlib.Core.Path.{_≡_}
 use mathlib.Core.Bool.{true}
@@ -14,8 +14,7 @@ use Rattle.model.specs.declared.OrderReply as OrderReply
 use Rattle.model.specs.declared.OrderAnswer.{OrderAnswer}
 use Rattle.model.specs.Choice.{if_then_else_}
 use Rattle.model.specs.Book.{standsOn, other}
-use Rattle.model.specs.Matching.{meets, filled, levels, firstPrice, lastPrice, settle}
-use Rattle.model.specs.Figures.{money}
+use Rattle.model.specs.Matching.{meets, filled, levels, settle}
 use Rattle.model.specs.Entry.{entryTrades, restPrice}
 use Rattle.model.specs.Replies.{restingOf, withdrawnOf}
 use Rattle.model.specs.Calls.{Outcome, written, placed, orderCall}
@@ -45,13 +44,6 @@ pub record WithinLimit (a : Asked) (e : Entry) (ts : List Trade) (book after : L
   pub rests : (restingOf (e .remainder) ≡ 0 → ⊥) → meets (a .side) (a .price) (restPrice a ts book) ≡ true
   pub book-after : after ≡ placed a (e .number) (restingOf (e .remainder)) (restPrice a ts book) (settle ts book)
 
--- shares, turnover, first and last are those before with the trades added
-pub record Totals (d after : Day) (ts : List Trade) : Type 0 where
-  pub shares : after .shares ≡ d .shares + filled ts
-  pub turnover : after .turnover ≡ d .turnover + money ts
-  pub first : after .first ≡ (if eqb (d .first) 0 then firstPrice 0 ts else d .first)
-  pub last : after .last ≡ lastPrice (d .last) ts
-
 -- for every accepted order, from any day and book
 pub record Accepted (d : Day) (a : Asked) (book : List Order) (lent : List Trade) (e : Entry) (o : Outcome OrderAnswer) : Type 0 where
   pub number : e .number ≡ suc (d .issued)
@@ -59,7 +51,6 @@ pub record Accepted (d : Day) (a : Asked) (book : List Order) (lent : List Trade
   pub trades : o .trades ≡ written (entryTrades d a book) lent
   pub adds-up : AddsUp a e (entryTrades d a book)
   pub within-limit : WithinLimit a e (entryTrades d a book) book (o .book)
-  pub totals : Totals d (o .answer .day) (entryTrades d a book)
 
 pub record Entering : Type 0 where
   pub accepted :

@@ -4,5 +4,6 @@ pub mod Pricing
 pub mod Keeping
 pub mod Running
 pub mod Entering
+pub mod Totalling
 pub mod Owning
 pub mod Starred
