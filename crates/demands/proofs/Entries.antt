@@ -1,9 +1,8 @@
 -- One accepted order: what matching's laws say of its trades, in the words of the demand. Assumes nothing.
 use Prim.Native.Nat.{ℕ, _+_, _-_}
 use mathlib.Core.Path.{_≡_, refl}
-use mathlib.Core.Logic.{_⊎_, inl, inr, ⊎-elim}
 use mathlib.Core.Bool.{Bool, true, false, cond}
-use mathlib.Core.List.{List, [], _∷_}
+use mathlib.Core.List.{List}
 use native.Mathlib.Omega.{arith}
 use lib.Dec.{eqb}
 use borrow.Author.Tests.{eqb-true}
@@ -25,6 +24,7 @@ use Rattle.book.proofs.Lists.{each}
 use Rattle.matching.proofs.Trades.{Some, Deal}
 use Rattle.matching.proofs.EntryLaws.{taker, entry-filled, entry-levels, entry-deals, entry-allowed, rest-limit}
 use Rattle.demands.specs.Entering.{With, Accepted}
+use Rattle.demands.proofs.Elements.{some-map}
 use Rattle.demands.proofs.Cases.{order-cases}
 
 module _ (d : Day) (a : Asked) (book : List Order) where
@@ -79,26 +79,19 @@ module _ (d : Day) (a : Asked) (book : List Order) where
   partners : Each (λ (t : Trade). Some (With a (nextNumber d) t) book) ts
   partners =
       each (λ (t : Trade). Some (λ o. Deal (taker d a book) o t × (standsOn (other (a .side)) o ≡ true)) book)
-      (λ (t : Trade). Some (With a (nextNumber d) t) book) ts (λ t. go t book) (entry-deals d a book)
-    where
-      go :
-          (t : Trade) (os : List Order)
-          → Some (λ o. Deal (taker d a book) o t × (standsOn (other (a .side)) o ≡ true)) os
-          → Some (With a (nextNumber d) t) os
-      go t [] h = absurd h
-      go t (o ∷ os) h =
-          ⊎-elim
-          (λ (k : Deal (taker d a book) o t × (standsOn (other (a .side)) o ≡ true)).
-          inl
-          (record {
-            opposite = k .1;
-            price = k .0 .price;
-            quantity = k .0 .quantity;
-            buyer = k .0 .buyer;
-            seller = k .0 .seller;
-          }))
-          (λ k. inr (go t os k))
-          h
+      (λ (t : Trade). Some (With a (nextNumber d) t) book) ts
+      (λ t.
+      some-map
+      (λ o (k : Deal (taker d a book) o t × (standsOn (other (a .side)) o ≡ true)).
+      record {
+        opposite = k .1;
+        price = k .0 .price;
+        quantity = k .0 .quantity;
+        buyer = k .0 .buyer;
+        seller = k .0 .seller;
+      })
+      book)
+      (entry-deals d a book)
 
   abbrev entry : Entry
   entry = record { number = nextNumber d; filled = filled ts; levels = levels ts; remainder = ended left at }

@@ -27,7 +27,7 @@ use Rattle.book.proofs.Kept.{free-number, set-each}
 use Rattle.matching.proofs.Trades.{Some}
 use Rattle.demands.specs.Running.{Event, Moves, Enters, Cancels, Owner, Is, ownersBy, accepted, stepped, after, acceptedIn}
 use Rattle.demands.proofs.Cases.{order-cases, cancel-cases, clock-cases}
-use Rattle.demands.proofs.Elements.{each-map}
+use Rattle.demands.proofs.Elements.{each-map, some-map}
 
 -- an order is one of these, where the place is not free
 abbrev pub Known : List Owner → Order → Type 0
@@ -56,15 +56,11 @@ module _ (ws : List Owner) where
   -- an order with the same number, account and side
   same-known :
       (o p : Order) → o .number ≡ p .number → o .account ≡ p .account → o .side ≡ p .side → Known ws o → Known ws p
-  same-known o p e f g h n = go ws (h (λ z. n (sym e ∙ z)))
-    where
-      go : (vs : List Owner) → Some (Is o) vs → Some (Is p) vs
-      go [] k = absurd k
-      go (v ∷ vs) k =
-          ⊎-elim
-          (λ (i : Is o v). inl (record { number = i .number ∙ e; account = i .account ∙ f; side = i .side ∙ g }))
-          (λ j. inr (go vs j))
-          k
+  same-known o p e f g h n =
+      some-map
+      (λ w (i : Is o w). record { number = i .number ∙ e; account = i .account ∙ f; side = i .side ∙ g })
+      ws
+      (h (λ z. n (sym e ∙ z)))
 
   less-known : (q : ℕ) (o : Order) → Known ws o → Known ws (lessBy q o)
   unfolding lessBy

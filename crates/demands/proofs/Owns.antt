@@ -116,6 +116,7 @@ module _ (d : Day) (account number : ℕ) (book : List Order) (s : Sound d book)
         record {
           place = place;
           inside = inside;
+          real = λ z. is-live (number-is ∙ z);
           its-number = number-is;
           its-account = account-is;
           its-shares = sym left;

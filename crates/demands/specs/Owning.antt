@@ -23,6 +23,7 @@ use Rattle.demands.specs.Pricing.{Sound}
 pub record TakesOut (account number shares : ℕ) (book after : List Order) : Type 0 where
   pub place : ℕ
   pub inside : place < length book
+  pub real : number ≡ 0 → ⊥
   pub its-number : getD book place free .number ≡ number
   pub its-account : getD book place free .account ≡ account
   pub its-shares : getD book place free .left ≡ shares

@@ -8,6 +8,7 @@ use Rattle.model.specs.declared.Asked.{Asked}
 use Rattle.model.specs.declared.Trade.{Trade}
 use Rattle.model.specs.declared.OpenReply as OpenReply
 use Rattle.model.specs.declared.OrderReply as OrderReply
+use Rattle.model.specs.declared.CancelReply as CancelReply
 use Rattle.model.specs.Lists.{from}
 use Rattle.model.specs.Calls.{openCall, orderCall, cancelCall}
 use Rattle.model.specs.ClockCall.{clockCall}
@@ -98,3 +99,8 @@ pub record Running (es : List Event) (s : Desk) : Type 0 where
   -- every resting order is one of them, with its account and side, and no two rest with one number
   pub theirs : Each (λ (o : Order). (o .number ≡ 0 → ⊥) → Some (Is o) (acceptedIn es s)) (after es s .book)
   pub apart : Apart (after es s .book)
+  -- a cancel that is taken after it takes out an order that was accepted for that account
+  pub cancels-own :
+      (account number shares : ℕ)
+      → cancelCall (after es s .day) account number (after es s .book) .reply ≡ CancelReply.the-variants.Withdrawn shares
+      → Some (λ (w : Owner). (w .number ≡ number) × (w .account ≡ account)) (acceptedIn es s)
