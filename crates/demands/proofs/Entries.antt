@@ -1,0 +1,136 @@
+-- One accepted order: what matching's laws say of its trades, in the words of the demand. Assumes nothing.
+use Prim.Native.Nat.{ℕ, _+_, _-_}
+use mathlib.Core.Path.{_≡_, refl}
+use mathlib.Core.Bool.{Bool, true, false, cond}
+use mathlib.Core.List.{List}
+use native.Mathlib.Omega.{arith}
+use lib.Dec.{eqb}
+use borrow.Author.Tests.{eqb-true}
+use Rattle.model.specs.declared.Order.{Order}
+use Rattle.model.specs.declared.Asked.{Asked}
+use Rattle.model.specs.declared.Trade.{Trade}
+use Rattle.model.specs.declared.Entry.{Entry}
+use Rattle.model.specs.declared.Day.{Day}
+use Rattle.model.specs.declared.Remainder.the-variants.{Nothing, Rests, Withdrawn}
+use Rattle.model.specs.declared.OrderReply as OrderReply
+use Rattle.model.specs.Book.{standsOn, other}
+use Rattle.model.specs.Matching.{filled, levels, settle}
+use Rattle.model.specs.Figures.{nextNumber}
+use Rattle.model.specs.Entry.{entryTrades, restPrice}
+use Rattle.model.specs.Replies.{restingOf, withdrawnOf}
+use Rattle.model.specs.Calls.{ended, placed, entered, orderCall}
+use Rattle.book.specs.Standing.{Each}
+use Rattle.book.proofs.Lists.{each}
+use Rattle.matching.proofs.Trades.{Some, Deal}
+use Rattle.matching.proofs.EntryLaws.{taker, entry-filled, entry-levels, entry-deals, entry-allowed, rest-limit}
+use Rattle.demands.specs.Entering.{With, Accepted}
+use Rattle.demands.proofs.Elements.{some-map}
+use Rattle.demands.proofs.Cases.{order-cases}
+
+module _ (d : Day) (a : Asked) (book : List Order) where
+  abbrev ts : List Trade
+  ts = entryTrades d a book
+
+  abbrev left : ℕ
+  left = a .quantity - filled ts
+
+  abbrev at : ℕ
+  at = restPrice a ts book
+
+  -- how what is left ends
+  all-ends : restingOf (ended left at) + withdrawnOf (ended left at) ≡ left
+  unfolding ended restingOf withdrawnOf
+  all-ends = go (eqb left 0) refl (eqb at 0)
+    where
+      go :
+          (b : Bool)
+          → eqb left 0 ≡ b
+          → (c : Bool)
+          → restingOf (cond b Nothing (cond c (Withdrawn left) (Rests left))) + withdrawnOf (cond b Nothing (cond c (Withdrawn left) (Rests left)))
+          ≡ left
+      go true e c = let z : left ≡ 0 = eqb-true left 0 e in omega arith
+      go false e true = omega arith
+      go false e false = omega arith
+
+  rests-somewhere : (restingOf (ended left at) ≡ 0 → ⊥) → at ≡ 0 → ⊥
+  unfolding ended restingOf
+  rests-somewhere n z = n (go (eqb left 0))
+    where
+      go : (b : Bool) → restingOf (cond b Nothing (cond (eqb at 0) (Withdrawn left) (Rests left))) ≡ 0
+      go true = refl
+      go false = rw z
+
+  -- what rests is what is placed
+  placed-rests : (n : ℕ) (os : List Order) → placed a n left at os ≡ placed a n (restingOf (ended left at)) at os
+  unfolding placed ended restingOf
+  placed-rests n os = go (eqb left 0) refl (eqb at 0) refl
+    where
+      go :
+          (b : Bool)
+          → eqb left 0 ≡ b
+          → (c : Bool)
+          → eqb at 0 ≡ c
+          → placed a n left at os ≡ placed a n (restingOf (cond b Nothing (cond c (Withdrawn left) (Rests left)))) at os
+      go true e c f = rw (eqb-true left 0 e)
+      go false e true f = rw (f, e)
+      go false e false f = refl
+
+  -- whom it trades with
+  partners : Each (λ (t : Trade). Some (With a (nextNumber d) t) book) ts
+  partners =
+      each (λ (t : Trade). Some (λ o. Deal (taker d a book) o t × (standsOn (other (a .side)) o ≡ true)) book)
+      (λ (t : Trade). Some (With a (nextNumber d) t) book) ts
+      (λ t.
+      some-map
+      (λ o (k : Deal (taker d a book) o t × (standsOn (other (a .side)) o ≡ true)).
+      record {
+        opposite = k .1;
+        price = k .0 .price;
+        quantity = k .0 .quantity;
+        buyer = k .0 .buyer;
+        seller = k .0 .seller;
+      })
+      book)
+      (entry-deals d a book)
+
+  abbrev entry : Entry
+  entry = record { number = nextNumber d; filled = filled ts; levels = levels ts; remainder = ended left at }
+
+  entry-accepted : (lent : List Trade) → Accepted d a book lent entry (entered d a book lent)
+  unfolding entered nextNumber
+  entry-accepted lent =
+      record {
+        number = refl;
+        made = refl;
+        trades = refl;
+        adds-up =
+            record {
+              whole = omega (arith, all-ends, entry-filled d a book);
+              shares = refl;
+              prices = refl;
+              five = entry-levels d a book;
+            };
+        within-limit =
+            record {
+              partners = partners;
+              trades = entry-allowed d a book;
+              rests = λ n. rest-limit d a book (rests-somewhere n);
+              book-after = placed-rests (nextNumber d) (settle ts book);
+            };
+      }
+
+pub accepted :
+    (d : Day) (a : Asked) (book : List Order) (lent : List Trade) (e : Entry)
+    → orderCall d a book lent .answer .reply ≡ OrderReply.the-variants.Accepted e
+    → Accepted d a book lent e (orderCall d a book lent)
+accepted d a book lent e =
+    order-cases d a book lent
+    (λ o. o .answer .reply ≡ OrderReply.the-variants.Accepted e → Accepted d a book lent e o)
+    (λ _ r. let z : entry d a book ≡ e = same r in rw (← z) (entry-accepted d a book lent))
+    (λ _ r. absurd (apart r))
+  where
+    same : entered d a book lent .answer .reply ≡ OrderReply.the-variants.Accepted e → entry d a book ≡ e
+    same r = unfold entered in cc
+
+    apart : {n : ℕ} → OrderReply.the-variants.Refused n ≡ OrderReply.the-variants.Accepted e → ⊥
+    apart r = let z : _≡_ {A = ℕ} 0 1 = cc in omega arith
