@@ -24,13 +24,13 @@ use Rattle.model.specs.Sound.{hasPlaces, sound}
 use Rattle.model.specs.Refusals.{_when_, firstOf}
 use Rattle.model.specs.Calls.{orderRules, placed, entered, orderCall}
 use Rattle.model.proofs.Bools.{and-left, and-right, and-true, not-both}
-use Rattle.book.specs.Standing.{Each, Standing}
+use Rattle.book.specs.Standing.{Price, Each, Standing}
 use Rattle.book.specs.Places.{lowestFree}
 use Rattle.book.proofs.Lists.{each}
 use Rattle.book.proofs.Kept.{New, free-number, set-each}
 use Rattle.book.proofs.Finding.{full, rest-set}
 use Rattle.book.proofs.FromSound.{sound-new}
-use Rattle.soundness.specs.SoundDay.{Price, InBand, Rests, Place, SoundDay}
+use Rattle.soundness.specs.SoundDay.{InBand, Rests, Place, SoundDay}
 use Rattle.soundness.proofs.Clauses.{says-price, says-band}
 use Rattle.soundness.proofs.SoundDays.{sound-day, day-sound}
 use Rattle.matching.proofs.EntryLaws.{entry-filled, remainder}

@@ -16,13 +16,12 @@ use Rattle.model.specs.Lists.{total}
 use Rattle.model.specs.Book.{standsOn, best, other}
 use Rattle.model.specs.Matching.{meets, within, tradeWith, sweep, filled, lastPrice}
 use Rattle.model.specs.Entry.{bestWithin, entryPrice, opposite, entryTrades, restPrice}
-use Rattle.book.specs.Standing.{Each, Fair}
+use Rattle.book.specs.Standing.{Price, Each, Fair}
 use Rattle.book.proofs.Lists.{each}
 use Rattle.book.proofs.Queues.{on-live}
 use Rattle.book.proofs.Best.{on-each, best-has}
 use Rattle.matching.proofs.Trades.{Deal}
 use Rattle.matching.proofs.EntryLaws.{last-has, of-opposite, taker, entry-cases, each-entry}
-use Rattle.soundness.specs.SoundDay.{Price}
 use Rattle.demands.proofs.Tallied.{Proper}
 
 -- ---- prices

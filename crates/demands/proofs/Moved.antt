@@ -22,10 +22,10 @@ use Rattle.model.specs.Refusals.{_when_, firstOf, unsound}
 use Rattle.model.specs.Calls.{cleared}
 use Rattle.model.specs.ClockCall.{auctionPrice, auctionTrades, undecided, Held, hold, pass, through, stuck, start, moved, clockRules, clockCall}
 use Rattle.model.proofs.Bools.{not-both}
-use Rattle.book.specs.Standing.{Standing}
+use Rattle.book.specs.Standing.{Price, Standing}
 use Rattle.book.proofs.Lists.{each}
 use Rattle.book.proofs.Kept.{standing-settle}
-use Rattle.soundness.specs.SoundDay.{Price, Empty, SoundDay}
+use Rattle.soundness.specs.SoundDay.{Empty, SoundDay}
 use Rattle.soundness.proofs.SoundDays.{sound-day, day-sound, few-places}
 use Rattle.auction.specs.Rule as Rule
 use Rattle.auction.proofs.Rules.{never-undecided}
@@ -62,7 +62,7 @@ module _ (h : Held) (f : Fit h) where
       record {
         priced =
             each (λ (t : Trade). t .price ≡ auctionPrice (h .day) (h .book)) (λ (t : Trade). Price (t .price)) ts
-            (λ t e. rw e (record { low = k .qualifies .price .from-1; high = k .qualifies .price .to-999999 }))
+            (λ t e. rw e (record { low = k .qualifies .price .low; high = k .qualifies .price .high }))
             (auction-priced (h .book) fit-stands (h .day));
         some = λ z. absurd (omega (arith, k .some));
       })

@@ -20,8 +20,7 @@ use Rattle.model.specs.Figures.{at, issue, money, tally}
 use Rattle.model.specs.Entry.{entryTrades}
 use Rattle.model.specs.Calls.{written, entered, orderCall}
 use Rattle.model.specs.ClockCall.{auctionTrades, Held, hold, pass, through, start, moved, clockCall}
-use Rattle.book.specs.Standing.{Each}
-use Rattle.soundness.specs.SoundDay.{Price}
+use Rattle.book.specs.Standing.{Price, Each}
 use Rattle.demands.specs.Pricing.{Sound}
 use Rattle.demands.specs.Totalling.{Totals}
 use Rattle.demands.proofs.Cases.{order-cases, clock-cases}
