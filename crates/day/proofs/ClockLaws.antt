@@ -54,8 +54,8 @@ module _ (d : Day) (t : ℕ) (book : List Order) (s : Standing book) {p : Passed
   moved-by : moved d t book ≡ past p (start d book)
   moved-by = moved-past d t book s ∙ ap (λ (q : Passed). past q (start d book)) (sym e)
 
-  no-trades : p ≡ Nothing → moved d t book .trades ≡ []
-  no-trades n =
+  moved-none : p ≡ Nothing → moved d t book .trades ≡ []
+  moved-none n =
       ap (λ (h : Held). h .trades) moved-by ∙ ap (λ (q : Passed). past q (start d book) .trades) n ∙ past-none d book
 
   pub moved-trades : (p ≡ Nothing → ⊥) → moved d t book .trades ≡ auctionTrades d book
@@ -97,7 +97,7 @@ module _ (d : Day) (t : ℕ) (book : List Order) (room : ℕ) where
               sym
               (by-room
               ∙ skip 13 []
-              (ap (λ (ts : List Trade). ltb room (length ts)) (no-trades d t book stands e n) ∙ le-ltb room 0 (omega arith)))
+              (ap (λ (ts : List Trade). ltb room (length ts)) (moved-none d t book stands e n) ∙ le-ltb room 0 (omega arith)))
 
           pub clock-auction : {r : ℕ} → (p ≡ Nothing → ⊥) → r ≡ firstOf (auctionRules d book room) → r ≡ rules
           unfolding auctionRules

@@ -110,8 +110,8 @@ fn auction_refusal(d: Day, rows: &[[u64; 5]], trades: &mut [[u64; 4]]) -> u64
     0
 }
 
-// 15: not sound. 1: the time. 18 and 13: by the auction on the way. There is one that can have trades at most: no buy reaches
-// a sell after it.
+// 15: not sound. 1: the time. 18 and 13: by the first auction on the way. No other has trades: after an auction no buy reaches
+// a sell.
 fn clock_refusal(d: Day, time: u64, rows: &[[u64; 5]], trades: &mut [[u64; 4]]) -> u64
     ensures { λ r. ⌜ (r ≡ firstOf (clockRules d time (bookOf (now (rows .entry))) (length (now (trades .entry))))) × (now (trades .exit) ≡ now (trades .entry)) ⌝ }
 {
