@@ -202,12 +202,15 @@ module _ (d : Day) (a : Asked) (book : List Order) (s : Sound d book) (k : Allow
       go true e = omega (arith, entry-filled d a book, k .most, day .shares)
       go false e = omega (arith, entry-filled d a book, k .most, day .shares)
 
+  pub entered-prices : Each (λ (t : Trade). Price (t .price)) ts
+  entered-prices = trades-have Price d a book (k .price) (resting Price (λ o r. r .price))
+
   entered-figures : Traded next
   unfolding issue
   entered-figures =
       traded-tally (issue d) ts
       (record { untraded = day .untraded; traded = day .traded; least = day .least; most = day .most })
-      (entry-proper d a book (stands .fair) (trades-have Price d a book (k .price) (resting Price (λ o r. r .price))))
+      (entry-proper d a book (stands .fair) entered-prices)
 
   entered-whole : Whole next book′
   unfolding tally issue nextNumber

@@ -1,31 +1,64 @@
 -- One accepted order: what matching's laws say of its trades, in the words of the demand. Assumes nothing.
 use Prim.Native.Nat.{ℕ, _+_, _-_}
 use mathlib.Core.Path.{_≡_, refl}
-use mathlib.Core.Bool.{Bool, true, false, cond}
-use mathlib.Core.List.{List}
+use mathlib.Core.Bool.{Bool, true, false, cond, _&&_}
+use mathlib.Core.List.{List, [], _∷_, map}
 use native.Mathlib.Omega.{arith}
-use lib.Dec.{eqb}
+use lib.ListN.{length, take}
+use lib.Dec.{ltb, eqb}
 use borrow.Author.Tests.{eqb-true}
 use Rattle.model.specs.declared.Order.{Order}
 use Rattle.model.specs.declared.Asked.{Asked}
 use Rattle.model.specs.declared.Trade.{Trade}
+use Rattle.model.specs.declared.Taker.{Taker}
 use Rattle.model.specs.declared.Entry.{Entry}
 use Rattle.model.specs.declared.Day.{Day}
 use Rattle.model.specs.declared.Remainder.the-variants.{Nothing, Rests, Withdrawn}
 use Rattle.model.specs.declared.OrderReply as OrderReply
+use Rattle.model.specs.Choice.{if_then_else_}
 use Rattle.model.specs.Book.{standsOn, other}
-use Rattle.model.specs.Matching.{filled, levels, settle}
+use Rattle.model.specs.Matching.{meets, tradeWith, sweep, filled, levels, settle}
 use Rattle.model.specs.Figures.{nextNumber}
-use Rattle.model.specs.Entry.{entryTrades, restPrice}
+use Rattle.model.specs.Entry.{opposite, entryTrades, restPrice}
 use Rattle.model.specs.Replies.{restingOf, withdrawnOf}
 use Rattle.model.specs.Calls.{ended, placed, entered, orderCall}
 use Rattle.book.specs.Standing.{Each}
 use Rattle.book.proofs.Lists.{each}
 use Rattle.matching.proofs.Trades.{Some, Deal}
-use Rattle.matching.proofs.EntryLaws.{taker, entry-filled, entry-levels, entry-deals, entry-allowed, rest-limit}
-use Rattle.demands.specs.Entering.{With, Accepted}
+use Rattle.matching.proofs.EntryLaws.{entry-cases, taker, entry-filled, entry-levels, entry-deals, entry-allowed, rest-limit}
+use Rattle.demands.specs.Entering.{With, InPriority, Accepted}
 use Rattle.demands.proofs.Elements.{some-map}
 use Rattle.demands.proofs.Cases.{order-cases}
+
+-- ---- whom it trades with, in which order
+
+abbrev partner : Taker → Trade → ℕ
+partner t r = if eqb (t .side) 0 then r .seller else r .buyer
+
+trade-partner : (t : Taker) (q : ℕ) (o : Order) → partner t (tradeWith t q o) ≡ o .number
+unfolding tradeWith
+trade-partner t q o = go (eqb (t .side) 0)
+  where
+    go : (b : Bool) → cond b (cond b (o .number) (t .number)) (cond b (t .number) (o .number)) ≡ o .number
+    go true = refl
+    go false = refl
+
+sweep-partners :
+    (t : Taker) (q : ℕ) (os : List Order)
+    → map (partner t) (sweep t q os) ≡ take (length (sweep t q os)) (map (λ (o : Order). o .number) os)
+unfolding sweep
+sweep-partners t q [] = refl
+sweep-partners t q (o ∷ os) =
+    go (ltb 0 q && meets (t .side) (t .limit) (o .price)) (sweep-partners t (q - o .left) os)
+  where
+    go :
+        (b : Bool)
+        → map (partner t) (sweep t (q - o .left) os)
+        ≡ take (length (sweep t (q - o .left) os)) (map (λ (x : Order). x .number) os)
+        → map (partner t) (cond b (tradeWith t q o ∷ sweep t (q - o .left) os) [])
+        ≡ take (length (cond b (tradeWith t q o ∷ sweep t (q - o .left) os) [])) (map (λ (x : Order). x .number) (o ∷ os))
+    go true e = cc (trade-partner t q o)
+    go false e = refl
 
 module _ (d : Day) (a : Asked) (book : List Order) where
   abbrev ts : List Trade
@@ -93,6 +126,10 @@ module _ (d : Day) (a : Asked) (book : List Order) where
       book)
       (entry-deals d a book)
 
+  in-priority : InPriority a book ts
+  in-priority =
+      entry-cases d a book (λ rs. InPriority a book rs) refl (λ n. sweep-partners (taker d a book) (a .quantity) (opposite a book))
+
   abbrev entry : Entry
   entry = record { number = nextNumber d; filled = filled ts; levels = levels ts; remainder = ended left at }
 
@@ -117,6 +154,7 @@ module _ (d : Day) (a : Asked) (book : List Order) where
               rests = λ n. rest-limit d a book (rests-somewhere n);
               book-after = placed-rests (nextNumber d) (settle ts book);
             };
+        in-priority = in-priority;
       }
 
 pub accepted :

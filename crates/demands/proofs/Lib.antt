@@ -16,6 +16,7 @@ pub mod Moved
 pub mod Answers
 pub mod Issued
 pub mod Owned
+pub mod RunTotals
 pub mod Runs
 pub mod Entries
 pub mod Totals

@@ -9,7 +9,8 @@ use Rattle.model.specs.declared.Day.{Day}
 use Rattle.model.specs.declared.CancelReply as CancelReply
 use Rattle.model.specs.Lists.{from}
 use Rattle.model.specs.Book.{free}
-use Rattle.model.specs.Figures.{freshDay}
+use Rattle.model.specs.Matching.{firstPrice, lastPrice}
+use Rattle.model.specs.Figures.{freshDay, openPrice, closePrice}
 use Rattle.model.specs.Calls.{cancelCall}
 use Rattle.model.specs.Session.{Desk}
 use Rattle.book.specs.Standing.{Each}
@@ -18,11 +19,13 @@ use Rattle.book.proofs.Kept.{free-number}
 use Rattle.matching.proofs.Trades.{Some}
 use Rattle.soundness.proofs.SoundDays.{sound-day}
 use Rattle.demands.specs.Pricing.{Sound}
-use Rattle.demands.specs.Running.{Event, Owner, answers, stepped, after, acceptedIn, Fresh, Is, Running}
+use Rattle.demands.specs.Totalling.{Totals}
+use Rattle.demands.specs.Running.{Event, Owner, answers, stepped, after, tradesIn, acceptedIn, Fresh, Is, Running}
 use Rattle.demands.proofs.Fresh.{open-fresh, open-day}
 use Rattle.demands.proofs.Answers.{event-sound, event-not-15}
 use Rattle.demands.proofs.Issued.{run-counts}
 use Rattle.demands.proofs.Owned.{Known, Owned, run-owned}
+use Rattle.demands.proofs.RunTotals.{run-prices, run-totals, close-is}
 use Rattle.demands.proofs.Owns.{cancel-own}
 use Rattle.demands.proofs.Elements.{each-at, some-map}
 
@@ -69,6 +72,27 @@ module _ (s : Desk) (f : Fresh s) where
       (acceptedIn es s)
       (each-at (Known (acceptedIn es s)) (after es s .book) free (theirs es) (t .place) (t .inside) (λ z. t .real (sym (t .its-number) ∙ z)))
 
+  untraded : (s .day .shares ≡ 0) × (s .day .turnover ≡ 0) × (s .day .first ≡ 0) × (s .day .last ≡ 0)
+  unfolding freshDay
+  untraded = (
+    ap (λ (d : Day). d .shares) is-fresh,
+    ap (λ (d : Day). d .turnover) is-fresh,
+    ap (λ (d : Day). d .first) is-fresh,
+    ap (λ (d : Day). d .last) is-fresh,
+  )
+
+  totals : (es : List Event) → Totals (s .day) (after es s .day) (tradesIn es s)
+  totals es = run-totals es s fresh-sound
+
+  first-traded : (es : List Event) → openPrice (after es s .day) ≡ firstPrice 0 (tradesIn es s)
+  unfolding openPrice
+  first-traded es = totals es .first ∙ rw (untraded .2)
+
+  last-traded : (es : List Event) → closePrice (after es s .day) ≡ lastPrice (after es s .day .close) (tradesIn es s)
+  last-traded es =
+      close-is (after es s .day) (tradesIn es s) (run-prices es s fresh-sound)
+      (totals es .last ∙ ap (λ (p : ℕ). lastPrice p (tradesIn es s)) (untraded .3))
+
   pub running : (es : List Event) → Running es s
   running es =
       let k = run-sound es s fresh-sound in
@@ -80,5 +104,9 @@ module _ (s : Desk) (f : Fresh s) where
         counted = omega (arith, c .count, none-issued);
         theirs = theirs es;
         apart = sound-day (after es s .day) (after es s .book) (k .1) .apart;
+        shares = omega (arith, totals es .shares, untraded .0);
+        turnover = omega (arith, totals es .turnover, untraded .1);
+        opens-at = first-traded es;
+        closes-at = last-traded es;
         cancels-own = cancels-own es;
       }

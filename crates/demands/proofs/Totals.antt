@@ -1,6 +1,6 @@
 -- The day's totals through the trades of an order, and through those of one auction after the other. Assumes nothing.
 use Prim.Native.Nat.{ℕ, _+_, _*_}
-use mathlib.Core.Path.{_≡_, refl, sym}
+use mathlib.Core.Path.{_≡_, refl, sym, _∙_}
 use mathlib.Core.Bool.{Bool, true, false, cond}
 use mathlib.Core.List.{List, [], _∷_, _++_}
 use native.Mathlib.Omega.{arith}
@@ -25,9 +25,10 @@ use Rattle.demands.specs.Pricing.{Sound}
 use Rattle.demands.specs.Totalling.{Totals}
 use Rattle.demands.proofs.Cases.{order-cases, clock-cases}
 use Rattle.demands.proofs.Elements.{each-append}
+use Rattle.demands.proofs.Entered.{allowed, entered-prices}
 use Rattle.demands.proofs.Moved.{Fit, auction-proper, hold-fit, start-fit}
 
-abbrev Prices : List Trade → Type 0
+abbrev pub Prices : List Trade → Type 0
 Prices ts = Each (λ (t : Trade). Price (t .price)) ts
 
 -- ---- trades behind others
@@ -61,19 +62,24 @@ first-append p ts us h = go (eqb p 0) refl ts h
     go true e (t ∷ ts) h = rw (ne-eqb (t .price) 0 (λ z. omega (arith, h .0 .low)))
     go false e ts h = rw e
 
-totals-add : (d e : Day) (ts us : List Trade) → Prices ts → Totals d e ts → Totals d (tally us e) (ts ++ us)
-unfolding tally filled money
-totals-add d e ts us h k =
+pub totals-join :
+    (d e f : Day) (ts us : List Trade) → Prices ts → Totals d e ts → Totals e f us → Totals d f (ts ++ us)
+unfolding filled money
+totals-join d e f ts us h k m =
     record {
-      shares = omega (arith, k .shares, total-append (λ t. t .quantity) ts us);
-      turnover = omega (arith, k .turnover, total-append (λ t. t .price * t .quantity) ts us);
-      first = rw (k .first) (first-append (d .first) ts us h);
-      last = rw (k .last) (sym (last-append (d .last) ts us));
+      shares = omega (arith, k .shares, m .shares, total-append (λ t. t .quantity) ts us);
+      turnover = omega (arith, k .turnover, m .turnover, total-append (λ t. t .price * t .quantity) ts us);
+      first = m .first ∙ rw (k .first) (first-append (d .first) ts us h);
+      last = m .last ∙ rw (k .last) (sym (last-append (d .last) ts us));
     }
+
+totals-tally : (d : Day) (ts : List Trade) → Totals d (tally ts d) ts
+unfolding tally
+totals-tally d ts = record { shares = refl; turnover = refl; first = refl; last = refl }
 
 -- ---- no trade yet
 
-totals-none : (d : Day) → Totals d d []
+pub totals-none : (d : Day) → Totals d d []
 unfolding filled money total firstPrice lastPrice
 totals-none d =
     record { shares = omega arith; turnover = omega arith; first = go (eqb (d .first) 0) refl; last = refl }
@@ -95,6 +101,18 @@ order-totals d a book lent =
     (record { shares = refl; turnover = refl; first = refl; last = refl }))
     (λ _. totals-none d)
 
+pub order-prices :
+    (d : Day) (a : Asked) (book : List Order) (lent : List Trade)
+    → Sound d book
+    → Prices (take (orderCall d a book lent .answer .made) (orderCall d a book lent .trades))
+unfolding entered written
+order-prices d a book lent s =
+    order-cases d a book lent (λ o. Prices (take (o .answer .made) (o .trades)))
+    (λ z.
+    rw (take-at (entryTrades d a book) (drop (length (entryTrades d a book)) lent) (length (entryTrades d a book)) refl)
+    (entered-prices d a book s (allowed d a book lent z)))
+    (λ _. tt)
+
 -- ---- a move of the clock
 
 -- the figures so far, in the middle of a move
@@ -111,7 +129,7 @@ module _ (d : Day) where
       record {
         fit = hold-fit h (k .fit) b;
         prices = each-append (λ (t : Trade). Price (t .price)) (h .trades) ts (k .prices) (auction-proper h (k .fit) .priced);
-        totals = totals-add d (h .day) (h .trades) ts (k .prices) (k .totals);
+        totals = totals-join d (h .day) (tally ts (h .day)) (h .trades) ts (k .prices) (k .totals) (totals-tally (h .day) ts);
       }
 
   through-totals : (old new : ℕ) (bs : List Boundary) (h : Held) → SoFar d h → SoFar d (through old new bs h)
@@ -124,14 +142,28 @@ module _ (d : Day) where
       go false = k
 
   module _ (book : List Order) (s : Sound d book) where
-    moved-totals : (t : ℕ) → Totals d (at t (moved d t book .day)) (moved d t book .trades)
-    unfolding moved at
-    moved-totals t =
-        let k = through-totals (d .time) t boundaries (start d book) begun .totals in
-        record { shares = k .shares; turnover = k .turnover; first = k .first; last = k .last }
+    so-far : (t : ℕ) → SoFar d (moved d t book)
+    unfolding moved
+    so-far t = through-totals (d .time) t boundaries (start d book) begun
       where
         begun : SoFar d (start d book)
         begun = record { fit = start-fit d book s; prices = unfold start in tt; totals = unfold start in totals-none d }
+
+    moved-totals : (t : ℕ) → Totals d (at t (moved d t book .day)) (moved d t book .trades)
+    unfolding at
+    moved-totals t =
+        let k = so-far t .totals in
+        record { shares = k .shares; turnover = k .turnover; first = k .first; last = k .last }
+
+    pub clock-prices :
+        (t : ℕ) (lent : List Trade) → Prices (take (clockCall d t book lent .answer .made) (clockCall d t book lent .trades))
+    unfolding written
+    clock-prices t lent =
+        clock-cases d t book lent (λ o. Prices (take (o .answer .made) (o .trades)))
+        (λ _.
+        rw (take-at (moved d t book .trades) (drop (length (moved d t book .trades)) lent) (length (moved d t book .trades)) refl)
+        (so-far t .prices))
+        (λ _. tt)
 
     pub clock-totals :
         (t : ℕ) (lent : List Trade)

@@ -2,8 +2,8 @@
 use Prim.Native.Nat.{ℕ, suc, _+_, _≤_}
 use mathlib.Core.Path.{_≡_}
 use mathlib.Core.Bool.{true}
-use mathlib.Core.List.{List}
-use lib.ListN.{length}
+use mathlib.Core.List.{List, map}
+use lib.ListN.{length, take}
 use lib.Dec.{eqb}
 use Rattle.model.specs.declared.Order.{Order}
 use Rattle.model.specs.declared.Asked.{Asked}
@@ -15,7 +15,7 @@ use Rattle.model.specs.declared.OrderAnswer.{OrderAnswer}
 use Rattle.model.specs.Choice.{if_then_else_}
 use Rattle.model.specs.Book.{standsOn, other}
 use Rattle.model.specs.Matching.{meets, filled, levels, settle}
-use Rattle.model.specs.Entry.{entryTrades, restPrice}
+use Rattle.model.specs.Entry.{opposite, entryTrades, restPrice}
 use Rattle.model.specs.Replies.{restingOf, withdrawnOf}
 use Rattle.model.specs.Calls.{Outcome, written, placed, orderCall}
 use Rattle.book.specs.Standing.{Each}
@@ -44,6 +44,12 @@ pub record WithinLimit (a : Asked) (e : Entry) (ts : List Trade) (book after : L
   pub rests : (restingOf (e .remainder) ≡ 0 → ⊥) → meets (a .side) (a .price) (restPrice a ts book) ≡ true
   pub book-after : after ≡ placed a (e .number) (restingOf (e .remainder)) (restPrice a ts book) (settle ts book)
 
+-- the fills follow priority: it trades with the first of those that it may trade with, one after the other
+abbrev pub InPriority : Asked → List Order → List Trade → Type 0
+InPriority a book ts =
+    map (λ (t : Trade). if eqb (a .side) 0 then t .seller else t .buyer) ts
+    ≡ take (length ts) (map (λ (o : Order). o .number) (opposite a book))
+
 -- for every accepted order, from any day and book
 pub record Accepted (d : Day) (a : Asked) (book : List Order) (lent : List Trade) (e : Entry) (o : Outcome OrderAnswer) : Type 0 where
   pub number : e .number ≡ suc (d .issued)
@@ -51,6 +57,7 @@ pub record Accepted (d : Day) (a : Asked) (book : List Order) (lent : List Trade
   pub trades : o .trades ≡ written (entryTrades d a book) lent
   pub adds-up : AddsUp a e (entryTrades d a book)
   pub within-limit : WithinLimit a e (entryTrades d a book) book (o .book)
+  pub in-priority : InPriority a book (entryTrades d a book)
 
 pub record Entering : Type 0 where
   pub accepted :

@@ -2,7 +2,7 @@
 use Prim.Native.Nat.{ℕ}
 use mathlib.Core.Path.{_≡_}
 use mathlib.Core.List.{List, [], _∷_, _++_, map}
-use lib.ListN.{length, getD}
+use lib.ListN.{length, getD, take}
 use Rattle.model.specs.declared.Order.{Order}
 use Rattle.model.specs.declared.Asked.{Asked}
 use Rattle.model.specs.declared.Trade.{Trade}
@@ -10,6 +10,8 @@ use Rattle.model.specs.declared.OpenReply as OpenReply
 use Rattle.model.specs.declared.OrderReply as OrderReply
 use Rattle.model.specs.declared.CancelReply as CancelReply
 use Rattle.model.specs.Lists.{from}
+use Rattle.model.specs.Matching.{filled, firstPrice, lastPrice}
+use Rattle.model.specs.Figures.{money, openPrice, closePrice}
 use Rattle.model.specs.Calls.{openCall, orderCall, cancelCall}
 use Rattle.model.specs.ClockCall.{clockCall}
 use Rattle.model.specs.Replies.{orderNumbers, cancelNumbers, clockNumbers}
@@ -45,6 +47,14 @@ stepped (Enters a lent) s =
 stepped (Cancels account number) s =
     record { day = s .day; book = cancelCall (s .day) account number (s .book) .book }
 
+-- the trades that it made
+unfoldable pub tradedBy : Event → Desk → List Trade
+tradedBy (Moves t lent) s =
+    take (clockCall (s .day) t (s .book) lent .answer .made) (clockCall (s .day) t (s .book) lent .trades)
+tradedBy (Enters a lent) s =
+    take (orderCall (s .day) a (s .book) lent .answer .made) (orderCall (s .day) a (s .book) lent .trades)
+tradedBy (Cancels account number) s = []
+
 -- whose an accepted order is
 pub record Owner : Type 0 where
   pub number : ℕ
@@ -61,7 +71,7 @@ accepted (Moves t lent) s = []
 accepted (Enters a lent) s = ownersBy a (orderCall (s .day) a (s .book) lent .answer .reply)
 accepted (Cancels account number) s = []
 
--- ---- a run: its answers, the desk after it, and its accepted orders
+-- ---- a run: its answers, the desk after it, its trades and its accepted orders
 
 unfoldable pub answers : List Event → Desk → List (List ℕ)
 answers [] s = []
@@ -70,6 +80,10 @@ answers (e ∷ es) s = answered e s ∷ answers es (stepped e s)
 unfoldable pub after : List Event → Desk → Desk
 after [] s = s
 after (e ∷ es) s = after es (stepped e s)
+
+unfoldable pub tradesIn : List Event → Desk → List Trade
+tradesIn [] s = []
+tradesIn (e ∷ es) s = tradedBy e s ++ tradesIn es (stepped e s)
 
 unfoldable pub acceptedIn : List Event → Desk → List Owner
 acceptedIn [] s = []
@@ -99,6 +113,12 @@ pub record Running (es : List Event) (s : Desk) : Type 0 where
   -- every resting order is one of them, with its account and side, and no two rest with one number
   pub theirs : Each (λ (o : Order). (o .number ≡ 0 → ⊥) → Some (Is o) (acceptedIn es s)) (after es s .book)
   pub apart : Apart (after es s .book)
+  -- the day's totals are those of all trades of the run; open is the first one's price, close the last one's or the previous
+  -- close
+  pub shares : after es s .day .shares ≡ filled (tradesIn es s)
+  pub turnover : after es s .day .turnover ≡ money (tradesIn es s)
+  pub opens-at : openPrice (after es s .day) ≡ firstPrice 0 (tradesIn es s)
+  pub closes-at : closePrice (after es s .day) ≡ lastPrice (after es s .day .close) (tradesIn es s)
   -- a cancel that is taken after it takes out an order that was accepted for that account
   pub cancels-own :
       (account number shares : ℕ)
