@@ -3,3 +3,10 @@ pub mod Digits
 pub mod Runs
 pub mod Sizes
 pub mod Rows
+pub mod Stored
+pub mod Back
+pub mod Signs
+pub mod Refused
+pub mod Cancels
+pub mod Openings
+pub mod Reports

@@ -101,6 +101,11 @@ module _ {A : Type 0} (f : A → List ℕ) (size : ℕ) (xs : List A) (b₀ : Li
       let e : i ≡ length xs = omega (arith, s .done) in
       rw (e, drop-length) at (s .same)
 
+-- a run that is stored from the front on
+pub sets-over : (new old : List ℕ) → length new ≤ length old → sets old 0 new ≡ over new old
+unfolding over
+sets-over new old h = sets-eq new old 0 (rw zero-add h) ∙ rw zero-add
+
 -- ---- back again
 
 pub length-flat :

@@ -5,6 +5,7 @@ use lib.ListN.{length}
 use Rattle.book.specs.Rows.{orderOf, rowOf}
 use Rattle.book.proofs.Memory.{book-set}
 use Rattle.wire.specs.Layout.{orderIn}
+use Rattle.wire.proofs.Stored.{book-read}
 use Rattle.wire.proofs.Rows.{Filling, filling-start, filling-next, filling-end}
 use Rattle.wire.proofs.records.load_book.Statement.{statement}
 use Rattle.wire.proofs.records.load_book.Tie as tie
@@ -44,7 +45,7 @@ same-length : tie.Need-same-length Inv-loop μ-loop
 same-length c = search needs
 
 returns : tie.Need-returns Inv-loop μ-loop
-returns c = filling-end _ _ _ _ _ (c .before .loop .inv) (c .loop-test .left)
+returns c = book-read _ (c .before .loop .rows) (c .before .before .before .pre) (filling-end _ _ _ _ _ (c .before .loop .inv) (c .loop-test .left))
 
 pub load-book-spec : {M : Type 1} → statement M
 load-book-spec =

@@ -1,6 +1,6 @@
 -- `wire::records::put_day` meets its contract: the day's numbers in a row. Assumes nothing.
 use borrow.Author.Needs.{needs}
-use Rattle.wire.specs.Layout.{dayBytes}
+use Rattle.wire.proofs.Stored.{day-put}
 use Rattle.wire.proofs.records.put_day.Statement.{statement}
 use Rattle.wire.proofs.records.put_day.Tie as tie
 
@@ -14,8 +14,7 @@ same-length : tie.Need-same-length
 same-length c = search needs
 
 returns : tie.Need-returns
-unfolding dayBytes
-returns c = c .before .before .put-numbers .ensures
+returns c = day-put _ (c .before .before .before .before .before .before .args .d) _ (c .before .before .before .before .before .before .pre) (c .before .before .put-numbers .ensures)
 
 pub put-day-spec : {M : Type 1} → statement M
 put-day-spec =

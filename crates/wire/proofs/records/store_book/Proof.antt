@@ -3,8 +3,9 @@ use Prim.Native.Nat.{_-_}
 use borrow.Author.Needs.{needs}
 use lib.ListN.{length}
 use Rattle.book.specs.Rows.{orderOf}
-use Rattle.wire.specs.Layout.{orderBytes, bookBytes}
+use Rattle.wire.specs.Layout.{orderBytes}
 use Rattle.wire.proofs.Sizes.{length-order}
+use Rattle.wire.proofs.Stored.{book-put}
 use Rattle.wire.proofs.Rows.{Emptying, emptying-start, emptying-next, emptying-end}
 use Rattle.wire.proofs.records.store_book.Statement.{statement}
 use Rattle.wire.proofs.records.store_book.Tie as tie
@@ -44,8 +45,7 @@ same-length : tie.Need-same-length Inv-loop μ-loop
 same-length c = search needs
 
 returns : tie.Need-returns Inv-loop μ-loop
-unfolding bookBytes
-returns c = emptying-end _ _ _ _ _ (c .before .loop .inv) (c .loop-test .left)
+returns c = book-put _ (c .before .before .before .args .rows .now) _ (c .before .before .before .pre) (emptying-end _ _ _ _ _ (c .before .loop .inv) (c .loop-test .left))
 
 pub store-book-spec : {M : Type 1} → statement M
 store-book-spec =
