@@ -10,3 +10,4 @@ pub mod Refused
 pub mod Cancels
 pub mod Openings
 pub mod Reports
+pub mod PriceList

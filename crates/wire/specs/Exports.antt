@@ -16,6 +16,8 @@ use Rattle.model.specs.Choice.{if_then_else_}
 use Rattle.model.specs.Calls.{OpenOutcome, openCall, CancelOutcome, cancelCall}
 use Rattle.model.specs.AuctionCalls.{reportCall, ListOutcome, listCall}
 use Rattle.model.specs.Replies.{openNumbers, cancelNumbers, reportNumbers, listNumbers}
+use Rattle.auction.specs.declared.Listed.{Listed}
+use Rattle.auction.specs.Fitting.{fitted, listed}
 use Rattle.wire.specs.Layout.{bytes, dayIn, dayBytes, bookIn, bookBytes, pricesIn, over}
 
 -- a reply in its buffer: as many whole numbers as it holds, the rest of it stays
@@ -120,6 +122,16 @@ listOn day asked book prices =
     if hasDay day
     then listCall (dayIn day) asked (bookIn book) (pricesIn prices)
     else record { reply = ListReply.the-variants.Refused 15; prices = pricesIn prices }
+
+-- a list of prices at the front of the lent bytes, as many as fit, and what is handed back of it
+pub record Put (ps old : List ℕ) (r : Listed) (left : List ℕ) : Type 0 where
+  pub told : r ≡ listed ps (pricesIn old)
+  pub kept : left ≡ over (bytes (fitted ps (pricesIn old))) old
+
+-- what the call has answered and left of the list's bytes, before its reply is put
+pub record ListStored (r : ListReply.ListReply) (left : List ℕ) (o : ListOutcome) (old : List ℕ) : Type 0 where
+  pub told : r ≡ o .reply
+  pub kept : left ≡ over (bytes (o .prices)) old
 
 pub record ListLeft : Type 0 where
   pub returns : ℕ
