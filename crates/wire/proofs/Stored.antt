@@ -1,0 +1,54 @@
+-- A day, a book and a reply as a call reads and stores them. Assumes nothing.
+use Prim.Native.Nat.{ℕ, _*_, _/_, _≤_, _<_}
+use mathlib.Core.Path.{_≡_, sym, ap, _∙_}
+use mathlib.Core.List.{List}
+use native.Mathlib.Omega.{arith}
+use lib.ListN.{length, take, length-map, length-take}
+use lib.Seq.{sets, take-all, length-take-le}
+use Rattle.model.specs.declared.Order.{Order}
+use Rattle.model.specs.declared.Day.{Day}
+use Rattle.book.specs.Rows.{orderOf, bookOf}
+use Rattle.wire.specs.Layout.{parts, flat, bytes, dayRow, dayBytes, orderIn, orderBytes, bookIn, bookBytes, over}
+use Rattle.wire.specs.Exports.{returned, replied}
+use Rattle.wire.proofs.Runs.{sets-over}
+use Rattle.wire.proofs.Sizes.{length-bytes, length-day, length-book}
+
+pub day-put : (b : List ℕ) (d : Day) (b' : List ℕ) → 64 ≤ length b → b' ≡ sets b 0 (bytes (dayRow d)) → b' ≡ over (dayBytes d) b
+unfolding dayBytes
+day-put b d b' h e = e ∙ sets-over (dayBytes d) b (omega (arith, length-day d))
+
+-- the rows of as many places as the bytes hold
+pub book-read :
+    (b : List ℕ) (rows : List (List ℕ)) {n : ℕ} → n ≡ length b / 40 → bookOf rows ≡ parts orderIn 40 n b → bookOf rows ≡ bookIn b
+unfolding bookIn
+book-read b rows n e = e ∙ rw n
+
+pub book-put :
+    (b : List ℕ) (rows : List (List ℕ)) (b' : List ℕ)
+    → 40 * length rows ≤ length b
+    → b' ≡ sets b 0 (flat orderBytes (bookOf rows))
+    → b' ≡ over (bookBytes (bookOf rows)) b
+unfolding bookBytes
+book-put b rows b' h e =
+    e ∙ sets-over (bookBytes (bookOf rows)) b (omega (arith, length-book (bookOf rows), length-map rows orderOf))
+
+-- ---- a reply
+
+module _ (reply ns : List ℕ) {reply' : List ℕ} where
+  pub reply-cut : length reply / 8 < length ns → reply' ≡ sets reply 0 (bytes (take (length reply / 8) ns)) → reply' ≡ replied ns reply
+  unfolding replied
+  reply-cut h e =
+      let front = take (length reply / 8) ns in
+      e ∙ sets-over (bytes front) reply (omega (arith, length-bytes front, length-take-le (length reply / 8) ns (omega arith)))
+
+  pub reply-whole : length ns ≤ length reply / 8 → reply' ≡ sets reply 0 (bytes ns) → reply' ≡ replied ns reply
+  unfolding replied
+  reply-whole h e = rw (take-all (length reply / 8) ns h) (e ∙ sets-over (bytes ns) reply (omega (arith, length-bytes ns)))
+
+-- numbers that are put and returned are those of the reply
+pub answered :
+    (ns told reply : List ℕ) {reply' : List ℕ}
+    → told ≡ ns
+    → reply' ≡ replied ns reply
+    → (returned ns ≡ returned told) × (reply' ≡ replied told reply)
+answered ns told reply e f = (rw e, rw e f)

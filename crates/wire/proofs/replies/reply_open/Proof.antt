@@ -1,0 +1,56 @@
+-- `wire::replies::reply_open` meets its contract: each case puts its numbers. Assumes nothing.
+use mathlib.Core.Path.{ap}
+use borrow.Author.Needs.{needs}
+use Rattle.model.specs.Replies.{openNumbers}
+use Rattle.wire.proofs.Stored.{answered}
+use Rattle.wire.proofs.replies.reply_open.Statement.{statement}
+use Rattle.wire.proofs.replies.reply_open.Tie as tie
+
+enum-known-told : tie.Need-enum-known-told
+enum-known-told c = search needs
+
+slice-aggregate-put-reply : tie.Need-slice-aggregate-put-reply
+slice-aggregate-put-reply c = search needs
+
+put-reply-requires : tie.Need-put-reply-requires
+put-reply-requires c κs = search needs
+
+same-length : tie.Need-same-length
+same-length c = search needs
+
+returns : tie.Need-returns
+unfolding openNumbers
+returns c =
+    answered _ _ _ (ap openNumbers (c .before .before .before .before .before .before .told .given .1)) (c .before .before .put-reply .ensures)
+
+enum-told : tie.Need-enum-told
+enum-told c = search needs
+
+slice-aggregate-put-reply-2 : tie.Need-slice-aggregate-put-reply-2
+slice-aggregate-put-reply-2 c = search needs
+
+put-reply-requires-2 : tie.Need-put-reply-requires-2
+put-reply-requires-2 c κs = search needs
+
+same-length-2 : tie.Need-same-length-2
+same-length-2 c = search needs
+
+returns-2 : tie.Need-returns-2
+unfolding openNumbers
+returns-2 c =
+    answered _ _ _ (ap openNumbers (c .before .before .before .before .before .enum-told .given .1)) (c .before .before .put-reply2 .ensures)
+
+pub reply-open-spec : {M : Type 1} → statement M
+reply-open-spec =
+    tie.close
+    (tie.spec
+    enum-known-told
+    slice-aggregate-put-reply
+    put-reply-requires
+    same-length
+    returns
+    enum-told
+    slice-aggregate-put-reply-2
+    put-reply-requires-2
+    same-length-2
+    returns-2)

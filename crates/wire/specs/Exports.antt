@@ -1,0 +1,150 @@
+-- What each call leaves in memory, as bytes: the number that it returns, and every slice that it may write. A day of another
+-- length than 64 bytes is refused before anything else.
+use Prim.Native.Nat.{ℕ, suc, _/_, _-_, _^_}
+use mathlib.Core.Path.{_≡_}
+use mathlib.Core.Bool.{Bool}
+use mathlib.Core.List.{List, map}
+use lib.ListN.{length, getD, take}
+use lib.IntN.{ℤ, pos, negsuc}
+use lib.Dec.{eqb}
+use Rattle.model.specs.declared.Order.{Order}
+use Rattle.model.specs.declared.OpenReply as OpenReply
+use Rattle.model.specs.declared.CancelReply as CancelReply
+use Rattle.model.specs.declared.ReportReply as ReportReply
+use Rattle.model.specs.declared.ListReply as ListReply
+use Rattle.model.specs.Choice.{if_then_else_}
+use Rattle.model.specs.Calls.{OpenOutcome, openCall, CancelOutcome, cancelCall}
+use Rattle.model.specs.AuctionCalls.{reportCall, ListOutcome, listCall}
+use Rattle.model.specs.Replies.{openNumbers, cancelNumbers, reportNumbers, listNumbers}
+use Rattle.auction.specs.declared.Listed.{Listed}
+use Rattle.auction.specs.Fitting.{fitted, listed}
+use Rattle.wire.specs.Layout.{bytes, dayIn, dayBytes, bookIn, bookBytes, pricesIn, over}
+
+-- a reply in its buffer: as many whole numbers as it holds, the rest of it stays
+unfoldable pub replied : List ℕ → List ℕ → List ℕ
+replied ns reply = over (bytes (take (length reply / 8) ns)) reply
+
+-- the refusal's number comes first, and is also what a call returns
+abbrev pub returned : List ℕ → ℕ
+returned ns = getD ns 0 0
+
+-- a number with a sign as 64 bits, in two's complement
+unfoldable pub word : ℤ → ℕ
+word (pos n) = n
+word (negsuc n) = 2 ^ 64 - suc n
+
+unfoldable pub reportWords : ReportReply.ReportReply → List ℕ
+reportWords r = map word (reportNumbers r)
+
+abbrev pub hasDay : List ℕ → Bool
+hasDay day = eqb (length day) 64
+
+-- what a call has answered and left of a book's bytes, before its reply is put: the answer and the book of an outcome
+pub record Stored {A : Type 0} (r : A) (left : List ℕ) (answer : A) (book : List Order) (old : List ℕ) : Type 0 where
+  pub told : r ≡ answer
+  pub kept : left ≡ over (bookBytes book) old
+
+-- ---- an opening
+
+unfoldable pub openOn : ℕ → ℕ → List ℕ → List ℕ → OpenOutcome
+openOn close mark day book =
+    if hasDay day
+    then openCall close mark (bookIn book)
+    else record { reply = OpenReply.the-variants.Refused 14; book = bookIn book }
+
+-- the day as it is opened, or as it was
+unfoldable pub dayLeft : OpenReply.OpenReply → List ℕ → List ℕ
+dayLeft (OpenReply.the-variants.Refused n) day = day
+dayLeft (OpenReply.the-variants.Opened d) day = over (dayBytes d) day
+
+pub record OpenLeft : Type 0 where
+  pub returns : ℕ
+  pub day : List ℕ
+  pub book : List ℕ
+  pub reply : List ℕ
+
+abbrev pub openLeft : ℕ → List ℕ → List ℕ → List ℕ → OpenLeft
+openLeft r day book reply = record { returns = r; day = day; book = book; reply = reply }
+
+unfoldable pub openLeaves : OpenOutcome → List ℕ → List ℕ → List ℕ → OpenLeft
+openLeaves o day book reply =
+    record {
+      returns = returned (openNumbers (o .reply));
+      day = dayLeft (o .reply) day;
+      book = over (bookBytes (o .book)) book;
+      reply = replied (openNumbers (o .reply)) reply;
+    }
+
+-- ---- a cancel
+
+unfoldable pub cancelOn : List ℕ → ℕ → ℕ → List ℕ → CancelOutcome
+cancelOn day account number book =
+    if hasDay day
+    then cancelCall (dayIn day) account number (bookIn book)
+    else record { reply = CancelReply.the-variants.Refused 15; book = bookIn book }
+
+pub record CancelLeft : Type 0 where
+  pub returns : ℕ
+  pub book : List ℕ
+  pub reply : List ℕ
+
+abbrev pub cancelLeft : ℕ → List ℕ → List ℕ → CancelLeft
+cancelLeft r book reply = record { returns = r; book = book; reply = reply }
+
+unfoldable pub cancelLeaves : CancelOutcome → List ℕ → List ℕ → CancelLeft
+cancelLeaves o book reply =
+    record {
+      returns = returned (cancelNumbers (o .reply));
+      book = over (bookBytes (o .book)) book;
+      reply = replied (cancelNumbers (o .reply)) reply;
+    }
+
+-- ---- the auction report: it leaves a reply and nothing else
+
+unfoldable pub reportOn : List ℕ → List ℕ → ReportReply.ReportReply
+reportOn day book =
+    if hasDay day then reportCall (dayIn day) (bookIn book) else ReportReply.the-variants.Refused 15
+
+pub record ReportLeft : Type 0 where
+  pub returns : ℕ
+  pub reply : List ℕ
+
+abbrev pub reportLeft : ℕ → List ℕ → ReportLeft
+reportLeft r reply = record { returns = r; reply = reply }
+
+unfoldable pub reportLeaves : ReportReply.ReportReply → List ℕ → ReportLeft
+reportLeaves r reply = record { returns = returned (reportWords r); reply = replied (reportWords r) reply }
+
+-- ---- the price list
+
+unfoldable pub listOn : List ℕ → ℕ → List ℕ → List ℕ → ListOutcome
+listOn day asked book prices =
+    if hasDay day
+    then listCall (dayIn day) asked (bookIn book) (pricesIn prices)
+    else record { reply = ListReply.the-variants.Refused 15; prices = pricesIn prices }
+
+-- a list of prices at the front of the lent bytes, as many as fit, and what is handed back of it
+pub record Put (ps old : List ℕ) (r : Listed) (left : List ℕ) : Type 0 where
+  pub told : r ≡ listed ps (pricesIn old)
+  pub kept : left ≡ over (bytes (fitted ps (pricesIn old))) old
+
+-- what the call has answered and left of the list's bytes, before its reply is put
+pub record ListStored (r : ListReply.ListReply) (left : List ℕ) (o : ListOutcome) (old : List ℕ) : Type 0 where
+  pub told : r ≡ o .reply
+  pub kept : left ≡ over (bytes (o .prices)) old
+
+pub record ListLeft : Type 0 where
+  pub returns : ℕ
+  pub prices : List ℕ
+  pub reply : List ℕ
+
+abbrev pub listLeft : ℕ → List ℕ → List ℕ → ListLeft
+listLeft r prices reply = record { returns = r; prices = prices; reply = reply }
+
+unfoldable pub listLeaves : ListOutcome → List ℕ → List ℕ → ListLeft
+listLeaves o prices reply =
+    record {
+      returns = returned (listNumbers (o .reply));
+      prices = over (bytes (o .prices)) prices;
+      reply = replied (listNumbers (o .reply)) reply;
+    }
