@@ -6,12 +6,12 @@ use mathlib.Core.List.{List, [], _∷_}
 use native.Mathlib.Omega.{arith}
 use lib.Dec.{eqb}
 use borrow.Author.Tests.{ne-eqb}
+use Rattle.book.specs.Standing.{Price}
 use Rattle.model.specs.declared.Trade.{Trade}
 use Rattle.model.specs.declared.Day.{Day}
 use Rattle.model.specs.Matching.{lastPrice}
 use Rattle.model.specs.Figures.{reference, closePrice}
 use Rattle.model.specs.Session.{Desk}
-use Rattle.soundness.specs.SoundDay.{Price}
 use Rattle.demands.specs.Pricing.{Sound}
 use Rattle.demands.specs.Totalling.{Totals}
 use Rattle.demands.specs.Running.{Event, Moves, Enters, Cancels, tradedBy, stepped, after, tradesIn}
