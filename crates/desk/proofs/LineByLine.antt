@@ -19,52 +19,65 @@ use Rattle.text.proofs.Blocks.{taken, all-taken}
 use Rattle.desk.specs.declared.Answered.{Answered}
 use Rattle.desk.specs.declared.Progress.{Progress}
 use Rattle.desk.specs.Desks.{deskOf, Leaves}
-use Rattle.desk.specs.Blocks.{Point, pointOf, asksFrom, Answers, Through, Serves}
+use Rattle.desk.specs.Blocks.{Point, pointOf, asksFrom, Onward, Answers, Through, Serves}
 
 module _ (block : List ℕ) where
-  answers-none : (p : Point) → p .at ≤ length block → Answers block p [] p
-  answers-none p h = record { inside = h; replies = refl; desk = refl; tail = refl; still = refl }
+  pub onward-none : (p : Point) → p .at ≤ length block → Onward block p p
+  onward-none p h = record { inside = h; desk = refl; tail = refl; still = refl }
 
-  answers-one :
-      {p q : Point} {text : List ℕ}
-      → Answers block p text q
-      → (command : Command) (place : ℕ)
-      → nextCommand (q .long) block (q .at) ≡ Next.the-variants.Line command place
-      → Answers block p (text ++ answer command (q .desk) .text)
-      (record { desk = answer command (q .desk) .desk; at = place; long = false })
-  unfolding repliesTo deskAfter
-  answers-one {p} {q} {text} a command place e =
-      let t = taken block (q .at) (q .long) command place e in
-      record {
-        inside = t .inside;
-        replies =
-            a .replies
-            ∙ ap (λ (cs : List Command). text ++ repliesTo cs (q .desk)) (t .asks)
-            ∙ sym (append-assoc text (answer command (q .desk) .text) _);
-        desk = a .desk ∙ ap (λ (cs : List Command). deskAfter cs (q .desk)) (t .asks);
-        tail = a .tail ∙ t .tail;
-        still = a .still ∙ t .still;
-      }
-
-  -- one text behind the other
-  pub answers-more : {p q s : Point} {text more : List ℕ} → Answers block p text q → Answers block q more s → Answers block p (text ++ more) s
-  answers-more {s = s} {text} {more} a b = record {
+  pub onward-more : {p q s : Point} → Onward block p q → Onward block q s → Onward block p s
+  onward-more a b = record {
     inside = b .inside;
-    replies = a .replies ∙ ap (λ (l : List ℕ). text ++ l) (b .replies) ∙ sym (append-assoc text more _);
     desk = a .desk ∙ b .desk;
     tail = a .tail ∙ b .tail;
     still = a .still ∙ b .still;
   }
 
-  -- where no line is left, the text is all replies, and the desk is the one behind them
-  module _ {p q : Point} {text : List ℕ} (a : Answers block p text q) (t : Through block q) where
-    pub through-replies : text ≡ repliesTo (asksFrom block p) (p .desk)
-    unfolding repliesTo
-    through-replies = sym (a .replies ∙ ap (λ (cs : List Command). text ++ repliesTo cs (q .desk)) (t .asks) ∙ append-nil text)
+  -- where no line is left, the desk is the one behind all lines
+  pub through-desk : {p q : Point} → Onward block p q → Through block q → q .desk ≡ deskAfter (asksFrom block p) (p .desk)
+  unfolding deskAfter
+  through-desk {q = q} a t = sym (a .desk ∙ ap (λ (cs : List Command). deskAfter cs (q .desk)) (t .asks))
 
-    pub through-desk : q .desk ≡ deskAfter (asksFrom block p) (p .desk)
-    unfolding deskAfter
-    through-desk = sym (a .desk ∙ ap (λ (cs : List Command). deskAfter cs (q .desk)) (t .asks))
+  -- and the text is all replies
+  pub through-replies :
+      {p q : Point} {text : List ℕ}
+      → Answers block p text q
+      → Through block q
+      → text ≡ repliesTo (asksFrom block p) (p .desk)
+  unfolding repliesTo
+  through-replies {q = q} {text} a t =
+      sym (a .replies ∙ ap (λ (cs : List Command). text ++ repliesTo cs (q .desk)) (t .asks) ∙ append-nil text)
+
+  -- one text behind the other
+  pub answers-more :
+      {p q s : Point} {text more : List ℕ} → Answers block p text q → Answers block q more s → Answers block p (text ++ more) s
+  answers-more {text = text} {more} a b = record {
+    onward = onward-more (a .onward) (b .onward);
+    replies = a .replies ∙ ap (λ (l : List ℕ). text ++ l) (b .replies) ∙ sym (append-assoc text more _);
+  }
+
+  answers-none : (p : Point) → p .at ≤ length block → Answers block p [] p
+  answers-none p h = record { onward = onward-none p h; replies = refl }
+
+  -- a line is answered
+  answers-one :
+      (q : Point) (command : Command) (place : ℕ)
+      → nextCommand (q .long) block (q .at) ≡ Next.the-variants.Line command place
+      → Answers block q (answer command (q .desk) .text)
+      (record { desk = answer command (q .desk) .desk; at = place; long = false })
+  unfolding repliesTo deskAfter
+  answers-one q command place e =
+      let t = taken block (q .at) (q .long) command place e in
+      record {
+        onward =
+            record {
+              inside = t .inside;
+              desk = ap (λ (cs : List Command). deskAfter cs (q .desk)) (t .asks);
+              tail = t .tail;
+              still = t .still;
+            };
+        replies = ap (λ (cs : List Command). repliesTo cs (q .desk)) (t .asks);
+      }
 
 -- ---- the loop
 
@@ -114,7 +127,7 @@ module _ (block : List ℕ) (p : Point) (before : List ℕ) where
             answers =
                 subst (λ (x : List ℕ). Answers block p x (pointOf reached rows′)) (sym shown)
                 (subst (λ (k : Option Desk). Answers block p (take (r .next) after ++ answer command (deskOf (r .begun) (r .day) rows) .text) (record { desk = k; at = place; long = false }))
-                (sym (l .desk)) (answers-one block (g .answers) command place e));
+                (sym (l .desk)) (answers-more block (g .answers) (answers-one block (pointOf r rows) command place e)));
             fits = l .fits;
             onward = omega (arith, t .onward, g .onward);
             past = λ z. omega (arith, t .onward, g .onward);

@@ -27,14 +27,17 @@ pointOf p rows = record { desk = deskOf (p .begun) (p .day) rows; at = p .at; lo
 abbrev pub asksFrom : List ℕ → Point → List Command
 asksFrom block p = asksOf (p .long) (linesOf (drop (p .at) block))
 
--- from point to point: a text, and then the replies to the lines that are left, are the replies to all lines from the first
--- point on; the desk behind the last line, the block's tail and whether that is too long are the same from both
-pub record Answers (block : List ℕ) (p : Point) (text : List ℕ) (q : Point) : Type 0 where
+-- from point to point: the desk behind the last line, the block's tail and whether that is too long are the same from both
+pub record Onward (block : List ℕ) (p q : Point) : Type 0 where
   pub inside : q .at ≤ length block
-  pub replies : repliesTo (asksFrom block p) (p .desk) ≡ text ++ repliesTo (asksFrom block q) (q .desk)
   pub desk : deskAfter (asksFrom block p) (p .desk) ≡ deskAfter (asksFrom block q) (q .desk)
   pub tail : tailOf (linesOf (drop (p .at) block)) ≡ tailOf (linesOf (drop (q .at) block))
   pub still : tailLong (p .long) (linesOf (drop (p .at) block)) ≡ tailLong (q .long) (linesOf (drop (q .at) block))
+
+-- and a text, with the replies to the lines that are left behind it, is the replies to all lines from the first point on
+pub record Answers (block : List ℕ) (p : Point) (text : List ℕ) (q : Point) : Type 0 where
+  pub onward : Onward block p q
+  pub replies : repliesTo (asksFrom block p) (p .desk) ≡ text ++ repliesTo (asksFrom block q) (q .desk)
 
 -- no line is left at a point: from there on the block is its tail
 pub record Through (block : List ℕ) (p : Point) : Type 0 where

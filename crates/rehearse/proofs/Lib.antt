@@ -1,0 +1,2 @@
+-- The laws behind a block that is served.
+pub mod Rounds

@@ -1,0 +1,63 @@
+-- A block answered round by round and carried over is the definitions' step from block to block. Assumes nothing.
+use Prim.Native.Nat.{ℕ, _-_, _≤_}
+use mathlib.Core.Path.{_≡_, sym, ap, subst, _∙_}
+use mathlib.Core.Bool.{Bool, true, false}
+use mathlib.Core.List.{List}
+use mathlib.Core.Option.{Option}
+use native.Mathlib.Omega.{arith}
+use lib.ListN.{length, take, drop, length-take}
+use Rattle.model.specs.declared.Day.{Day}
+use Rattle.model.specs.Session.{Desk}
+use Rattle.text.specs.declared.Carry.{Carry}
+use Rattle.text.specs.Blocks.{CarriedOver}
+use Rattle.text.specs.Answers.{carryAfter, keptAfter}
+use Rattle.text.specs.Printing.{Wrote}
+use Rattle.text.proofs.Carrying.{drop-take}
+use Rattle.text.proofs.Sessions.{carried-after, carry-few}
+use Rattle.desk.specs.Desks.{deskOf}
+use Rattle.desk.specs.declared.Progress.{Progress}
+use Rattle.desk.specs.Blocks.{pointOf, Onward, Through}
+use Rattle.desk.proofs.LineByLine.{through-desk}
+use Rattle.rehearse.specs.declared.Held.{Held}
+use Rattle.rehearse.specs.declared.Input.{Input}
+use Rattle.rehearse.specs.declared.Input.the-variants.{Bytes}
+use Rattle.rehearse.specs.Serving.{Steps, filled}
+
+-- a mark is not both
+pub not-both : {A : Type 0} {m : Bool} → m ≡ true → m ≡ false → A
+not-both e f = let z : _≡_ {A = ℕ} 0 1 = cc in absurd (omega arith)
+
+pub filled-with : {r : Input} {n : ℕ} (room : ℕ) → r ≡ Bytes n → filled room r → n ≤ room
+filled-with room e f = subst (filled room) e f
+
+-- what is put at the front of a buffer ends in it
+pub put-within : {before after : List ℕ} {n : ℕ} → Wrote before 0 (take n after) after n → n ≤ length after
+put-within {after = after} {n} w = omega (arith, w .place, length-take n after)
+
+pub put-count : {before after : List ℕ} {n : ℕ} → Wrote before 0 (take n after) after n → n ≡ length (take n after)
+put-count w = omega (arith, w .place)
+
+module _
+    (buf after : List ℕ) (n : ℕ) (begun long : Bool) (d : Day) (rows rows′ : List (List ℕ)) (p : Progress) (c : Carry)
+    (o : Onward (take n buf) (record { desk = deskOf begun d rows; at = 0; long = long }) (pointOf p rows′))
+    (t : Through (take n buf) (pointOf p rows′))
+    (k : CarriedOver buf (take (n - p .at) (drop (p .at) buf)) (p .long) after c) where
+  carried : (c ≡ carryAfter long (take n buf)) × (take (c .kept) after ≡ keptAfter long (take n buf))
+  carried =
+      carried-after buf after (p .long) c long (take n buf) (take (n - p .at) (drop (p .at) buf)) k
+      (sym (drop-take (p .at) n buf) ∙ sym (o .tail ∙ t .tail))
+      (sym (o .still ∙ t .still))
+
+  pub steps : Steps (take n buf) long (deskOf begun d rows) rows′ after (record { begun = p .begun; day = p .day; kept = c .kept; long = c .long; stops = false })
+  steps = record {
+    desk = through-desk (take n buf) o t;
+    carry = carried .0;
+    kept = carried .1;
+  }
+
+-- a block that was served keeps 79 bytes at most
+pub steps-few :
+    {block : List ℕ} {long : Bool} {old : Option Desk} {rows : List (List ℕ)} {buf : List ℕ} {r : Held}
+    → Steps block long old rows buf r
+    → r .kept ≤ 79
+steps-few {block} {long} s = rw (ap (λ (c : Carry). c .kept) (s .carry)) (carry-few long block)

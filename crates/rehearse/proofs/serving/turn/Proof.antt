@@ -1,0 +1,88 @@
+-- A read that failed or ended stops the program; else the block is served. Assumes nothing.
+use Rattle.rehearse.proofs.Rounds.{not-both, filled-with, steps-few}
+use borrow.Author.Needs.{needs}
+use Rattle.rehearse.proofs.serving.turn.Statement.{statement}
+use Rattle.rehearse.proofs.serving.turn.Tie as tie
+
+fill-requires : tie.Need-fill-requires
+fill-requires c κs = search needs
+
+enum-told : tie.Need-enum-told
+enum-told c = search needs
+
+slice-aggregate-write-all : tie.Need-slice-aggregate-write-all
+slice-aggregate-write-all c = search needs
+
+write-all-requires : tie.Need-write-all-requires
+write-all-requires c κs = search needs
+
+stopped-requires : tie.Need-stopped-requires
+stopped-requires c κs = search needs
+
+enum-told-2 : tie.Need-enum-told-2
+enum-told-2 c = search needs
+
+finish-requires : tie.Need-finish-requires
+finish-requires c κs = search needs
+
+enum-known-input : tie.Need-enum-known-input
+enum-known-input c = search needs
+
+serve-requires : tie.Need-serve-requires
+serve-requires c κs =
+    let f = c .before .before .before .before .before .before .before .before .before .fill in
+    (search needs, search needs, search needs, filled-with _ (c .before .before .before .before .before .input .given .1) (f .ensures))
+
+same-length : tie.Need-same-length
+same-length c = search needs
+
+returns : tie.Need-returns
+returns c = λ e. not-both (c .stopped .ensures) e
+
+same-length-2 : tie.Need-same-length-2
+same-length-2 c = search needs
+
+same-length-3 : tie.Need-same-length-3
+same-length-3 c = search needs
+
+returns-2 : tie.Need-returns-2
+returns-2 c = λ e. not-both (c .before .before .finish .ensures) e
+
+same-length-4 : tie.Need-same-length-4
+same-length-4 c = search needs
+
+same-length-5 : tie.Need-same-length-5
+same-length-5 c = search needs
+
+same-length-6 : tie.Need-same-length-6
+same-length-6 c = search needs
+
+same-length-7 : tie.Need-same-length-7
+same-length-7 c = search needs
+
+returns-3 : tie.Need-returns-3
+returns-3 c = λ e. steps-few (c .before .before .before .before .before .before .serve .ensures e)
+
+pub turn-spec : {M : Type 1} → statement M
+turn-spec =
+    tie.close
+    (tie.spec
+    fill-requires
+    enum-told
+    slice-aggregate-write-all
+    write-all-requires
+    stopped-requires
+    enum-told-2
+    finish-requires
+    enum-known-input
+    serve-requires
+    same-length
+    returns
+    same-length-2
+    same-length-3
+    returns-2
+    same-length-4
+    same-length-5
+    same-length-6
+    same-length-7
+    returns-3)

@@ -1,0 +1,26 @@
+// The rehearsal program: it reads standard input block by block, answers each line, and writes a block's replies before it
+// reads on.
+mod memory;
+mod serving;
+
+use model::Day;
+
+// What goes from block to block: the desk's mark and day, the carry, and whether the program stops here.
+pub struct Held {
+    pub begun: bool,
+    pub day: Day,
+    pub kept: usize,
+    pub long: bool,
+    pub stops: bool,
+}
+
+// What a read brought: how many bytes stand in the buffer then.
+pub enum Input {
+    Failed,
+    Ended,
+    Bytes(usize),
+}
+
+fn main() {
+    serving::run();
+}

@@ -1,0 +1,186 @@
+// Blocks read from standard input, and their replies written to standard output. No promise can say what is read or
+// written; what lies between is the definitions' step from block to block.
+use crate::Held;
+use crate::Input;
+use crate::memory::no_day;
+use crate::memory::output;
+use crate::memory::places;
+use crate::memory::trade_list;
+use desk::Progress;
+use desk::blocks::answer_lines;
+use text::Carry;
+use text::printing::put_refusal;
+use text::reading::carry_over;
+use text::reading::is_left;
+ghost use mathlib.Core.Path.{_≡_};
+ghost use mathlib.Core.Bool.{true, false};
+ghost use Prim.Native.Nat.{_≤_};
+ghost use lib.ListN.{length, take};
+ghost use Rattle.desk.specs.Desks.{deskOf};
+ghost use Rattle.desk.specs.Blocks.{pointOf, Onward, Through};
+ghost use Rattle.rehearse.specs.Serving.{Steps, filled};
+
+fn stopped(h: Held) -> Held
+    ensures { λ r. ⌜ r .stops ≡ true ⌝ }
+{
+    let mut r = h;
+    r.stops = true;
+    r
+}
+
+// Writes replies out, or says that it cannot.
+fn reply(text: &[u8]) -> bool {
+    if io::write_all(libc::STDOUT_FILENO, text) {
+        return true;
+    }
+    io::write_all(
+        libc::STDERR_FILENO,
+        b"rehearse: standard output cannot be written\n",
+    );
+    false
+}
+
+// Answers the lines of a block, round by round as the output holds them. Not done: the output cannot be written.
+fn answer_block(
+    from: Progress,
+    rows: &mut [[u64; 5]],
+    trades: &mut [[u64; 4]],
+    block: &[u8],
+    out: &mut [u8],
+) -> Progress
+    requires { ⌜ (length (now rows) ≡ 1024) × (length (now trades) ≡ 2048) × (176238 ≤ length (now out)) × (from .at ≤ length (now block)) ⌝ }
+    ensures { λ r. ⌜ (r .done ≡ true → Onward (now (block .entry)) (pointOf from (now (rows .entry))) (pointOf r (now (rows .exit))) × Through (now (block .entry)) (pointOf r (now (rows .exit)))) ⌝ }
+{
+    let mut p = from;
+    loop {
+        p = answer_lines(p, &mut *rows, &mut *trades, block, &mut *out);
+        let n = p.next;
+        if !reply(&out[..n]) {
+            p.done = false;
+            return p;
+        }
+        if p.done {
+            return p;
+        }
+    }
+}
+
+// Serves the first n bytes of the buffer as a block, and keeps its tail at the buffer's front.
+fn serve(
+    h: Held,
+    n: usize,
+    rows: &mut [[u64; 5]],
+    trades: &mut [[u64; 4]],
+    buf: &mut [u8],
+    out: &mut [u8],
+) -> Held
+    requires { ⌜ (length (now rows) ≡ 1024) × (length (now trades) ≡ 2048) × (176238 ≤ length (now out)) × (n ≤ length (now buf)) ⌝ }
+    ensures { λ r. ⌜ (r .stops ≡ false → Steps (take n (now (buf .entry))) (h .long) (deskOf (h .begun) (h .day) (now (rows .entry))) (now (rows .exit)) (now (buf .exit)) r) ⌝ }
+{
+    let day = h.day;
+    let from = Progress {
+        begun: h.begun,
+        day,
+        at: 0,
+        long: h.long,
+        next: 0,
+        done: false,
+    };
+    let p = answer_block(from, rows, trades, &buf[..n], out);
+    if !p.done {
+        return stopped(h);
+    }
+    let at = p.at;
+    let c = carry_over(buf, at, n, p.long);
+    let next = p.day;
+    Held {
+        begun: p.begun,
+        day: next,
+        kept: c.kept,
+        long: c.long,
+        stops: false,
+    }
+}
+
+// Reads once, behind what was kept.
+fn fill(buf: &mut [u8], kept: usize) -> Input
+    requires { ⌜ kept ≤ length (now buf) ⌝ }
+    ensures { λ r. ⌜ filled (length (now (buf .exit))) r ⌝ }
+{
+    let got = libc::read(libc::STDIN_FILENO, &mut buf[kept..]);
+    if got < 0 {
+        return Input::Failed;
+    }
+    let n = kept + io::count(got, &buf[kept..]);
+    if n == kept {
+        return Input::Ended;
+    }
+    Input::Bytes(n)
+}
+
+// The end of the input: an unended line is refused.
+fn finish(h: Held, out: &mut [u8]) -> Held
+    requires { ⌜ 110 ≤ length (now out) ⌝ }
+    ensures { λ r. ⌜ r .stops ≡ true ⌝ }
+{
+    let carry = Carry {
+        kept: h.kept,
+        long: h.long,
+    };
+    if !is_left(carry) {
+        return stopped(h);
+    }
+    let n = put_refusal(out, 0, 16);
+    reply(&out[..n]);
+    stopped(h)
+}
+
+// Reads once, and answers the lines that end there.
+fn turn(
+    h: Held,
+    rows: &mut [[u64; 5]],
+    trades: &mut [[u64; 4]],
+    buf: &mut [u8],
+    out: &mut [u8],
+) -> Held
+    requires { ⌜ (length (now rows) ≡ 1024) × (length (now trades) ≡ 2048) × (176238 ≤ length (now out)) × (h .kept ≤ 79) × (80 ≤ length (now buf)) ⌝ }
+    ensures { λ r. ⌜ (r .stops ≡ false → r .kept ≤ 79) ⌝ }
+{
+    let kept = h.kept;
+    let input = fill(buf, kept);
+    match input {
+        Input::Failed => {
+            io::write_all(
+                libc::STDERR_FILENO,
+                b"rehearse: standard input cannot be read\n",
+            );
+            stopped(h)
+        }
+        Input::Ended => finish(h, out),
+        Input::Bytes(n) => serve(h, n, rows, trades, buf, out),
+    }
+}
+
+// A proved loop has to end, and nothing says that the input does: the turns are counted down from a number that no run uses
+// up.
+pub fn run() {
+    let mut rows = places();
+    let mut trades = trade_list();
+    let mut buf = io::large_buffer();
+    let mut out = output();
+    let mut h = Held {
+        begun: false,
+        day: no_day(),
+        kept: 0,
+        long: false,
+        stops: false,
+    };
+    let mut turns = u64::MAX;
+    while 0 < turns {
+        turns = turns - 1;
+        h = turn(h, &mut rows, &mut trades, &mut buf, &mut out);
+        if h.stops {
+            return;
+        }
+    }
+}
