@@ -10,10 +10,11 @@ use native.Mathlib.Decide.{decLe}
 use native.Mathlib.Omega.{arith}
 use borrow.Author.Tests.{leb-true, le-leb}
 use lib.Dec.{leb}
+use Rattle.book.specs.Standing.{Price}
 use Rattle.model.specs.declared.Order.{Order}
 use Rattle.model.specs.Auction.{prices, demand, supply, volume, buysAbove, sellsBelow, buysAt, sellsAt, mostTrades, betterFill, oneSideFills, qualifies}
-use Rattle.auction.specs.Rule.{Price, Most, BetterFills, OneFills, Qualifies}
-use Rattle.auction.proofs.Bools.{not-both, and-left, and-right, and-both}
+use Rattle.auction.specs.Rule.{Most, BetterFills, OneFills, Qualifies}
+use Rattle.model.proofs.Bools.{not-both, and-left, and-right, and-both}
 use Rattle.auction.proofs.Sides.{demand-falls, supply-rises, above-is, below-is, demand-splits, supply-splits}
 use Rattle.auction.proofs.Runs.{all-run, run-all}
 
@@ -53,7 +54,7 @@ pub second-clears : (os : List Order) {p : ℕ} → Price p → 1 ≤ volume os 
 second-clears os {p} k v b =
     let e = volume-is os p in
     let a = above-is os p in
-    let c = below-is os p (k .from-1) in
+    let c = below-is os p (k .low) in
     record {
       price = k;
       sells = record { some = omega arith; cover = omega arith };
@@ -67,7 +68,7 @@ clears-better : (os : List Order) {p : ℕ} → Clears os p → BetterFills os p
 clears-better os {p} f =
     let e = volume-is os p in
     let a = above-is os p in
-    let b = below-is os p (f .price .from-1) in
+    let b = below-is os p (f .price .low) in
     let c : demand os (p + 1) ≤ demand os p = demand-falls os (omega arith) in
     let d : supply os (p - 1) ≤ supply os p = supply-rises os (omega arith) in
     omega arith
@@ -81,7 +82,7 @@ clears-most os {p} f q k =
         | yes h′ ↦ let z : q ≡ p = omega arith in rw z (le-refl (volume os p))
         | no h′ ↦
             let a : supply os q ≤ supply os (p - 1) = supply-rises os (omega arith) in
-            let c = below-is os p (f .price .from-1) in
+            let c = below-is os p (f .price .low) in
             omega arith
       ]
       | no h ↦
@@ -119,7 +120,7 @@ qualifies-between os kp kr h h′ =
     let fr = qualifies-clears os kr in
     clears-qualifies os
     (record {
-      price = record { from-1 = omega arith; to-999999 = omega arith };
+      price = record { low = omega arith; high = omega arith };
       sells = sells-cover-up os h (fp .sells);
       buys = buys-cover-down os h′ (fr .buys);
     })
@@ -152,13 +153,13 @@ most-told : (os : List Order) (p : ℕ) → mostTrades os p ≡ true → Most os
 unfolding mostTrades prices
 most-told os p e q k =
     leb-true (volume os q) (volume os p)
-    (run-all (λ q. leb (volume os q) (volume os p)) 1 999_999 e q (k .from-1) (omega (arith, k .to-999999)))
+    (run-all (λ q. leb (volume os q) (volume os p)) 1 999_999 e q (k .low) (omega (arith, k .high)))
 
 most-tests : (os : List Order) (p : ℕ) → Most os p → mostTrades os p ≡ true
 unfolding mostTrades prices
 most-tests os p h =
     all-run (λ q. leb (volume os q) (volume os p)) 1 999_999
-    (λ q k l. le-leb (volume os q) (volume os p) (h q (record { from-1 = k; to-999999 = omega arith })))
+    (λ q k l. le-leb (volume os q) (volume os p) (h q (record { low = k; high = omega arith })))
 
 either-or : (a b : Bool) → (a ≡ true) ⊎ (b ≡ true) → a || b ≡ true
 either-or true b e = refl

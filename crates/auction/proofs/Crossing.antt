@@ -22,7 +22,7 @@ use Rattle.book.proofs.Best.{best-price}
 use Rattle.auction.specs.Interest.{tradesFor, brings, interest}
 use Rattle.auction.specs.Spans.{turned, turnOf}
 use Rattle.auction.specs.Rule.{Qualifies}
-use Rattle.auction.proofs.Bools.{not-both, not-true-false, and-left, and-right, and-both}
+use Rattle.model.proofs.Bools.{not-both, not-true-false, and-left, and-right, and-both}
 use Rattle.auction.proofs.Sums.{part-is, part-none}
 use Rattle.auction.proofs.Sides.{interest-buys, interest-sells, interest-next, interest-end, demand-falls, supply-rises, demand-top, supply-bottom}
 use Rattle.auction.proofs.Conditions.{SellsCover, BuysCover, clears-qualifies, qualifies-clears}
@@ -280,7 +280,7 @@ module _ (os : List Order) (s : Standing os) where
       let low : turnOf os 1 ≤ 999_999 = below-top t (turned-sells os 999_999 high) in
       clears-qualifies os
       (record {
-        price = record { from-1 = t .from-1; to-999999 = low };
+        price = record { low = t .from-1; high = low };
         sells = sells-turned os (turnOf os 1) (t .after (turnOf os 1) (le-refl (turnOf os 1)) low);
         buys = buys-cover-first b db sb (turn-below t);
       })

@@ -1,5 +1,4 @@
 -- The auction's laws, from sums over the book to the whole of the price rule.
-pub mod Bools
 pub mod Sums
 pub mod Sides
 pub mod Runs

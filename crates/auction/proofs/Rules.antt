@@ -23,7 +23,7 @@ use Rattle.model.specs.AuctionCalls.{due}
 use Rattle.book.specs.Standing.{Standing}
 use Rattle.auction.specs.Spans.{turnOf, flatter, nearestIn}
 use Rattle.auction.specs.Rule.{Qualifies, NoGap, Rising, PriceRule}
-use Rattle.auction.proofs.Bools.{true-or-false, not-both, not-true-false}
+use Rattle.model.proofs.Bools.{true-or-false, not-both, not-true-false}
 use Rattle.auction.proofs.Runs.{run-length, run-at, run-has, has-run}
 use Rattle.auction.proofs.Conditions.{test-told, told-test}
 use Rattle.auction.proofs.Spanning.{Spans, span-law}
@@ -70,13 +70,13 @@ unfolding qualifying prices
 listed-qualifies os {p} e =
     let k = has-kept (qualifies os) (from 1 999_999) p e in
     let r = has-run 1 999_999 p (k .1) in
-    test-told os (record { from-1 = r .0; to-999999 = omega (arith, r .1) }) (k .0)
+    test-told os (record { low = r .0; high = omega (arith, r .1) }) (k .0)
 
 pub qualifies-listed : (os : List Order) {p : ℕ} → Qualifies os p → among (qualifying os) p ≡ true
 unfolding qualifying prices
 qualifies-listed os {p} k =
     kept-has (qualifies os) (from 1 999_999) p (told-test os k)
-    (run-has 1 999_999 p (k .price .from-1) (omega (arith, k .price .to-999999)))
+    (run-has 1 999_999 p (k .price .low) (omega (arith, k .price .high)))
 
 -- ---- the list from an asked price has those that are not below it
 pub due-names : (os : List Order) (asked p : ℕ) → (among (due asked os) p ≡ true) ↔ (Qualifies os p × (asked ≤ p))

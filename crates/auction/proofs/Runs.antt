@@ -11,7 +11,7 @@ use lib.ListN.{length, getD}
 use lib.Dec.{eqb}
 use Rattle.model.specs.Choice.{if_then_else_}
 use Rattle.model.specs.Lists.{keep, all, any, among, least, atLeast, from}
-use Rattle.auction.proofs.Bools.{not-both, and-left, and-right, and-both}
+use Rattle.model.proofs.Bools.{not-both, and-left, and-right, and-both}
 
 -- ---- length and places
 pub run-length : (a n : ℕ) → length (from a n) ≡ n

@@ -2,7 +2,7 @@
 use Prim.Native.Nat.{ℕ, suc, _+_, _-_, _≤_, _<_, min}
 use mathlib.Core.Path.{_≡_, refl, sym, ap, ap₂, _∙_}
 use mathlib.Core.Logic.{_⊎_, inl, inr, ⊎-elim}
-use mathlib.Core.Bool.{Bool, true, false, _&&_}
+use mathlib.Core.Bool.{Bool, true, false, _&&_, and-false}
 use mathlib.Core.List.{List, [], _∷_}
 use native.Mathlib.Nat.{le-trans, sub-add-cancel}
 use native.Mathlib.Numerals.{add-one}
@@ -22,7 +22,7 @@ use Rattle.book.specs.Standing.{Fair, Standing}
 use Rattle.book.proofs.Queues.{on-live}
 use Rattle.auction.specs.declared.Interest.{Interest}
 use Rattle.auction.specs.Interest.{tradesFor, brings, interest, interestAt}
-use Rattle.auction.proofs.Bools.{true-or-false, and-left, and-right, and-mono}
+use Rattle.model.proofs.Bools.{true-or-false, and-left, and-right, and-mono}
 use Rattle.auction.proofs.Sums.{shares-end, shares-next, shares-le, shares-same, shares-split, shares-bound, shares-none}
 
 -- ---- both sides at once
@@ -141,10 +141,6 @@ unfolding demand
 demand-top os s =
     shares-none (λ o. standsOn 0 o && leb 1_000_000 (o .price))
     (λ o f. rw (lt-leb 1_000_000 (o .price) (omega (arith, f .price))) (and-false (standsOn 0 o))) os (s .fair)
-  where
-    and-false : (b : Bool) → b && false ≡ false
-    and-false true = refl
-    and-false false = refl
 
 pub supply-bottom : (os : List Order) → Standing os → supply os 0 ≡ 0
 unfolding supply

@@ -69,7 +69,7 @@ turns-span os {lo} {end} s b h =
       list = between-turns os s b ∙ ap (from lo) e;
       each = λ p k l.
           turned-qualifies os p
-          (record { from-1 = omega (arith, s .from-1); to-999999 = omega (arith, b .to-1000000) })
+          (record { low = omega (arith, s .from-1); high = omega (arith, b .to-1000000) })
           (s .after p k (omega (arith, b .to-1000000)))
           (b .before p (omega (arith, s .from-1)) (omega arith));
     }

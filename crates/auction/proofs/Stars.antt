@@ -18,7 +18,7 @@ use Rattle.model.specs.AuctionCalls.{reportAt}
 use Rattle.book.specs.Standing.{Each}
 use Rattle.auction.specs.Spans.{turned, gap, flatter, nearestIn}
 use Rattle.auction.specs.Stars.{Star, Right, stars, star-a, star-b, star-c, star-d, star-e, star-f}
-use Rattle.auction.proofs.Bools.{not-both, and-left, and-right}
+use Rattle.model.proofs.Bools.{not-both, and-left, and-right}
 use Rattle.auction.proofs.Turning.{Turns, turned-up, unturned-down, between-turns}
 use Rattle.auction.proofs.Spanning.{turns-span, turns-none}
 use Rattle.auction.proofs.Ties.{flattest-one, flattest-many, left-is, none-left, nearest-same}

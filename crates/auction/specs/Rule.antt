@@ -5,15 +5,11 @@ use mathlib.Core.Logic.{_⊎_, _↔_}
 use mathlib.Core.Bool.{true, false}
 use mathlib.Core.List.{List, []}
 use lib.ListN.{length, getD}
+use Rattle.book.specs.Standing.{Price}
 use Rattle.model.specs.declared.Order.{Order}
 use Rattle.model.specs.Lists.{among}
 use Rattle.model.specs.Auction.{volume, buysAbove, sellsBelow, buysAt, sellsAt, qualifying, leastDifference, leftBy}
 use Rattle.model.specs.Sound.{crosses}
-
--- a whole fen, 1 to 999,999
-pub record Price (p : ℕ) : Type 0 where
-  pub from-1 : 1 ≤ p
-  pub to-999999 : p ≤ 999_999
 
 module _ (book : List Order) where
   -- 1: no price has more volume

@@ -5,8 +5,7 @@ use crate::depth::interest_at;
 ghost use mathlib.Core.Path.{_≡_};
 ghost use Rattle.model.specs.Auction.{qualifying};
 ghost use Rattle.book.specs.Rows.{bookOf};
-ghost use Rattle.book.specs.Standing.{Standing};
-ghost use Rattle.auction.specs.Rule.{Price};
+ghost use Rattle.book.specs.Standing.{Price, Standing};
 ghost use Rattle.auction.specs.Spans.{ends, covered, turned, turnOf};
 
 // Some shares, that cover the other side's.

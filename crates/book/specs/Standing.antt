@@ -6,6 +6,11 @@ use lib.ListN.{length}
 use Rattle.model.specs.declared.Order.{Order}
 use Rattle.model.specs.Book.{free}
 
+-- whole fen
+pub record Price (p : ℕ) : Type 0 where
+  pub low : 1 ≤ p
+  pub high : p ≤ 999_999
+
 -- every element has the property
 abbrev pub Each : {A : Type 0} → (A → Type 0) → List A → Type 0
 Each P [] = Unit {0}

@@ -46,7 +46,7 @@ module _ (d : Day) (book : List Order) where
     pub priced : {r : Bool} {p : ℕ} → r ≡ crosses book → r ≡ true → p ≡ auctionPrice d book → eqb p 0 ≡ undecided d book
     priced {r} {p} e t f =
         ⊎-elim
-        (λ k. ne-eqb p 0 (λ z. no-zero (k .0 .price .from-1) (sym f ∙ z)))
+        (λ k. ne-eqb p 0 (λ z. no-zero (k .0 .price .low) (sym f ∙ z)))
         (λ k. absurd (not-both (sym e ∙ t) (k .1)))
         (auction-price-cases book s d)
         ∙ decided

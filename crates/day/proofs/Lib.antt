@@ -1,7 +1,11 @@
 pub mod AskedRules
+pub mod AuctionHeld
 pub mod AuctionLaws
 pub mod BookRules
+pub mod Boundaries
 pub mod Cancels
+pub mod ClockLaws
+pub mod Determined
 pub mod Openings
 pub mod OrderLaws
 pub mod Readiness

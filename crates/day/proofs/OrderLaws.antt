@@ -1,10 +1,11 @@
 -- An order: which of its rules is the first to hold, what an order that none refuses gives, and what it comes to.
 -- Assumes nothing.
-use Prim.Native.Nat.{ℕ, _+_, _-_, _≤_, _<_}
+use Prim.Native.Nat.{ℕ, _+_, _-_, _*_, _^_, _≤_, _<_}
 use mathlib.Core.Path.{_≡_, refl, sym, ap, _∙_}
 use mathlib.Core.Bool.{Bool, true, false, not}
 use mathlib.Core.List.{List, [], _∷_, _++_}
 use native.Mathlib.Omega.{arith}
+use native.Mathlib.Nat.{mul-le-mul-right, mul-add}
 use native.Mathlib.Numerals.{add-one}
 use lib.ListN.{length, length-map, take}
 use lib.Dec.{leb, ltb, eqb}
@@ -17,23 +18,28 @@ use Rattle.model.specs.declared.Remainder.{Remainder}
 use Rattle.model.specs.declared.OrderReply.the-variants.{Refused, Accepted}
 use Rattle.model.specs.Limits.{isPrice, isQuantity}
 use Rattle.model.specs.Book.{best, other}
-use Rattle.model.specs.Matching.{filled, levels, lastPrice, settle}
-use Rattle.model.specs.Figures.{reference, nextNumber, issue, tally}
+use Rattle.model.specs.Matching.{filled, levels, lastPrice, settle, rest}
+use Rattle.model.specs.Lists.{total}
+use Rattle.model.specs.Figures.{reference, nextNumber, issue, money, tally}
 use Rattle.model.specs.Entry.{entryTrades, restPrice}
 use Rattle.model.specs.Refusals.{Rule, _when_, firstOf, unsound}
-use Rattle.model.specs.Calls.{written, orderRules, ended, placed, entered, orderCall}
+use Rattle.model.specs.declared.OrderAnswer.{OrderAnswer}
+use Rattle.model.specs.Calls.{Outcome, written, orderRules, ended, placed, entered, orderCall}
 use Rattle.model.proofs.Bools.{and-right, true-or-false}
 use Rattle.model.proofs.Rules.{hit, skip, Numbered, NoneHolds, none-holds, given-by, passed-by}
 use Rattle.book.specs.Rows.{bookOf, rowsOf, tradeOf, tradesOf, tradeRows}
+use Rattle.book.specs.Standing.{Price, Each}
 use Rattle.book.specs.Writing.{front}
 use Rattle.book.proofs.Memory.{book-rows}
 use Rattle.book.proofs.Written.{front-trades, front-written}
-use Rattle.soundness.specs.SoundDay.{Price, SoundDay}
+use Rattle.soundness.specs.SoundDay.{SoundDay}
 use Rattle.soundness.proofs.Clauses.{says-price}
 use Rattle.matching.specs.declared.Swept.{Swept}
 use Rattle.matching.specs.Sweeping.{comesTo}
 use Rattle.matching.specs.Entering.{restAt}
 use Rattle.matching.proofs.Entries.{rest-price}
+use Rattle.matching.proofs.EntryLaws.{entry-filled}
+use Rattle.matching.proofs.EntryKept.{traded-bound}
 use Rattle.day.specs.Checks.{formRules, hourRules, numberRules, askedRules, bookRules}
 use Rattle.day.specs.Promises.{left}
 use Rattle.day.specs.Ready.{Ready, Taken}
@@ -129,13 +135,43 @@ module _ (d : Day) (a : Asked) (book : List Order) (room : ℕ) where
       record {
         ready = ready-if d book (n .0);
         quantity = small (a .quantity) (not-false _ (n .1 .1 .1 .1 .1 .0));
+        price = says-price (a .price) .0 (not-false _ (n .1 .1 .1 .1 .1 .1 .0)) .high;
         fits = ltb-false room (length (entryTrades d a book)) (n .1 .1 .1 .1 .1 .1 .1 .1 .1 .1 .1 .0);
       }
     where
       small : (q : ℕ) → isQuantity q ≡ true → q ≤ 1_000_000
       small q e = unfold isQuantity in leb-true q 1_000_000 (and-right (leb 100 q) (leb q 1_000_000) e)
 
+-- ---- where what is left goes
+
+module _ (a : Asked) (number q p : ℕ) (book : List Order) where
+  pub placed-nothing : q ≡ 0 → book ≡ placed a number q p book
+  unfolding placed
+  placed-nothing z = rw (eq-eqb q 0 z)
+
+  pub placed-withdrawn : (q ≡ 0 → ⊥) → p ≡ 0 → book ≡ placed a number q p book
+  unfolding placed
+  placed-withdrawn n z = rw (ne-eqb q 0 n, eq-eqb p 0 z)
+
+  pub placed-rests :
+      (q ≡ 0 → ⊥)
+      → (p ≡ 0 → ⊥)
+      → rest (record { side = a .side; account = a .account; left = q; price = p; number = number }) book
+      ≡ placed a number q p book
+  unfolding placed
+  placed-rests n m = rw (ne-eqb q 0 n, ne-eqb p 0 m)
+
 -- ---- what it comes to
+
+-- money is at most the highest price for each share
+pub money-within : (m : ℕ) (ts : List Trade) → Each (λ r. r .price ≤ m) ts → money ts ≤ m * filled ts
+unfolding money filled total
+money-within m [] e = omega arith
+money-within m (t ∷ ts) (h, e) =
+    let r : money ts ≤ m * filled ts = money-within m ts e in
+    let p : t .price * t .quantity ≤ m * t .quantity = mul-le-mul-right (t .quantity) h in
+    let s : m * (t .quantity + filled ts) ≡ m * t .quantity + m * filled ts = mul-add m (t .quantity) (filled ts) in
+    omega arith
 
 module _ (d : Day) (a : Asked) (rows lent : List (List ℕ)) where
   abbrev book : List Order
@@ -168,6 +204,34 @@ module _ (d : Day) (a : Asked) (rows lent : List (List ℕ)) where
         ∙ ap (λ (l : List (List ℕ)). tradesOf (take (length ts) l)) w
         ∙ front-trades (length lent) ts lent fits
 
+    -- ---- nothing overflows on the way
+    module _ (t : Taken d a book (length lent)) where
+      pub filled-fits : s .filled ≤ a .quantity
+      filled-fits = omega (arith, sold, entry-filled d a book)
+
+      pub count-fits : length trades ≡ length lent → s .trades ≤ length trades
+      count-fits k = omega (arith, made, t .fits)
+
+      module _ {i : Day} (ei : i ≡ issue d) where
+        few : filled ts ≤ 1_000_000
+        few = omega (arith, entry-filled d a book, t .quantity)
+
+        pub shares-fit : i .shares + filled (tradesOf (take (s .trades) trades)) < 2 ^ 64
+        unfolding issue
+        shares-fit =
+            let z : i .shares ≡ d .shares = rw ei in
+            let f : filled (tradesOf (take (s .trades) trades)) ≡ filled ts = ap filled back in
+            omega (arith, few, t .ready .sound .shares, t .ready .sound .issued)
+
+        pub money-fits : i .turnover + money (tradesOf (take (s .trades) trades)) < 2 ^ 64
+        unfolding issue
+        money-fits =
+            let z : i .turnover ≡ d .turnover = rw ei in
+            let f : money (tradesOf (take (s .trades) trades)) ≡ money ts = ap money back in
+            let m : money ts ≤ 999_999 * filled ts =
+            money-within 999_999 ts (traded-bound d a book (t .ready .stands) (t .price)) in
+            omega (arith, few, t .ready .sound .shares, t .ready .sound .issued, t .ready .sound .most)
+
     pub entered-is :
         (rows₂ : List (List ℕ)) {p : ℕ} {rows₁ : List (List ℕ)} {rem : Remainder} {i day : Day}
         → p ≡ restAt a (best (a .side) book) (best (other (a .side)) book) (s .filled) (s .last)
@@ -199,3 +263,26 @@ module _ (d : Day) (a : Asked) (rows lent : List (List ℕ)) where
         let t' : tradesOf trades ≡ written ts (tradesOf lent) = ap tradesOf w ∙ front-written (length lent) ts lent fits in
         let d' : day ≡ tally ts (issue d) = ed ∙ ap (λ (l : List Trade). tally l i) back ∙ ap (tally ts) ei in
         cc (made, sold, at-prices)
+
+-- ---- the call
+
+module _ (d : Day) (a : Asked) (rows lent : List (List ℕ)) {n : ℕ} {after : List (List ℕ)} (r : n ≡ firstOf (orderRules d a (bookOf rows) (length lent))) (k : after ≡ lent) where
+  listed : firstOf (orderRules d a (bookOf rows) (length (tradesOf lent))) ≡ n
+  listed = ap (λ (m : ℕ). firstOf (orderRules d a (bookOf rows) m)) (length-map lent tradeOf) ∙ sym r
+
+  pub order-refused :
+      (n ≡ 0 → ⊥)
+      → left (record { reply = Refused n; made = 0; day = d }) rows after ≡ orderCall d a (bookOf rows) (tradesOf lent)
+  unfolding orderCall
+  order-refused z = rw (listed, ne-eqb n 0 z, k)
+
+  module _ (z : n ≡ 0) where
+    pub order-taken : Taken d a (bookOf rows) (length after)
+    order-taken = rw k (taken d a (bookOf rows) (length lent) (sym r ∙ z))
+
+    pub order-accepted :
+        {o : Outcome OrderAnswer}
+        → o ≡ entered d a (bookOf rows) (tradesOf after)
+        → o ≡ orderCall d a (bookOf rows) (tradesOf lent)
+    unfolding orderCall
+    order-accepted e = rw (listed, eq-eqb n 0 z) (e ∙ ap (λ (l : List (List ℕ)). entered d a (bookOf rows) (tradesOf l)) k)

@@ -1,4 +1,5 @@
 pub mod Checks
 pub mod Figures
+pub mod Moving
 pub mod Promises
 pub mod Ready

@@ -17,4 +17,5 @@ pub record Ready (d : Day) (book : List Order) : Type 0 where
 pub record Taken (d : Day) (a : Asked) (book : List Order) (room : ℕ) : Type 0 where
   pub ready : Ready d book
   pub quantity : a .quantity ≤ 1_000_000
+  pub price : a .price ≤ 999_999
   pub fits : length (entryTrades d a book) ≤ room

@@ -56,7 +56,7 @@ module _ (d : Day) (a : Asked) (book : List Order) (standing : Standing book) (p
       go false true = best-bound (a .side)
       go false false = price
 
-  traded-bound : Each (λ r. r .price ≤ 999_999) ts
+  pub traded-bound : Each (λ r. r .price ≤ 999_999) ts
   traded-bound =
       each-entry d a book (λ r. r .price ≤ 999_999)
       (each Fair (λ o. standsOn (other (a .side)) o ≡ true → (r : Trade) → Deal (taker d a book) o r → r .price ≤ 999_999) book

@@ -110,7 +110,8 @@ fn with_price(s: Swept) -> Swept
     }
 }
 
-// The trades of a taker with the `most` best prices of the other side: all are counted, and written while there is room.
+// The trades of a taker with the `most` best prices of the other side: all are counted, and written while there is room. One
+// pass over the book finds the first partner, and one more the next after each trade.
 pub fn sweep(
     rows: &[[u64; 5]],
     trades: &mut [[u64; 4]],
@@ -132,12 +133,12 @@ pub fn sweep(
     };
     let mut left = quantity;
     let mut after: u64 = 0;
+    let mut next = partner(rows, t, left, after);
     'prices: while s.levels < most {
-        let first = partner(rows, t, left, after);
         let Next::At {
             order: best,
             key: _,
-        } = first
+        } = next
         else {
             break 'prices;
         };
@@ -145,7 +146,6 @@ pub fn sweep(
         s = with_price(s);
         'orders: loop {
             // Left where the quantity or the limit is spent, or nobody stands there any more.
-            let next = partner(rows, t, left, after);
             let Next::At { order, key } = next else {
                 break 'prices;
             };
@@ -157,6 +157,7 @@ pub fn sweep(
             s = with_trade(s, trade);
             left -= trade.quantity;
             after = key;
+            next = partner(rows, t, left, after);
         }
     }
     s

@@ -32,10 +32,7 @@ use Rattle.model.specs.Calls.{written, openRules, cleared, openCall, ord
 use Rattle.model.specs.ClockCall.{clockRules}
 use Rattle.model.specs.AuctionCalls.{reportAt, reportRules, listRules}
 use Rattle.model.specs.Replies.{restingOf, withdrawnOf, entryNumbers, openNumbers, orderNumbers, cancelNumbers, clockNumbers, reportNumbers, listNumbers}
-
-abbrev order : ℕ → ℕ → ℕ → ℕ → ℕ → Order
-order side account left price number =
-    record { side = side; account = account; left = left; price = price; number = number }
+use Rattle.model.proofs.Examples.{order}
 
 abbrev trade : ℕ → ℕ → ℕ → ℕ → Trade
 trade price quantity buyer seller = record { price = price; quantity = quantity; buyer = buyer; seller = seller }

@@ -24,7 +24,7 @@ use Rattle.model.specs.ClockCall.{pass, through, stuck, start, moved, cl
 use Rattle.model.specs.Replies.{restingOf, withdrawnOf, entryNumbers}
 use Rattle.model.specs.Lines.{onto, linesOf, ontoWord, wordsOf, isDigit, valueFrom, bare, numberOf, numbersOf, commandOf, wordsCommand, lineCommand, digits, spaced, reply, refusalLine, tradeLines, openLine, clockLine, orderLine, cancelLine, Line}
 use Rattle.model.specs.Session.{lentPlaces, lentTrades, opened, openAnswer, clockAnswer, orderAnswer, cancelAnswer, onDesk, answer, answers, Desk, Answered, session}
-use Rattle.model.proofs.Texts.{bytes}
+use Rattle.model.proofs.Examples.{bytes, order, untraded}
 
 -- ---- how a table is read
 
@@ -55,15 +55,6 @@ abbrev expected : List Exchange → List (List ℕ)
 expected es = map (λ e. bytes (e .replied ++ "\n")) es
 
 -- ---- desks
-
-abbrev order : ℕ → ℕ → ℕ → ℕ → ℕ → Order
-order side account left price number =
-    record { side = side; account = account; left = left; price = price; number = number }
-
--- a day on which nothing has traded: close, mark, time, numbers issued
-abbrev untraded : ℕ → ℕ → ℕ → ℕ → Day
-untraded close mark time issued =
-    record { close = close; limited = mark; time = time; issued = issued; shares = 0; turnover = 0; first = 0; last = 0 }
 
 abbrev desk : Day → List Order → Option Desk
 desk d book = some (record { day = d; book = book })

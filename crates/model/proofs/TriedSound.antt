@@ -12,6 +12,7 @@ use Rattle.model.specs.Book.{free, isLive, standsOn, better, ahead, inse
 use Rattle.model.specs.Limits.{isPrice, inBand}
 use Rattle.model.specs.Sound.{hasPlaces, isMark, mayStand, soundFigures, isFree, isOrder, ownNumbers, isEmpty, crosses, between, sharesFit, pricesFit, turnoverFits, sound}
 use Rattle.model.specs.Refusals.{unsound}
+use Rattle.model.proofs.Examples.{order, untraded}
 
 pub record Case : Type 0 where
   pub day : Day
@@ -24,25 +25,16 @@ good d book = record { day = d; book = book; unsound = false }
 abbrev bad : Day → List Order → Case
 bad d book = record { day = d; book = book; unsound = true }
 
-abbrev order : ℕ → ℕ → ℕ → ℕ → ℕ → Order
-order side account left price number =
-    record { side = side; account = account; left = left; price = price; number = number }
-
--- a day on which nothing has traded: close, mark, time, numbers issued
-abbrev quiet : ℕ → ℕ → ℕ → ℕ → Day
-quiet close mark time issued =
-    record { close = close; limited = mark; time = time; issued = issued; shares = 0; turnover = 0; first = 0; last = 0 }
-
 -- a day in continuous trading that has traded: numbers issued, shares, turnover, first, last
 abbrev busy : ℕ → ℕ → ℕ → ℕ → ℕ → Day
 busy issued shares turnover first last =
     record { close = 1000; limited = 1; time = 34_200; issued = issued; shares = shares; turnover = turnover; first = first; last = last }
 
 abbrev noon : Day
-noon = quiet 1000 1 41_400 9
+noon = untraded 1000 1 41_400 9
 
 abbrev unlimited : Day
-unlimited = quiet 1000 0 41_400 9
+unlimited = untraded 1000 0 41_400 9
 
 -- a book of one order, and one whose buy and sell cross
 abbrev one : List Order
@@ -63,16 +55,16 @@ places =
 -- close, mark, time, numbers issued
 abbrev figures : List Case
 figures =
-    bad (quiet 0 1 0 0) (free ∷ [])
-    ∷ good (quiet 1 1 0 0) (free ∷ [])
-    ∷ good (quiet 999_999 1 0 0) (free ∷ [])
-    ∷ bad (quiet 1_000_000 1 0 0) (free ∷ [])
-    ∷ good (quiet 1000 0 0 0) (free ∷ [])
-    ∷ bad (quiet 1000 2 0 0) (free ∷ [])
-    ∷ good (quiet 1000 1 86_399 0) (free ∷ [])
-    ∷ bad (quiet 1000 1 86_400 0) (free ∷ [])
-    ∷ good (quiet 1000 1 0 999_999) (free ∷ [])
-    ∷ bad (quiet 1000 1 0 1_000_000) (free ∷ [])
+    bad (untraded 0 1 0 0) (free ∷ [])
+    ∷ good (untraded 1 1 0 0) (free ∷ [])
+    ∷ good (untraded 999_999 1 0 0) (free ∷ [])
+    ∷ bad (untraded 1_000_000 1 0 0) (free ∷ [])
+    ∷ good (untraded 1000 0 0 0) (free ∷ [])
+    ∷ bad (untraded 1000 2 0 0) (free ∷ [])
+    ∷ good (untraded 1000 1 86_399 0) (free ∷ [])
+    ∷ bad (untraded 1000 1 86_400 0) (free ∷ [])
+    ∷ good (untraded 1000 1 0 999_999) (free ∷ [])
+    ∷ bad (untraded 1000 1 0 1_000_000) (free ∷ [])
     ∷ []
 
 -- a resting order: side, account, shares, price, number; a free place is all zeros
@@ -113,19 +105,19 @@ numbers =
 -- book empty before 33,300 and from 54,000
 abbrev hours : List Case
 hours =
-    bad (quiet 1000 1 33_299 9) one
-    ∷ good (quiet 1000 1 33_300 9) one
-    ∷ good (quiet 1000 1 53_999 9) one
-    ∷ bad (quiet 1000 1 54_000 9) one
+    bad (untraded 1000 1 33_299 9) one
+    ∷ good (untraded 1000 1 33_300 9) one
+    ∷ good (untraded 1000 1 53_999 9) one
+    ∷ bad (untraded 1000 1 54_000 9) one
     ∷ []
 
 -- best buy below best sell from 33,900 to 53,819
 abbrev crossings : List Case
 crossings =
-    good (quiet 1000 1 33_899 9) crossing
-    ∷ bad (quiet 1000 1 33_900 9) crossing
-    ∷ bad (quiet 1000 1 53_819 9) crossing
-    ∷ good (quiet 1000 1 53_820 9) crossing
+    good (untraded 1000 1 33_899 9) crossing
+    ∷ bad (untraded 1000 1 33_900 9) crossing
+    ∷ bad (untraded 1000 1 53_819 9) crossing
+    ∷ good (untraded 1000 1 53_820 9) crossing
     ∷ good noon (order 0 5 100 999 1 ∷ order 1 6 100 1000 2 ∷ [])
     ∷ bad noon (order 0 5 100 980 1 ∷ order 0 5 100 1001 3 ∷ order 1 6 100 1000 2 ∷ [])
     ∷ []

@@ -23,7 +23,7 @@ use Rattle.model.specs.ClockCall.{auctionPrice, auctionTrades}
 use Rattle.book.specs.Standing.{Each, Standing}
 use Rattle.book.proofs.Kept.{standing-settle}
 use Rattle.auction.specs.Rule.{Qualifies}
-use Rattle.auction.proofs.Bools.{not-both, not-true-false}
+use Rattle.model.proofs.Bools.{not-both, not-true-false}
 use Rattle.auction.proofs.Sides.{supply-bottom}
 use Rattle.auction.proofs.Conditions.{volume-is}
 use Rattle.auction.proofs.Crossing.{crosses-told, told-crosses, demand-best, supply-best, best-demand, best-supply}

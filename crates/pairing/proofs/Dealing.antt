@@ -19,7 +19,7 @@ use Rattle.book.specs.Writing.{put, puts, front}
 use Rattle.book.proofs.Lists.{each, length-keep}
 use Rattle.book.proofs.Queues.{Stands, on-live, queue-stands, queue-rising, queue-length, total-queue, beyond-all}
 use Rattle.book.proofs.Written.{length-put, puts-none, puts-one, puts-front}
-use Rattle.auction.proofs.Bools.{and-left}
+use Rattle.model.proofs.Bools.{and-left}
 use Rattle.auction.proofs.Sums.{shares-le}
 use Rattle.auction.proofs.Conditions.{volume-is}
 use Rattle.pairing.specs.declared.Head.{Head}

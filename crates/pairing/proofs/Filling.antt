@@ -1,7 +1,7 @@
 -- Each order is filled what its side, cut to the volume, grants it: never more than it has, and together the volume.
 use Prim.Native.Nat.{ℕ, _+_, _-_, _≤_, min}
 use mathlib.Core.Path.{_≡_, refl, sym, ap, _∙_}
-use mathlib.Core.Bool.{Bool, true, false, _&&_}
+use mathlib.Core.Bool.{Bool, true, false, _&&_, and-false}
 use mathlib.Core.List.{List, [], _∷_}
 use native.Mathlib.Decide.{decLt}
 use native.Mathlib.Omega.{arith}
@@ -40,10 +40,6 @@ kept-none f t = refl
 off : (side other : ℕ) (o : Order) → o .side ≡ side → (side ≡ other → ⊥) → standsOn other o ≡ false
 unfolding standsOn
 off side other o e d = rw (ne-eqb (o .side) other (λ f. d (sym e ∙ f))) (and-false (isLive o))
-  where
-    and-false : (b : Bool) → b && false ≡ false
-    and-false true = refl
-    and-false false = refl
 
 -- a sum over those that a test keeps
 pub total-kept :

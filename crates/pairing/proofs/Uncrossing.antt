@@ -24,7 +24,7 @@ use Rattle.book.proofs.Best.{Ordered, queue-ordered}
 use Rattle.book.proofs.Kept.{standing-settle}
 use Rattle.auction.specs.Interest.{tradesFor, brings, interest}
 use Rattle.auction.specs.Rule.{Qualifies}
-use Rattle.auction.proofs.Bools.{not-both, not-true-false}
+use Rattle.model.proofs.Bools.{not-both, not-true-false}
 use Rattle.auction.proofs.Sides.{interest-next, interest-end, interest-buys, interest-sells, demand-falls, supply-rises}
 use Rattle.auction.proofs.Conditions.{volume-is, qualifies-clears}
 use Rattle.auction.proofs.Crossing.{ahead-meets, crosses-told, best-demand, best-supply}

@@ -7,11 +7,7 @@ use Rattle.model.specs.declared.Order.{Order}
 use Rattle.model.specs.declared.Day.{Day}
 use Rattle.model.specs.Lists.{total}
 use Rattle.model.specs.Book.{free, best}
-use Rattle.book.specs.Standing.{Each, Apart}
-
-pub record Price (p : ℕ) : Type 0 where
-  pub low : 1 ≤ p
-  pub high : p ≤ 999_999
+use Rattle.book.specs.Standing.{Price, Each, Apart}
 
 pub record InBand (close p : ℕ) : Type 0 where
   pub low : 70 * close ≤ 100 * p

@@ -1,0 +1,107 @@
+-- One auction, as the code holds it: its trades, what it is refused for, that the day's figures have room for it, and what it
+-- comes to. Assumes nothing.
+use Prim.Native.Nat.{ℕ, _+_, _*_, _^_, _≤_, _<_}
+use mathlib.Core.Path.{_≡_, sym, ap, _∙_}
+use mathlib.Core.Logic.{⊎-elim}
+use mathlib.Core.Bool.{true, false}
+use mathlib.Core.List.{List}
+use native.Mathlib.Nat.{mul-le-mul-right}
+use native.Mathlib.Omega.{arith}
+use lib.ListN.{length, take, getD}
+use borrow.Author.Tests.{lt-ltb, le-ltb}
+use Rattle.model.specs.declared.Order.{Order}
+use Rattle.model.specs.declared.Trade.{Trade}
+use Rattle.model.specs.declared.Day.{Day}
+use Rattle.model.specs.Matching.{filled, settle}
+use Rattle.model.specs.Figures.{money, tally, reference}
+use Rattle.model.specs.Auction.{leftBy}
+use Rattle.model.specs.Pairing.{tradesAt}
+use Rattle.model.specs.Refusals.{_when_, firstOf}
+use Rattle.model.specs.Calls.{written}
+use Rattle.model.specs.ClockCall.{auctionPrice, auctionTrades, undecided, hold, start}
+use Rattle.model.proofs.Rules.{hit, skip}
+use Rattle.book.specs.Rows.{bookOf, rowsOf, tradesOf, tradeRows}
+use Rattle.book.specs.Standing.{Standing}
+use Rattle.book.specs.Writing.{front}
+use Rattle.book.proofs.Memory.{book-rows}
+use Rattle.book.proofs.Written.{front-trades, front-written}
+use Rattle.pairing.proofs.Auctions.{auction-trades-are, auction-money, auction-shares, auction-cases}
+use Rattle.day.specs.Promises.{left}
+use Rattle.day.specs.Ready.{Ready}
+use Rattle.day.specs.Moving.{auctioned, auctionRules, reached}
+use Rattle.day.proofs.AuctionLaws.{price-found}
+
+-- ---- its trades
+
+module _ (d : Day) (book : List Order) (s : Standing book) {r p : ℕ} (er : r ≡ reference d) (ep : p ≡ getD (leftBy book r) 0 0) where
+  pub trades-found : tradesAt p book ≡ auctionTrades d book
+  trades-found = ap (λ (q : ℕ). tradesAt q book) (price-found d book er ep) ∙ sym (auction-trades-are book s d)
+
+-- ---- what it is refused for
+
+module _ (d : Day) (book : List Order) (room : ℕ) where
+  pub auction-undecided : undecided d book ≡ true → 18 ≡ firstOf (auctionRules d book room)
+  unfolding auctionRules
+  auction-undecided u = sym (hit 18 _ u)
+
+  module _ (u : undecided d book ≡ false) where
+    pub auction-room : room < length (auctionTrades d book) → 13 ≡ firstOf (auctionRules d book room)
+    unfolding auctionRules
+    auction-room h = sym (skip 18 _ u ∙ hit 13 _ (lt-ltb room (length (auctionTrades d book)) h))
+
+    pub auction-none : length (auctionTrades d book) ≤ room → 0 ≡ firstOf (auctionRules d book room)
+    unfolding auctionRules firstOf _when_
+    auction-none h = rw (u, le-ltb room (length (auctionTrades d book)) h)
+
+-- ---- room in the day's figures
+
+module _ (d : Day) (book : List Order) (r : Ready d book) where
+  -- each share traded was bought and sold, out of at most 1,000,000 for each number
+  shares-room : 2 * (d .shares + filled (auctionTrades d book)) ≤ 1_000_000 * 999_999
+  shares-room = omega (arith, r .sound .shares, r .sound .issued, auction-shares book (r .stands) d)
+
+  price-room : auctionPrice d book ≤ 999_999
+  price-room = ⊎-elim (λ k. k .qualifies .price .high) (λ k. omega (arith, k .0)) (auction-cases book (r .stands) d)
+
+  money-room : money (auctionTrades d book) ≤ 999_999 * filled (auctionTrades d book)
+  money-room =
+      omega (arith, auction-money book (r .stands) d, mul-le-mul-right (filled (auctionTrades d book)) price-room)
+
+  pub figures-fit :
+      (d .shares + filled (auctionTrades d book) < 2 ^ 64) × (d .turnover + money (auctionTrades d book) < 2 ^ 64)
+  figures-fit = (omega (arith, shares-room), omega (arith, shares-room, money-room, r .sound .most))
+
+-- ---- what it comes to
+
+module _ (d : Day) (rows lent : List (List ℕ)) where
+  abbrev book : List Order
+  book = bookOf rows
+
+  abbrev ts : List Trade
+  ts = auctionTrades d book
+
+  module _ (fits : length ts ≤ length lent) {n : ℕ} {after : List (List ℕ)} (en : n ≡ length ts) (ea : after ≡ front (length lent) (tradeRows ts) lent) where
+    -- the trades are read back from the list
+    back : tradesOf (take n after) ≡ ts
+    back =
+        ap (λ (k : ℕ). tradesOf (take k after)) en
+        ∙ ap (λ (l : List (List ℕ)). tradesOf (take (length ts) l)) ea
+        ∙ front-trades (length lent) ts lent fits
+
+    pub held-fits :
+        Ready d book
+        → (d .shares + filled (tradesOf (take n after)) < 2 ^ 64) × (d .turnover + money (tradesOf (take n after)) < 2 ^ 64)
+    held-fits r = rw back (figures-fit d book r)
+
+    pub auction-held :
+        {rows₂ : List (List ℕ)} {day : Day}
+        → rows₂ ≡ rowsOf (settle (tradesOf (take n after)) book)
+        → day ≡ tally (tradesOf (take n after)) d
+        → left (record { day = day; made = n }) rows₂ after ≡ reached (auctioned false (start d book)) (tradesOf lent)
+    unfolding reached auctioned hold start
+    auction-held {rows₂} {day} er ed =
+        let b : bookOf rows₂ ≡ settle ts book =
+        ap bookOf er ∙ book-rows _ ∙ ap (λ (l : List Trade). settle l book) back in
+        let t : tradesOf after ≡ written ts (tradesOf lent) = ap tradesOf ea ∙ front-written (length lent) ts lent fits in
+        let f : day ≡ tally ts d = ed ∙ ap (λ (l : List Trade). tally l d) back in
+        rw (b, t, f, en)

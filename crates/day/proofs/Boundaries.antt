@@ -1,0 +1,248 @@
+-- The boundaries that a move of the clock passes: whatever they are, one auction and one lapse do what the definitions do one
+-- boundary after the other, and no auction on the way is undecided. Assumes nothing.
+use Prim.Native.Nat.{ℕ, _+_, _≤_, _<_}
+use mathlib.Core.Path.{_≡_, refl, sym, ap, _∙_}
+use mathlib.Core.Bool.{Bool, true, false, cond, _&&_, _||_}
+use mathlib.Core.List.{List, [], _∷_, _++_, append-nil}
+use lib.ListN.{length, drop, getD, drop-of-length-le}
+use lib.Seq.{drop-cons}
+use lib.Dec.{leb}
+use borrow.Author.Tests.{le-ltb, lt-ltb}
+use native.Mathlib.Decide.{ℕ-discrete}
+use native.Mathlib.Numerals.{add-one}
+use native.Mathlib.Omega.{arith}
+use Rattle.model.specs.declared.Order.{Order}
+use Rattle.model.specs.declared.Trade.{Trade}
+use Rattle.model.specs.declared.Day.{Day}
+use Rattle.model.specs.declared.Boundary.{Boundary}
+use Rattle.model.specs.Clock.{passes, boundaries}
+use Rattle.model.specs.Book.{free, standsOn}
+use Rattle.model.specs.Matching.{filledOf, lessBy, settle}
+use Rattle.model.specs.Figures.{tally, reference}
+use Rattle.model.specs.Sound.{crosses}
+use Rattle.model.specs.Calls.{cleared}
+use Rattle.model.specs.ClockCall.{auctionPrice, auctionTrades, Held, hold, pass, through, stuck, start, moved}
+use Rattle.book.specs.Standing.{Each, Fair, Standing}
+use Rattle.book.proofs.Lists.{each}
+use Rattle.book.proofs.Kept.{free-number, standing-settle, standing-cleared}
+use Rattle.book.proofs.Queues.{on-live}
+use Rattle.book.proofs.Settlements.{filled-none, less-gone, less-some}
+use Rattle.book.proofs.Crossing.{SellsAbove, not-crossed}
+use Rattle.auction.proofs.Rules.{never-undecided, none-left-over}
+use Rattle.pairing.proofs.Auctions.{auction-uncrosses}
+use Rattle.day.specs.declared.Passed.{Passed}
+use Rattle.day.specs.declared.Passed.the-variants.{Nothing, Auction, Lapse}
+use Rattle.day.specs.Moving.{andThen, passedBy, passed, auctioned, past}
+use Rattle.day.proofs.Tallies.{tally-zero}
+
+-- ---- no trades change nothing
+
+less-nothing : (o : Order) → Fair o → lessBy 0 o ≡ o
+less-nothing o f = elim (ℕ-discrete (o .left) 0) [
+  | yes z ↦ sym (less-gone 0 (o .left) o o (omega arith) z (f .none (gone z)))
+  | no n ↦ sym (less-some 0 (o .left) o (omega arith) n)
+]
+  where
+    gone : o .left ≡ 0 → o .number ≡ 0
+    gone z = elim (ℕ-discrete (o .number) 0) [
+      | yes y ↦ y
+      | no y ↦ absurd (omega (arith, f .some y))
+    ]
+
+settle-none : (book : List Order) → Each Fair book → settle [] book ≡ book
+unfolding settle
+settle-none [] f = refl
+settle-none (o ∷ os) f =
+    let h : lessBy (filledOf (o .number) []) o ≡ o =
+    ap (λ (q : ℕ). lessBy q o) (filled-none (o .number)) ∙ less-nothing o (f .0) in
+    let t : settle [] os ≡ os = settle-none os (f .1) in
+    cc
+
+-- ---- a book that is cleared
+
+cleared-twice : (book : List Order) → cleared (cleared book) ≡ cleared book
+unfolding cleared
+cleared-twice [] = refl
+cleared-twice (o ∷ os) = ap (λ (l : List Order). free ∷ l) (cleared-twice os)
+
+cleared-stands : (book : List Order) → Standing book → Standing (cleared book)
+cleared-stands book s = standing-cleared book (s .few)
+
+all-free : (os : List Order) → Each (λ o. o ≡ free) (cleared os)
+unfolding cleared
+all-free [] = tt
+all-free (o ∷ os) = (refl, all-free os)
+
+-- no buy stands in it
+cleared-uncrossed : (book : List Order) → crosses (cleared book) ≡ false
+cleared-uncrossed book =
+    not-crossed (cleared book)
+    (each (λ o. o ≡ free) (λ b. standsOn 0 b ≡ true → SellsAbove (b .price) (cleared book)) (cleared book)
+    (λ o f t. absurd (on-live 0 o t (ap (λ (x : Order). x .number) f ∙ free-number))) (all-free book))
+
+-- ---- where no buy reaches a sell there is nothing to trade
+
+record Quiet (h : Held) : Type 0 where
+  stands : Standing (h .book)
+  apart : crosses (h .book) ≡ false
+
+no-trades : (d : Day) (book : List Order) → Standing book → crosses book ≡ false → auctionTrades d book ≡ []
+unfolding auctionTrades auctionPrice
+no-trades d book s c = rw (none-left-over book s c (reference d))
+
+-- with every place cleared, or as it is
+abbrev lapsed : Bool → Held → Held
+lapsed lapse h = record { day = h .day; book = cond lapse (cleared (h .book)) (h .book); trades = h .trades }
+
+hold-quiet : (b : Boundary) (h : Held) → Quiet h → hold b h ≡ lapsed (b .lapse) h
+unfolding hold
+hold-quiet b h q =
+    let none : auctionTrades (h .day) (h .book) ≡ [] = no-trades (h .day) (h .book) (q .stands) (q .apart) in
+    let day : tally (auctionTrades (h .day) (h .book)) (h .day) ≡ h .day =
+    ap (λ (ts : List Trade). tally ts (h .day)) none ∙ sym (tally-zero (h .day) [] 0 refl) in
+    let book : settle (auctionTrades (h .day) (h .book)) (h .book) ≡ h .book =
+    ap (λ (ts : List Trade). settle ts (h .book)) none ∙ settle-none (h .book) (q .stands .fair) in
+    let trades : h .trades ++ auctionTrades (h .day) (h .book) ≡ h .trades =
+    ap (λ (ts : List Trade). h .trades ++ ts) none ∙ append-nil (h .trades) in
+    rw (day, book, trades)
+
+-- so it is after any auction
+quiet-hold : (b : Boundary) (h : Held) → Standing (h .book) → Quiet (hold b h)
+unfolding hold
+quiet-hold b h s = go (b .lapse)
+  where
+    ts : List Trade
+    ts = auctionTrades (h .day) (h .book)
+
+    go : (lapse : Bool) → Quiet (record { day = tally ts (h .day); book = cond lapse (cleared (settle ts (h .book))) (settle ts (h .book)); trades = h .trades ++ ts })
+    go true =
+        record {
+          stands = cleared-stands (settle ts (h .book)) (standing-settle ts (h .book) s);
+          apart = cleared-uncrossed (settle ts (h .book));
+        }
+    go false = record { stands = standing-settle ts (h .book) s; apart = auction-uncrosses (h .book) s (h .day) }
+
+quiet-auctioned : (c : Bool) (h : Held) → Standing (h .book) → Quiet (auctioned c h)
+unfolding auctioned
+quiet-auctioned c h s = quiet-hold _ h s
+
+-- ---- a boundary more
+
+lapsed-again : (l c : Bool) (h : Held) → lapsed l (auctioned c h) ≡ auctioned (c || l) h
+unfolding auctioned hold
+lapsed-again false false h = refl
+lapsed-again false true h = refl
+lapsed-again true false h = refl
+lapsed-again true true h = rw cleared-twice
+
+hold-again : (b : Boundary) (c : Bool) (h : Held) → Standing (h .book) → hold b (auctioned c h) ≡ auctioned (c || b .lapse) h
+hold-again b c h s = hold-quiet b (auctioned c h) (quiet-auctioned c h s) ∙ lapsed-again (b .lapse) c h
+
+hold-first : (b : Boundary) (h : Held) → hold b h ≡ auctioned (b .lapse) h
+unfolding auctioned hold
+hold-first b h = refl
+
+abbrev hasLapsed : Passed → Bool
+hasLapsed Nothing = false
+hasLapsed Auction = false
+hasLapsed Lapse = true
+
+past-then : (l : Bool) (p : Passed) (h : Held) → auctioned (hasLapsed p || l) h ≡ past (andThen l p) h
+unfolding past andThen
+past-then true Nothing h = refl
+past-then true Auction h = refl
+past-then true Lapse h = refl
+past-then false Nothing h = refl
+past-then false Auction h = refl
+past-then false Lapse h = refl
+
+hold-past : (b : Boundary) (p : Passed) (h : Held) → Standing (h .book) → hold b (past p h) ≡ past (andThen (b .lapse) p) h
+unfolding past
+hold-past b Nothing h s = hold-first b h ∙ past-then (b .lapse) Nothing h
+hold-past b Auction h s = hold-again b false h s ∙ past-then (b .lapse) Auction h
+hold-past b Lapse h s = hold-again b true h s ∙ past-then (b .lapse) Lapse h
+
+-- ---- all of them
+
+module _ (old new : ℕ) where
+  one-more : (b : Boundary) (p : Passed) (h : Held) → Standing (h .book) → pass old new b (past p h) ≡ past (passedBy old new b p) h
+  unfolding pass passedBy
+  one-more b p h s = go (passes (b .second) old new)
+    where
+      go : (t : Bool) → cond t (hold b (past p h)) (past p h) ≡ past (cond t (andThen (b .lapse) p) p) h
+      go true = hold-past b p h s
+      go false = refl
+
+  through-past : (bs : List Boundary) (p : Passed) (h : Held) → Standing (h .book) → through old new bs (past p h) ≡ past (passed old new bs p) h
+  unfolding through passed
+  through-past [] p h s = refl
+  through-past (b ∷ bs) p h s = ap (through old new bs) (one-more b p h s) ∙ through-past bs (passedBy old new b p) h s
+
+  -- no auction on the way is undecided
+  never-stuck : (bs : List Boundary) (h : Held) → Standing (h .book) → stuck old new bs h ≡ false
+  unfolding stuck pass
+  never-stuck [] h s = refl
+  never-stuck (b ∷ bs) h s = rw (never-undecided (h .book) s (h .day)) (go (passes (b .second) old new) (λ k. never-stuck bs k))
+    where
+      go :
+          (t : Bool)
+          → ((k : Held) → Standing (k .book) → stuck old new bs k ≡ false)
+          → ((t && false) || stuck old new bs (cond t (hold b h) h)) ≡ false
+      go true more = more (hold b h) (quiet-hold b h s .stands)
+      go false more = more h s
+
+module _ (d : Day) (t : ℕ) (book : List Order) (s : Standing book) where
+  pub moved-past : moved d t book ≡ past (passed (d .time) t boundaries Nothing) (start d book)
+  unfolding moved past start
+  moved-past = through-past (d .time) t boundaries Nothing (start d book) s
+
+  pub not-stuck : stuck (d .time) t boundaries (start d book) ≡ false
+  unfolding start
+  not-stuck = never-stuck (d .time) t boundaries (start d book) s
+
+-- ---- what is passed, as the code finds it
+
+module _ (second old new : ℕ) where
+  pub not-below : second ≤ old → false ≡ passes second old new
+  unfolding passes
+  not-below h = rw (le-ltb old second h)
+
+  pub from-below : old < second → leb second new ≡ passes second old new
+  unfolding passes
+  from-below h = rw (lt-ltb old second h)
+
+module _ (old new : ℕ) where
+  module _ (b : Boundary) (p : Passed) where
+    pub not-passed : passes (b .second) old new ≡ false → p ≡ passedBy old new b p
+    unfolding passedBy
+    not-passed e = rw e
+
+    module _ (e : passes (b .second) old new ≡ true) where
+      pub lapse-passed : b .lapse ≡ true → Lapse ≡ passedBy old new b p
+      unfolding passedBy andThen
+      lapse-passed l = rw (e, l)
+
+      module _ (l : b .lapse ≡ false) where
+        pub first-passed : p ≡ Nothing → Auction ≡ passedBy old new b p
+        unfolding passedBy andThen
+        first-passed f = rw (e, l, f)
+
+        pub later-passed : p ≡ Auction → Auction ≡ passedBy old new b p
+        unfolding passedBy andThen
+        later-passed f = rw (e, l, f)
+
+        pub still-lapsed : p ≡ Lapse → Lapse ≡ passedBy old new b p
+        unfolding passedBy andThen
+        still-lapsed f = rw (e, l, f)
+
+  pub passed-next :
+      (bs : List Boundary) (b : Boundary) (n : ℕ) (p : Passed) {q : Passed}
+      → n < length bs
+      → q ≡ passedBy old new (getD bs n b) p
+      → passed old new (drop n bs) p ≡ passed old new (drop (n + 1) bs) q
+  unfolding passed
+  passed-next bs b n p h e = rw (drop-cons bs n b h, passed, add-one, e)
+
+  pub passed-all : (bs : List Boundary) (n : ℕ) (p : Passed) → length bs ≤ n → passed old new (drop n bs) p ≡ p
+  unfolding passed
+  passed-all bs n p h = rw (drop-of-length-le bs h)

@@ -1,0 +1,136 @@
+-- No two differing outcomes meet a call's promise: reply, day, and every place of lent memory. A row of memory has its five
+-- or four numbers; that is all that is asked of the rows. Assumes nothing.
+use Prim.Native.Nat.{ℕ}
+use mathlib.Core.Path.{_≡_, refl, sym, ap, _∙_}
+use mathlib.Core.List.{List, [], _∷_}
+use native.Mathlib.Omega.{arith}
+use lib.ListN.{length}
+use Rattle.model.specs.declared.Order.{Order}
+use Rattle.model.specs.declared.Asked.{Asked}
+use Rattle.model.specs.declared.Trade.{Trade}
+use Rattle.model.specs.declared.Day.{Day}
+use Rattle.model.specs.declared.OpenReply.{OpenReply}
+use Rattle.model.specs.declared.OrderAnswer.{OrderAnswer}
+use Rattle.model.specs.declared.ClockAnswer.{ClockAnswer}
+use Rattle.model.specs.declared.CancelReply.{CancelReply}
+use Rattle.model.specs.declared.ReportReply.{ReportReply}
+use Rattle.model.specs.declared.ListReply.{ListReply}
+use Rattle.model.specs.Calls.{Outcome, OpenOutcome, CancelOutcome, openCall, orderCall, cancelCall}
+use Rattle.model.specs.ClockCall.{clockCall}
+use Rattle.model.specs.AuctionCalls.{ListOutcome, reportCall, listCall}
+use Rattle.book.specs.Rows.{orderOf, rowOf, bookOf, rowsOf, tradeOf, tradeRow, tradesOf, tradeRows}
+use Rattle.book.specs.Standing.{Each}
+use Rattle.day.specs.Promises.{openLeft, left, cancelLeft, listLeft}
+
+-- ---- rows are determined by what they say
+
+five : (r : List ℕ) → length r ≡ 5 → rowOf (orderOf r) ≡ r
+five [] h = absurd (omega arith)
+five (a ∷ []) h = absurd (omega arith)
+five (a ∷ b ∷ []) h = absurd (omega arith)
+five (a ∷ b ∷ c ∷ []) h = absurd (omega arith)
+five (a ∷ b ∷ c ∷ d ∷ []) h = absurd (omega arith)
+five (a ∷ b ∷ c ∷ d ∷ e ∷ []) h = refl
+five (a ∷ b ∷ c ∷ d ∷ e ∷ f ∷ r) h = absurd (omega arith)
+
+four : (r : List ℕ) → length r ≡ 4 → tradeRow (tradeOf r) ≡ r
+four [] h = absurd (omega arith)
+four (a ∷ []) h = absurd (omega arith)
+four (a ∷ b ∷ []) h = absurd (omega arith)
+four (a ∷ b ∷ c ∷ []) h = absurd (omega arith)
+four (a ∷ b ∷ c ∷ d ∷ []) h = refl
+four (a ∷ b ∷ c ∷ d ∷ e ∷ r) h = absurd (omega arith)
+
+abbrev pub Places : List (List ℕ) → Type 0
+Places rows = Each (λ r. length r ≡ 5) rows
+
+abbrev pub Trades : List (List ℕ) → Type 0
+Trades rows = Each (λ r. length r ≡ 4) rows
+
+places-back : (rows : List (List ℕ)) → Places rows → rowsOf (bookOf rows) ≡ rows
+places-back [] e = refl
+places-back (r ∷ rows) (h, e) =
+    ap (λ (x : List ℕ). x ∷ rowsOf (bookOf rows)) (five r h) ∙ ap (λ (l : List (List ℕ)). r ∷ l) (places-back rows e)
+
+trades-back : (rows : List (List ℕ)) → Trades rows → tradeRows (tradesOf rows) ≡ rows
+trades-back [] e = refl
+trades-back (r ∷ rows) (h, e) =
+    ap (λ (x : List ℕ). x ∷ tradeRows (tradesOf rows)) (four r h) ∙ ap (λ (l : List (List ℕ)). r ∷ l) (trades-back rows e)
+
+same-places : (m n : List (List ℕ)) → Places m → Places n → bookOf m ≡ bookOf n → m ≡ n
+same-places m n a b e = sym (places-back m a) ∙ ap rowsOf e ∙ places-back n b
+
+same-trades : (m n : List (List ℕ)) → Trades m → Trades n → tradesOf m ≡ tradesOf n → m ≡ n
+same-trades m n a b e = sym (trades-back m a) ∙ ap tradeRows e ∙ trades-back n b
+
+-- ---- the calls
+
+pub open-determined :
+    (close mark : ℕ) (before m n : List (List ℕ)) (r s : OpenReply)
+    → Places m
+    → Places n
+    → openLeft r m ≡ openCall close mark (bookOf before)
+    → openLeft s n ≡ openCall close mark (bookOf before)
+    → (r ≡ s) × (m ≡ n)
+open-determined close mark before m n r s a b e f =
+    (ap (λ (o : OpenOutcome). o .reply) (e ∙ sym f), same-places m n a b (ap (λ (o : OpenOutcome). o .book) (e ∙ sym f)))
+
+-- an order and a move of the clock leave the same kind of outcome
+trading-determined :
+    {A : Type 0} (o : Outcome A) (m n ts us : List (List ℕ)) (r s : A)
+    → Places m
+    → Places n
+    → Trades ts
+    → Trades us
+    → left r m ts ≡ o
+    → left s n us ≡ o
+    → (r ≡ s) × (m ≡ n) × (ts ≡ us)
+trading-determined {A} o m n ts us r s pm pn pt pu e f = (
+  ap (λ (x : Outcome A). x .answer) (e ∙ sym f),
+  same-places m n pm pn (ap (λ (x : Outcome A). x .book) (e ∙ sym f)),
+  same-trades ts us pt pu (ap (λ (x : Outcome A). x .trades) (e ∙ sym f)),
+)
+
+pub order-determined :
+    (d : Day) (a : Asked) (before lent m n ts us : List (List ℕ)) (r s : OrderAnswer)
+    → Places m
+    → Places n
+    → Trades ts
+    → Trades us
+    → left r m ts ≡ orderCall d a (bookOf before) (tradesOf lent)
+    → left s n us ≡ orderCall d a (bookOf before) (tradesOf lent)
+    → (r ≡ s) × (m ≡ n) × (ts ≡ us)
+order-determined d a before lent = trading-determined (orderCall d a (bookOf before) (tradesOf lent))
+
+pub clock-determined :
+    (d : Day) (time : ℕ) (before lent m n ts us : List (List ℕ)) (r s : ClockAnswer)
+    → Places m
+    → Places n
+    → Trades ts
+    → Trades us
+    → left r m ts ≡ clockCall d time (bookOf before) (tradesOf lent)
+    → left s n us ≡ clockCall d time (bookOf before) (tradesOf lent)
+    → (r ≡ s) × (m ≡ n) × (ts ≡ us)
+clock-determined d time before lent = trading-determined (clockCall d time (bookOf before) (tradesOf lent))
+
+pub cancel-determined :
+    (d : Day) (account number : ℕ) (before m n : List (List ℕ)) (r s : CancelReply)
+    → Places m
+    → Places n
+    → cancelLeft r m ≡ cancelCall d account number (bookOf before)
+    → cancelLeft s n ≡ cancelCall d account number (bookOf before)
+    → (r ≡ s) × (m ≡ n)
+cancel-determined d account number before m n r s a b e f =
+    (ap (λ (o : CancelOutcome). o .reply) (e ∙ sym f), same-places m n a b (ap (λ (o : CancelOutcome). o .book) (e ∙ sym f)))
+
+pub report-determined :
+    (d : Day) (book : List Order) (r s : ReportReply) → r ≡ reportCall d book → s ≡ reportCall d book → r ≡ s
+report-determined d book r s e f = e ∙ sym f
+
+pub list-determined :
+    (d : Day) (asked : ℕ) (book : List Order) (lent m n : List ℕ) (r s : ListReply)
+    → listLeft r m ≡ listCall d asked book lent
+    → listLeft s n ≡ listCall d asked book lent
+    → (r ≡ s) × (m ≡ n)
+list-determined d asked book lent m n r s e f =
+    (ap (λ (o : ListOutcome). o .reply) (e ∙ sym f), ap (λ (o : ListOutcome). o .prices) (e ∙ sym f))

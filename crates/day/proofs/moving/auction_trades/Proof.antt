@@ -1,0 +1,37 @@
+-- `day::moving::auction_trades` meets its contract: the pairs at the price that was found are the auction's trades. Assumes nothing.
+use mathlib.Core.Path.{ap, _∙_}
+use mathlib.Core.List.{List}
+use lib.ListN.{length}
+use Rattle.model.specs.declared.Trade.{Trade}
+use Rattle.book.specs.Rows.{bookOf, tradeRows}
+use Rattle.book.specs.Writing.{front}
+use Rattle.day.proofs.AuctionHeld.{trades-found}
+use borrow.Author.Needs.{needs}
+use Rattle.day.proofs.moving.auction_trades.Statement.{statement}
+use Rattle.day.proofs.moving.auction_trades.Tie as tie
+
+reference-of-requires : tie.Need-reference-of-requires
+reference-of-requires c κs = search needs
+
+auction-price-requires : tie.Need-auction-price-requires
+auction-price-requires c κs = search needs
+
+pair-at-requires : tie.Need-pair-at-requires
+pair-at-requires c κs = search needs
+
+same-length : tie.Need-same-length
+same-length c = search needs
+
+returns : tie.Need-returns
+returns c =
+    let s = c .before .before .before .before .before in
+    let e = c .before .pair-at .ensures in
+    let t =
+    trades-found (s .args .d) (bookOf (s .args .rows .now)) (s .pre .0) (c .before .before .before .before .reference-of .ensures)
+    (c .before .before .before .auction-price .ensures) in
+    (e .0 ∙ ap length t, e .1 ∙ ap (λ (ts : List Trade). front (s .args .room) (tradeRows ts) (s .args .trades .now)) t)
+
+pub auction-trades-spec : {M : Type 1} → statement M
+auction-trades-spec =
+    tie.close
+    (tie.spec reference-of-requires auction-price-requires pair-at-requires same-length returns)

@@ -1,0 +1,129 @@
+// An order: refused, or its trades are made, the book is settled, and what is left rests or is withdrawn.
+use crate::book_checks::book_refusal;
+use crate::checks::asked_refusal;
+use crate::figures::issued_one;
+use crate::figures::tally_trades;
+use book::priority::best_price;
+use book::settling::settle_rows;
+use clock::phase_at;
+use matching::Swept;
+use matching::entering::enter_trades;
+use matching::entering::rest_order;
+use matching::entering::rest_price;
+use matching::sweeping::other_side;
+use model::Asked;
+use model::Day;
+use model::Entry;
+use model::Order;
+use model::OrderAnswer;
+use model::OrderReply;
+use model::Remainder;
+use soundness::is_sound;
+ghost use mathlib.Core.Path.{_≡_};
+ghost use lib.ListN.{length};
+ghost use Rattle.model.specs.Book.{best, other};
+ghost use Rattle.model.specs.Refusals.{firstOf};
+ghost use Rattle.model.specs.Calls.{orderRules, ended, placed, entered, orderCall};
+ghost use Rattle.book.specs.Rows.{bookOf, tradesOf};
+ghost use Rattle.book.specs.Standing.{Standing};
+ghost use Rattle.matching.specs.Entering.{restAt};
+ghost use Rattle.day.specs.Promises.{left};
+ghost use Rattle.day.specs.Ready.{Taken};
+
+// The number of the first rule that holds, or 0. The trade list is only counted into.
+fn order_refusal(rows: &[[u64; 5]], trades: &mut [[u64; 4]], d: Day, a: Asked) -> u64
+    ensures { λ r. ⌜ (r ≡ firstOf (orderRules d a (bookOf (now (rows .entry))) (length (now (trades .entry))))) × (now (trades .exit) ≡ now (trades .entry)) ⌝ }
+{
+    if !is_sound(d, rows) {
+        return 15;
+    }
+    let asked = asked_refusal(d, a);
+    if asked != 0 {
+        return asked;
+    }
+    let phase = phase_at(d.time);
+    book_refusal(rows, &mut *trades, d, phase, a)
+}
+
+// The price at which what is left rests, 0 where it is withdrawn, from the best prices on entry.
+fn price_of_rest(rows: &[[u64; 5]], a: Asked, s: Swept) -> u64
+    requires { ⌜ Standing (bookOf (now rows)) ⌝ }
+    ensures { λ r. ⌜ r ≡ restAt a (best (a .side) (bookOf (now (rows .entry)))) (best (other (a .side)) (bookOf (now (rows .entry)))) (s .filled) (s .last) ⌝ }
+{
+    let own = best_price(rows, a.side);
+    let opposite = best_price(rows, other_side(a.side));
+    rest_price(a, own, opposite, s)
+}
+
+// How q shares that are left end, where p is the price at which they rest, or 0.
+fn remainder_of(q: u64, p: u64) -> Remainder
+    ensures { λ r. ⌜ r ≡ ended q p ⌝ }
+{
+    if q == 0 {
+        return Remainder::Nothing;
+    }
+    if p == 0 {
+        return Remainder::Withdrawn(q);
+    }
+    Remainder::Rests(q)
+}
+
+// And the book then.
+fn place_rest(rows: &mut [[u64; 5]], a: Asked, number: u64, q: u64, p: u64)
+    ensures { λ _. ⌜ bookOf (now (rows .exit)) ≡ placed a number q p (bookOf (now (rows .entry))) ⌝ }
+{
+    if q == 0 {
+        return;
+    }
+    if p == 0 {
+        return;
+    }
+    let o = Order {
+        side: a.side,
+        account: a.account,
+        left: q,
+        price: p,
+        number,
+    };
+    rest_order(&mut *rows, o);
+}
+
+// An order that is not refused.
+fn enter(rows: &mut [[u64; 5]], trades: &mut [[u64; 4]], d: Day, a: Asked) -> OrderAnswer
+    requires { ⌜ Taken d a (bookOf (now rows)) (length (now trades)) ⌝ }
+    ensures { λ r. ⌜ left r (now (rows .exit)) (now (trades .exit)) ≡ entered d a (bookOf (now (rows .entry))) (tradesOf (now (trades .entry))) ⌝ }
+{
+    let room = trades.len();
+    let phase = phase_at(d.time);
+    let s = enter_trades(rows, &mut *trades, room, d, phase, a);
+    let q = a.quantity - s.filled;
+    let p = price_of_rest(rows, a, s);
+    settle_rows(&mut *rows, trades, s.trades);
+    place_rest(&mut *rows, a, d.issued + 1, q, p);
+    let next = tally_trades(issued_one(d), trades, s.trades);
+    let entry = Entry {
+        number: d.issued + 1,
+        filled: s.filled,
+        levels: s.levels,
+        remainder: remainder_of(q, p),
+    };
+    OrderAnswer {
+        reply: OrderReply::Accepted(entry),
+        made: s.trades,
+        day: next,
+    }
+}
+
+pub fn enter_order(d: Day, a: Asked, rows: &mut [[u64; 5]], trades: &mut [[u64; 4]]) -> OrderAnswer
+    ensures { λ r. ⌜ left r (now (rows .exit)) (now (trades .exit)) ≡ orderCall d a (bookOf (now (rows .entry))) (tradesOf (now (trades .entry))) ⌝ }
+{
+    let refusal = order_refusal(rows, &mut *trades, d, a);
+    if refusal != 0 {
+        return OrderAnswer {
+            reply: OrderReply::Refused(refusal),
+            made: 0,
+            day: d,
+        };
+    }
+    enter(&mut *rows, &mut *trades, d, a)
+}

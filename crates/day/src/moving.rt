@@ -1,0 +1,188 @@
+// A move of the clock: what it passes on the way, and what that does to day, book and trade list.
+use crate::Passage;
+use crate::Passed;
+use crate::auctions::is_undecided;
+use crate::figures::day_at;
+use crate::figures::reference_of;
+use crate::figures::tally_trades;
+use auction::price::auction_price;
+use book::settling::clear_rows;
+use book::settling::settle_rows;
+use clock::phase_at;
+use model::Boundary;
+use model::ClockAnswer;
+use model::ClockReply;
+use model::Day;
+use pairing::pair_at;
+use soundness::is_sound;
+ghost use mathlib.Core.Path.{_≡_};
+ghost use mathlib.Core.Bool.{false};
+ghost use Prim.Native.Nat.{_≤_};
+ghost use lib.ListN.{length};
+ghost use Rattle.model.specs.Clock.{boundaries};
+ghost use Rattle.model.specs.Clock as clock;
+ghost use Rattle.model.specs.Refusals.{firstOf};
+ghost use Rattle.model.specs.ClockCall.{auctionTrades, start, moved, clockRules, clockCall};
+ghost use Rattle.book.specs.Rows.{bookOf, tradesOf, tradeRows};
+ghost use Rattle.book.specs.Standing.{Standing};
+ghost use Rattle.book.specs.Writing.{front};
+ghost use Rattle.day.specs.declared.Passed.the-variants.{Nothing};
+ghost use Rattle.day.specs.Promises.{left};
+ghost use Rattle.day.specs.Ready.{Ready};
+ghost use Rattle.day.specs.Moving.{passedBy, auctioned, auctionRules, reached};
+ghost use Rattle.day.specs.Moving as moving;
+
+// Passing 9:25 holds the opening auction; passing 15:00 holds the closing one, then all that rests lapses.
+const BOUNDARIES: [Boundary; 2] = [
+    Boundary {
+        second: 33_900,
+        lapse: false,
+    },
+    Boundary {
+        second: 54_000,
+        lapse: true,
+    },
+];
+
+// A second is passed when the old time is below it and the new time isn't.
+fn passes(second: u64, old: u64, new: u64) -> bool
+    ensures { λ r. ⌜ r ≡ clock.passes second old new ⌝ }
+{
+    if second <= old {
+        return false;
+    }
+    second <= new
+}
+
+// What is passed once this boundary is gone by; a lapse stays one.
+fn passed_by(p: Passed, b: Boundary, old: u64, new: u64) -> Passed
+    ensures { λ r. ⌜ r ≡ passedBy old new b p ⌝ }
+{
+    if !passes(b.second, old, new) {
+        return p;
+    }
+    if b.lapse {
+        return Passed::Lapse;
+    }
+    match p {
+        Passed::Nothing => Passed::Auction,
+        Passed::Auction => Passed::Auction,
+        Passed::Lapse => Passed::Lapse,
+    }
+}
+
+// What a move passes, boundary after boundary.
+fn passed(old: u64, new: u64) -> Passed
+    ensures { λ r. ⌜ r ≡ moving.passed old new boundaries Nothing ⌝ }
+{
+    let table = BOUNDARIES;
+    let mut p = Passed::Nothing;
+    let mut at: usize = 0;
+    while at < 2 {
+        p = passed_by(p, table[at], old, new);
+        at += 1;
+    }
+    p
+}
+
+// The trades of an auction held now: all are counted, and written while there is room.
+fn auction_trades(d: Day, rows: &[[u64; 5]], trades: &mut [[u64; 4]], room: usize) -> usize
+    requires { ⌜ Standing (bookOf (now rows)) ⌝ }
+    requires { ⌜ room ≤ length (now trades) ⌝ }
+    ensures { λ r. ⌜ (r ≡ length (auctionTrades d (bookOf (now (rows .entry))))) × (now (trades .exit) ≡ front room (tradeRows (auctionTrades d (bookOf (now (rows .entry))))) (now (trades .entry))) ⌝ }
+{
+    let price = auction_price(rows, reference_of(d));
+    pair_at(rows, &mut *trades, room, price)
+}
+
+// 18: undecided. 13: more trades than the list has room for; a first pass counts them and writes nothing.
+fn auction_refusal(d: Day, rows: &[[u64; 5]], trades: &mut [[u64; 4]]) -> u64
+    requires { ⌜ Standing (bookOf (now rows)) ⌝ }
+    ensures { λ r. ⌜ (r ≡ firstOf (auctionRules d (bookOf (now (rows .entry))) (length (now (trades .entry))))) × (now (trades .exit) ≡ now (trades .entry)) ⌝ }
+{
+    if is_undecided(d, rows) {
+        return 18;
+    }
+    let counted = auction_trades(d, rows, &mut *trades, 0);
+    if trades.len() < counted {
+        return 13;
+    }
+    0
+}
+
+// 15: not sound. 1: the time. 18 and 13: by the first auction on the way. No other has trades: after an auction no buy reaches
+// a sell.
+fn clock_refusal(d: Day, time: u64, rows: &[[u64; 5]], trades: &mut [[u64; 4]]) -> u64
+    ensures { λ r. ⌜ (r ≡ firstOf (clockRules d time (bookOf (now (rows .entry))) (length (now (trades .entry))))) × (now (trades .exit) ≡ now (trades .entry)) ⌝ }
+{
+    if !is_sound(d, rows) {
+        return 15;
+    }
+    if 86_399 < time {
+        return 1;
+    }
+    if time < d.time {
+        return 1;
+    }
+    let p = passed(d.time, time);
+    match p {
+        Passed::Nothing => 0,
+        _ => auction_refusal(d, rows, &mut *trades),
+    }
+}
+
+// An auction: its trades at the front of the list, off the book, and onto the day's figures.
+fn hold_auction(d: Day, rows: &mut [[u64; 5]], trades: &mut [[u64; 4]]) -> Passage
+    requires { ⌜ Ready d (bookOf (now rows)) ⌝ }
+    requires { ⌜ length (auctionTrades d (bookOf (now rows))) ≤ length (now trades) ⌝ }
+    ensures { λ r. ⌜ left r (now (rows .exit)) (now (trades .exit)) ≡ reached (auctioned false (start d (bookOf (now (rows .entry))))) (tradesOf (now (trades .entry))) ⌝ }
+{
+    let room = trades.len();
+    let made = auction_trades(d, rows, &mut *trades, room);
+    settle_rows(&mut *rows, trades, made);
+    Passage {
+        day: tally_trades(d, trades, made),
+        made,
+    }
+}
+
+// The boundaries on the way. One auction is held for all of them: a second one would have nothing to trade.
+fn pass_boundaries(d: Day, time: u64, rows: &mut [[u64; 5]], trades: &mut [[u64; 4]]) -> Passage
+    requires { ⌜ Ready d (bookOf (now rows)) ⌝ }
+    requires { ⌜ length (moved d time (bookOf (now rows)) .trades) ≤ length (now trades) ⌝ }
+    ensures { λ r. ⌜ left r (now (rows .exit)) (now (trades .exit)) ≡ reached (moved d time (bookOf (now (rows .entry)))) (tradesOf (now (trades .entry))) ⌝ }
+{
+    let p = passed(d.time, time);
+    match p {
+        Passed::Nothing => Passage { day: d, made: 0 },
+        Passed::Auction => hold_auction(d, &mut *rows, &mut *trades),
+        Passed::Lapse => {
+            let held = hold_auction(d, &mut *rows, &mut *trades);
+            clear_rows(&mut *rows);
+            held
+        }
+    }
+}
+
+pub fn move_clock(d: Day, time: u64, rows: &mut [[u64; 5]], trades: &mut [[u64; 4]]) -> ClockAnswer
+    ensures { λ r. ⌜ left r (now (rows .exit)) (now (trades .exit)) ≡ clockCall d time (bookOf (now (rows .entry))) (tradesOf (now (trades .entry))) ⌝ }
+{
+    let refusal = clock_refusal(d, time, rows, &mut *trades);
+    if refusal != 0 {
+        return ClockAnswer {
+            reply: ClockReply::Refused(refusal),
+            made: 0,
+            day: d,
+        };
+    }
+    let passage = pass_boundaries(d, time, &mut *rows, &mut *trades);
+    let made = passage.made;
+    ClockAnswer {
+        reply: ClockReply::Moved {
+            phase: phase_at(time),
+            trades: made,
+        },
+        made,
+        day: day_at(time, passage.day),
+    }
+}

@@ -1,0 +1,267 @@
+-- An order keeps a sound day sound: what no rule refuses, and then the day and the book after it. Assumes nothing.
+use Prim.Native.Nat.{ℕ, suc, _+_, _-_, _*_, _≤_, _<_}
+use mathlib.Core.Path.{_≡_, refl, ap, _∙_}
+use mathlib.Core.Logic.{_⊎_, inr, ⊎-elim}
+use mathlib.Core.Bool.{Bool, true, false, cond, not, _&&_, _||_}
+use mathlib.Core.List.{List}
+use native.Mathlib.Omega.{arith}
+use native.Mathlib.Nat.{lt-of-not-le}
+use lib.ListN.{length, length-set}
+use lib.Dec.{leb, eqb}
+use borrow.Author.Tests.{leb-true, eqb-false, eq-eqb, not-false}
+use Rattle.model.specs.declared.Order.{Order}
+use Rattle.model.specs.declared.Asked.{Asked}
+use Rattle.model.specs.declared.Trade.{Trade}
+use Rattle.model.specs.declared.Day.{Day}
+use Rattle.model.specs.Lists.{all, total}
+use Rattle.model.specs.Clock.{takesOrders}
+use Rattle.model.specs.Limits.{isPrice, isQuantity, inBand}
+use Rattle.model.specs.Book.{isLive}
+use Rattle.model.specs.Matching.{filled, settle, rest}
+use Rattle.model.specs.Figures.{nextNumber, issue, tally}
+use Rattle.model.specs.Entry.{entryTrades, restPrice}
+use Rattle.model.specs.Sound.{hasPlaces, sound}
+use Rattle.model.specs.Refusals.{_when_, firstOf}
+use Rattle.model.specs.Calls.{orderRules, placed, entered, orderCall}
+use Rattle.model.proofs.Bools.{and-left, and-right, and-true, not-both}
+use Rattle.book.specs.Standing.{Price, Each, Standing}
+use Rattle.book.specs.Places.{lowestFree}
+use Rattle.book.proofs.Lists.{each}
+use Rattle.book.proofs.Kept.{New, free-number, set-each}
+use Rattle.book.proofs.Finding.{full, rest-set}
+use Rattle.book.proofs.FromSound.{sound-new}
+use Rattle.soundness.specs.SoundDay.{InBand, Rests, Place, SoundDay}
+use Rattle.soundness.proofs.Clauses.{says-price, says-band}
+use Rattle.soundness.proofs.SoundDays.{sound-day, day-sound}
+use Rattle.matching.proofs.EntryLaws.{entry-filled, remainder}
+use Rattle.matching.proofs.EntryKept.{entered-standing, entered-shares}
+use Rattle.matching.proofs.AfterEntry.{entered-uncrossed}
+use Rattle.demands.specs.Refusing.{NoneOf}
+use Rattle.demands.specs.Pricing.{Sound}
+use Rattle.demands.proofs.FirstRules.{gives-none}
+use Rattle.demands.proofs.Refusals.{order-numbers}
+use Rattle.demands.proofs.Cases.{order-cases}
+use Rattle.demands.proofs.Pricings.{not-unsound, sound-stands}
+use Rattle.demands.proofs.Wholes.{Traded, Whole, Timely, timely-of, sound-of}
+use Rattle.demands.proofs.Hours.{none-early, none-late, then-continuous}
+use Rattle.demands.proofs.Tallied.{traded-tally}
+use Rattle.demands.proofs.Settled.{Later, settle-places, settle-length}
+use Rattle.demands.proofs.EntryPrices.{trades-have, rest-has, entry-proper}
+
+-- ---- an order that no rule refuses
+
+pub record Allowed (d : Day) (a : Asked) (book : List Order) : Type 0 where
+  pub side : a .side ≤ 1
+  pub kind : a .kind ≤ 4
+  pub account : a .account ≡ 0 → ⊥
+  pub hours : takesOrders (d .time) ≡ true
+  pub least : 100 ≤ a .quantity
+  pub most : a .quantity ≤ 1_000_000
+  pub price : Price (a .price)
+  pub band : d .limited ≡ 1 → InBand (d .close) (a .price)
+  pub place : lowestFree book < length book
+  pub number : d .issued ≡ 999_999 → ⊥
+
+module _ (d : Day) (a : Asked) (book : List Order) (lent : List Trade) where
+  in-form : not (leb (a .side) 1 && leb (a .kind) 4) ≡ false → (a .side ≤ 1) × (a .kind ≤ 4)
+  in-form e =
+      let h = not-false (leb (a .side) 1 && leb (a .kind) 4) e in (
+        leb-true (a .side) 1 (and-left (leb (a .side) 1) (leb (a .kind) 4) h),
+        leb-true (a .kind) 4 (and-right (leb (a .side) 1) (leb (a .kind) 4) h),
+      )
+
+  in-size : not (isQuantity (a .quantity)) ≡ false → (100 ≤ a .quantity) × (a .quantity ≤ 1_000_000)
+  unfolding isQuantity
+  in-size e =
+      let q = a .quantity in
+      let h = not-false (leb 100 q && leb q 1_000_000) e in (
+        leb-true 100 q (and-left (leb 100 q) (leb q 1_000_000) h),
+        leb-true q 1_000_000 (and-right (leb 100 q) (leb q 1_000_000) h),
+      )
+
+  in-band : (eqb (d .limited) 1 && not (inBand (d .close) (a .price))) ≡ false → d .limited ≡ 1 → InBand (d .close) (a .price)
+  in-band e l = says-band (d .close) (a .price) .0 (not-false (inBand (d .close) (a .price)) (and-true (eq-eqb (d .limited) 1 l) e))
+
+  has-place : all isLive book ≡ false → lowestFree book < length book
+  has-place e = lt-of-not-le (λ h. not-both (full book h) e)
+
+  pub allowed : firstOf (orderRules d a book (length lent)) ≡ 0 → Allowed d a book
+  unfolding orderRules _when_
+  allowed z =
+      let n : NoneOf (orderRules d a book (length lent)) =
+      gives-none (orderRules d a book (length lent)) (order-numbers d a book lent) z in
+      let form = in-form (n .1 .0) in
+      let size = in-size (n .1 .1 .1 .1 .1 .0) in
+      record {
+        side = form .0;
+        kind = form .1;
+        account = eqb-false (a .account) 0 (n .1 .1 .0);
+        hours = not-false (takesOrders (d .time)) (n .1 .1 .1 .0);
+        least = size .0;
+        most = size .1;
+        price = says-price (a .price) .0 (not-false (isPrice (a .price)) (n .1 .1 .1 .1 .1 .1 .0));
+        band = in-band (n .1 .1 .1 .1 .1 .1 .1 .0);
+        place = has-place (n .1 .1 .1 .1 .1 .1 .1 .1 .1 .0);
+        number = eqb-false (d .issued) 999_999 (n .1 .1 .1 .1 .1 .1 .1 .1 .1 .1 .0);
+      }
+
+-- ---- the day and the book after it
+
+module _ (d : Day) (a : Asked) (book : List Order) (s : Sound d book) (k : Allowed d a book) where
+  abbrev ts : List Trade
+  ts = entryTrades d a book
+
+  abbrev next : Day
+  next = tally ts (issue d)
+
+  abbrev left : ℕ
+  left = a .quantity - filled ts
+
+  abbrev at : ℕ
+  at = restPrice a ts book
+
+  abbrev book′ : List Order
+  book′ = placed a (nextNumber d) left at (settle ts book)
+
+  day : SoundDay d book
+  day = sound-day d book (s .1)
+
+  stands : Standing book
+  stands = sound-stands d book s
+
+  new : New (nextNumber d) book
+  new = sound-new d book (not-unsound d book s)
+
+  issued-fits : suc (d .issued) ≤ 999_999
+  issued-fits = omega (arith, k .number, day .issued)
+
+  later : Later d next
+  unfolding tally issue nextNumber
+  later = record { close = refl; limited = refl; issued = omega arith }
+
+  -- what holds of every resting order's price
+  resting :
+      (P : ℕ → Type 0)
+      → ((o : Order) → Rests d o → P (o .price))
+      → Each (λ (o : Order). (o .number ≡ 0 → ⊥) → P (o .price)) book
+  resting P h =
+      each (Place d) (λ (o : Order). (o .number ≡ 0 → ⊥) → P (o .price)) book
+      (λ o p n. ⊎-elim (λ e. absurd (n (ap (λ (x : Order). x .number) e ∙ free-number))) (h o) p)
+      (day .places)
+
+  rest-place : (left ≡ 0 → ⊥) → (at ≡ 0 → ⊥) → Place next (remainder d a book (nextNumber d))
+  unfolding tally issue nextNumber
+  rest-place q p =
+      inr
+      (record {
+        side = k .side;
+        account = k .account;
+        some = omega arith;
+        left = omega (arith, k .most);
+        price = rest-has Price d a book (k .price) (resting Price (λ o r. r .price)) p;
+        band = λ m.
+            rest-has (InBand (d .close)) d a book (k .band (omega (arith, day .limited))) (resting (InBand (d .close)) (λ o r. r .band m)) p;
+        numbered = omega arith;
+        issued = omega arith;
+      })
+
+  entered-places : Each (Place next) book′
+  unfolding placed
+  entered-places = go (eqb left 0) refl (eqb at 0) refl
+    where
+      settled : Each (Place next) (settle ts book)
+      settled = settle-places d next later ts book (day .places)
+
+      go :
+          (b : Bool)
+          → eqb left 0 ≡ b
+          → (c : Bool)
+          → eqb at 0 ≡ c
+          → Each (Place next) (cond (b || c) (settle ts book) (rest (remainder d a book (nextNumber d)) (settle ts book)))
+      go true x c y = settled
+      go false x true y = settled
+      go false x false y =
+          rw (rest-set (remainder d a book (nextNumber d)) (settle ts book))
+          (set-each (Place next) (settle ts book) (lowestFree (settle ts book)) (remainder d a book (nextNumber d))
+          (rest-place (eqb-false left 0 x) (eqb-false at 0 y)) settled)
+
+  entered-apart : Standing book′
+  unfolding nextNumber
+  entered-apart =
+      entered-standing d a book stands (k .price .high) (nextNumber d) (k .side) (k .most) issued-fits new
+
+  entered-fits : 2 * next .shares + total (λ (o : Order). o .left) book′ ≤ 1_000_000 * next .issued
+  unfolding tally issue nextNumber
+  entered-fits =
+      go (eqb at 0) (entered-shares d a book stands (k .price .high) new (k .place))
+    where
+      go :
+          (b : Bool)
+          → total (λ (o : Order). o .left) book′ + filled ts ≡ total (λ (o : Order). o .left) book + cond b 0 left
+          → 2 * (d .shares + filled ts) + total (λ (o : Order). o .left) book′ ≤ 1_000_000 * suc (d .issued)
+      go true e = omega (arith, entry-filled d a book, k .most, day .shares)
+      go false e = omega (arith, entry-filled d a book, k .most, day .shares)
+
+  pub entered-prices : Each (λ (t : Trade). Price (t .price)) ts
+  entered-prices = trades-have Price d a book (k .price) (resting Price (λ o r. r .price))
+
+  entered-figures : Traded next
+  unfolding issue
+  entered-figures =
+      traded-tally (issue d) ts
+      (record { untraded = day .untraded; traded = day .traded; least = day .least; most = day .most })
+      (entry-proper d a book (stands .fair) entered-prices)
+
+  entered-whole : Whole next book′
+  unfolding tally issue nextNumber
+  entered-whole =
+      record {
+        close = day .close;
+        limited = day .limited;
+        issued = issued-fits;
+        places = entered-places;
+        apart = entered-apart .apart;
+        shares = entered-fits;
+        figures = entered-figures;
+      }
+
+  entered-timely : Timely (next .time) book′
+  unfolding tally issue
+  entered-timely =
+      record {
+        time = day .time;
+        early = λ l. absurd (not-both (k .hours) (none-early (d .time) l));
+        late = λ l. absurd (not-both (k .hours) (none-late (d .time) l));
+        uncrossed = λ x y.
+            entered-uncrossed d a book stands (then-continuous (d .time) (k .hours) x y) (nextNumber d) (k .side) (k .kind)
+            (timely-of d book day .uncrossed x y);
+      }
+
+  entered-many : hasPlaces book′ ≡ true
+  unfolding hasPlaces placed
+  entered-many = go (eqb left 0 || eqb at 0)
+    where
+      same : length (settle ts book) ≡ length book
+      same = settle-length ts book
+
+      go :
+          (b : Bool)
+          → leb 1 (length (cond b (settle ts book) (rest (remainder d a book (nextNumber d)) (settle ts book))))
+          && leb (length (cond b (settle ts book) (rest (remainder d a book (nextNumber d)) (settle ts book)))) 4_096
+          ≡ true
+      go true = rw same (s .0)
+      go false =
+          rw (rest-set (remainder d a book (nextNumber d)) (settle ts book), length-set, same) (s .0)
+
+  pub entered-sound : Sound next book′
+  entered-sound = (entered-many, day-sound next book′ (sound-of next book′ entered-whole entered-timely))
+
+pub order-kept :
+    (d : Day) (a : Asked) (book : List Order) (lent : List Trade)
+    → Sound d book
+    → Sound (orderCall d a book lent .answer .day) (orderCall d a book lent .book)
+unfolding entered
+order-kept d a book lent s =
+    order-cases d a book lent (λ o. Sound (o .answer .day) (o .book))
+    (λ z. entered-sound d a book s (allowed d a book lent z))
+    (λ _. s)

@@ -1,0 +1,86 @@
+-- The numbers of accepted orders: an event issues the next one or none, and no event changes the count otherwise.
+-- Assumes nothing.
+use Prim.Native.Nat.{ℕ, suc, _+_}
+use mathlib.Core.Path.{_≡_, refl, _∙_}
+use mathlib.Core.Bool.{Bool, true, false, cond}
+use mathlib.Core.List.{List, [], _∷_, _++_, map}
+use native.Mathlib.Omega.{arith}
+use lib.ListN.{length, length-append}
+use Rattle.model.specs.declared.Boundary.{Boundary}
+use Rattle.model.specs.declared.OrderReply as OrderReply
+use Rattle.model.specs.Lists.{from}
+use Rattle.model.specs.Clock.{passes, boundaries}
+use Rattle.model.specs.Figures.{at, nextNumber, issue, tally}
+use Rattle.model.specs.Calls.{entered}
+use Rattle.model.specs.ClockCall.{Held, hold, pass, through, start, moved}
+use Rattle.model.specs.Session.{Desk}
+use Rattle.demands.specs.Running.{Event, Moves, Enters, Cancels, Owner, ownersBy, accepted, stepped, after, acceptedIn}
+use Rattle.demands.proofs.Cases.{order-cases, clock-cases}
+
+abbrev pub numbers : List Owner → List ℕ
+numbers ws = map (λ (w : Owner). w .number) ws
+
+-- these owners have the numbers behind n, and are counted up to m
+pub record Counts (n m : ℕ) (ws : List Owner) : Type 0 where
+  pub order : numbers ws ≡ from (suc n) (length ws)
+  pub count : m ≡ n + length ws
+
+-- ---- a move of the clock issues none
+
+pass-issued : (old new : ℕ) (b : Boundary) (h : Held) → pass old new b h .day .issued ≡ h .day .issued
+unfolding pass hold tally
+pass-issued old new b h = go (passes (b .second) old new)
+  where
+    go : (p : Bool) → cond p (hold b h) h .day .issued ≡ h .day .issued
+    go true = refl
+    go false = refl
+
+through-issued : (old new : ℕ) (bs : List Boundary) (h : Held) → through old new bs h .day .issued ≡ h .day .issued
+unfolding through
+through-issued old new [] h = refl
+through-issued old new (b ∷ bs) h = through-issued old new bs (pass old new b h) ∙ pass-issued old new b h
+
+none : (n m : ℕ) → m ≡ n → Counts n m []
+unfolding from
+none n m e = record { order = refl; count = omega arith }
+
+-- ---- an event
+
+event-counts : (e : Event) (s : Desk) → Counts (s .day .issued) (stepped e s .day .issued) (accepted e s)
+unfolding stepped accepted ownersBy entered from tally issue nextNumber at moved start
+event-counts (Moves t lent) s =
+    clock-cases (s .day) t (s .book) lent (λ o. Counts (s .day .issued) (o .answer .day .issued) [])
+    (λ _. none (s .day .issued) (moved (s .day) t (s .book) .day .issued) (through-issued (s .day .time) t boundaries (start (s .day) (s .book))))
+    (λ _. none (s .day .issued) (s .day .issued) refl)
+event-counts (Enters a lent) s =
+    order-cases (s .day) a (s .book) lent (λ o. Counts (s .day .issued) (o .answer .day .issued) (ownersBy a (o .answer .reply)))
+    (λ _. record { order = refl; count = omega arith })
+    (λ _. none (s .day .issued) (s .day .issued) refl)
+event-counts (Cancels account number) s = none (s .day .issued) (s .day .issued) refl
+
+-- ---- a run
+
+join :
+    (n m : ℕ) (ws vs : List Owner)
+    → numbers ws ≡ from (suc n) (length ws)
+    → m ≡ n + length ws
+    → numbers vs ≡ from (suc m) (length vs)
+    → numbers (ws ++ vs) ≡ from (suc n) (length (ws ++ vs))
+unfolding from
+join n m [] vs e c f = let z : m ≡ n = omega arith in rw (← z) f
+join n m (w ∷ ws) vs e c f =
+    let h : w .number ≡ suc n = cc in
+    let t : numbers ws ≡ from (suc (suc n)) (length ws) = cc in
+    rw (h, join (suc n) m ws vs t (omega arith) f)
+
+pub run-counts : (es : List Event) (s : Desk) → Counts (s .day .issued) (after es s .day .issued) (acceptedIn es s)
+unfolding after acceptedIn
+run-counts [] s = none (s .day .issued) (s .day .issued) refl
+run-counts (e ∷ es) s =
+    let c = event-counts e s in
+    let r = run-counts es (stepped e s) in
+    record {
+      order =
+          join (s .day .issued) (stepped e s .day .issued) (accepted e s) (acceptedIn es (stepped e s)) (c .order) (c .count) (r .order);
+      count = omega (arith, c .count, r .count, length-append (accepted e s) (acceptedIn es (stepped e s)));
+    }

@@ -1,0 +1,26 @@
+-- The proofs of the three demands.
+pub mod FirstRules
+pub mod Refusals
+pub mod Cases
+pub mod Pricings
+pub mod Wholes
+pub mod Elements
+pub mod Fresh
+pub mod Cancelled
+pub mod Tallied
+pub mod Hours
+pub mod Settled
+pub mod EntryPrices
+pub mod Entered
+pub mod Moved
+pub mod Answers
+pub mod Issued
+pub mod Owned
+pub mod RunTotals
+pub mod Runs
+pub mod Entries
+pub mod Totals
+pub mod Owns
+pub mod Staying
+pub mod Stars
+pub mod Demands

@@ -1,0 +1,321 @@
+-- A move of the clock keeps a sound day sound, through the auctions that it passes, and is never undecided. Assumes nothing.
+use Prim.Native.Nat.{ℕ, _+_, _≤_, _<_}
+use mathlib.Core.Path.{_≡_, refl, sym, _∙_}
+use mathlib.Core.Logic.{_⊎_, ⊎-elim}
+use mathlib.Core.Bool.{Bool, true, false, cond, not, _&&_, _||_}
+use mathlib.Core.List.{List, [], _∷_, _++_}
+use native.Mathlib.Omega.{arith}
+use lib.ListN.{length}
+use lib.Dec.{leb, ltb}
+use borrow.Author.Tests.{leb-true, ltb-true, ltb-false, lt-ltb, le-ltb, le-leb, lt-leb}
+use Rattle.model.specs.declared.Order.{Order}
+use Rattle.model.specs.declared.Trade.{Trade}
+use Rattle.model.specs.declared.Day.{Day}
+use Rattle.model.specs.declared.Boundary.{Boundary}
+use Rattle.model.specs.declared.ClockReply as ClockReply
+use Rattle.model.specs.Lists.{total}
+use Rattle.model.specs.Clock.{isTime, passes, boundaries}
+use Rattle.model.specs.Matching.{filled, settle}
+use Rattle.model.specs.Figures.{at, tally}
+use Rattle.model.specs.Sound.{hasPlaces, sound, crosses}
+use Rattle.model.specs.Refusals.{_when_, firstOf, unsound}
+use Rattle.model.specs.Calls.{cleared}
+use Rattle.model.specs.ClockCall.{auctionPrice, auctionTrades, undecided, Held, hold, pass, through, stuck, start, moved, clockRules, clockCall}
+use Rattle.model.proofs.Bools.{not-both}
+use Rattle.book.specs.Standing.{Price, Standing}
+use Rattle.book.proofs.Lists.{each}
+use Rattle.book.proofs.Kept.{standing-settle}
+use Rattle.soundness.specs.SoundDay.{Empty, SoundDay}
+use Rattle.soundness.proofs.SoundDays.{sound-day, day-sound, few-places}
+use Rattle.auction.specs.Rule as Rule
+use Rattle.auction.proofs.Rules.{never-undecided}
+use Rattle.pairing.proofs.Auctions.{auction-priced, auction-shares, auction-cases, auction-uncrosses}
+use Rattle.demands.specs.Pricing.{Sound, EachAuction}
+use Rattle.demands.proofs.FirstRules.{gives-none, first-gives}
+use Rattle.demands.proofs.Refusals.{clock-numbers, clock-refuses}
+use Rattle.demands.proofs.Cases.{clock-cases}
+use Rattle.demands.proofs.Pricings.{sound-if, sound-stands, trades-there}
+use Rattle.demands.proofs.Wholes.{Whole, whole-of, timely-of, sound-of, whole-stands}
+use Rattle.demands.proofs.Fresh.{cleared-empty, places-cleared, whole-cleared}
+use Rattle.demands.proofs.Tallied.{Proper, traded-tally}
+use Rattle.demands.proofs.Settled.{Later, places-later, settle-places, settle-length}
+
+-- ---- an auction
+
+-- a day and its book in the middle of a move
+pub record Fit (h : Held) : Type 0 where
+  pub many : hasPlaces (h .book) ≡ true
+  pub whole : Whole (h .day) (h .book)
+
+module _ (h : Held) (f : Fit h) where
+  pub fit-stands : Standing (h .book)
+  fit-stands = whole-stands (h .day) (h .book) (few-places (h .book) (f .many)) (f .whole)
+
+  abbrev ts : List Trade
+  ts = auctionTrades (h .day) (h .book)
+
+  pub auction-proper : Proper ts
+  unfolding filled total
+  auction-proper =
+      ⊎-elim
+      (λ k.
+      record {
+        priced =
+            each (λ (t : Trade). t .price ≡ auctionPrice (h .day) (h .book)) (λ (t : Trade). Price (t .price)) ts
+            (λ t e. rw e (record { low = k .qualifies .price .low; high = k .qualifies .price .high }))
+            (auction-priced (h .book) fit-stands (h .day));
+        some = λ z. absurd (omega (arith, k .some));
+      })
+      (λ k. rw (k .1) (record { priced = tt; some = λ z. refl }))
+      (auction-cases (h .book) fit-stands (h .day))
+
+  settled-many : hasPlaces (settle ts (h .book)) ≡ true
+  unfolding hasPlaces
+  settled-many = rw (settle-length ts (h .book)) (f .many)
+
+  settled-whole : Whole (tally ts (h .day)) (settle ts (h .book))
+  unfolding tally
+  settled-whole =
+      record {
+        close = f .whole .close;
+        limited = f .whole .limited;
+        issued = f .whole .issued;
+        places = settle-places (h .day) (tally ts (h .day)) later ts (h .book) (f .whole .places);
+        apart = standing-settle ts (h .book) fit-stands .apart;
+        shares = omega (arith, auction-shares (h .book) fit-stands (h .day), f .whole .shares);
+        figures = traded-tally (h .day) ts (f .whole .figures) auction-proper;
+      }
+    where
+      later : Later (h .day) (tally ts (h .day))
+      later = record { close = refl; limited = refl; issued = omega arith }
+
+  pub hold-fit : (b : Boundary) → Fit (hold b h)
+  unfolding hold
+  hold-fit b = go (b .lapse)
+    where
+      go : (l : Bool) → Fit (record { day = tally ts (h .day); book = cond l (cleared (settle ts (h .book))) (settle ts (h .book)); trades = h .trades ++ ts })
+      go true =
+          record {
+            many = places-cleared (settle ts (h .book)) settled-many;
+            whole =
+                whole-cleared (tally ts (h .day)) (settle ts (h .book)) (cleared (settle ts (h .book))) settled-whole
+                (cleared-empty (settle ts (h .book)));
+          }
+      go false = record { many = settled-many; whole = settled-whole }
+
+-- ---- through the boundaries
+
+module _ (old new : ℕ) where
+  pass-fit : (b : Boundary) (h : Held) → Fit h → Fit (pass old new b h)
+  unfolding pass
+  pass-fit b h f = go (passes (b .second) old new)
+    where
+      go : (p : Bool) → Fit (cond p (hold b h) h)
+      go true = hold-fit h f b
+      go false = f
+
+  pub through-fit : (bs : List Boundary) (h : Held) → Fit h → Fit (through old new bs h)
+  unfolding through
+  through-fit [] h f = f
+  through-fit (b ∷ bs) h f = through-fit bs (pass old new b h) (pass-fit b h f)
+
+  pub never-stuck : (bs : List Boundary) (h : Held) → Fit h → stuck old new bs h ≡ false
+  unfolding stuck
+  never-stuck [] h f = refl
+  never-stuck (b ∷ bs) h f =
+      rw (never-undecided (h .book) (fit-stands h f) (h .day), never-stuck bs (pass old new b h) (pass-fit b h f))
+      (go (passes (b .second) old new))
+    where
+      go : (p : Bool) → (p && false) || false ≡ false
+      go true = refl
+      go false = refl
+
+  pub each-auction : (bs : List Boundary) (h : Held) → Fit h → EachAuction old new bs h
+  each-auction [] h f = tt
+  each-auction (b ∷ bs) h f = (
+    λ _. trades-there (h .book) (fit-stands h f) (h .day),
+    each-auction bs (pass old new b h) (pass-fit b h f),
+  )
+
+-- ---- the time of a move
+
+module _ (second old new : ℕ) where
+  passed : old < second → second ≤ new → passes second old new ≡ true
+  unfolding passes
+  passed a b = rw (lt-ltb old second a, le-leb second new b)
+
+  pub not-reached : new < second → passes second old new ≡ false
+  unfolding passes
+  not-reached a = rw (lt-leb second new a) (go (ltb old second))
+    where
+      go : (b : Bool) → b && false ≡ false
+      go true = refl
+      go false = refl
+
+  long-past : second ≤ old → passes second old new ≡ false
+  unfolding passes
+  long-past a = rw (le-ltb old second a)
+
+module _ (d : Day) (t : ℕ) (book : List Order) where
+  -- the book after the two boundaries, by whether each is passed
+  abbrev pub opened : Bool → Held
+  opened p = cond p (hold (record { second = 33_900; lapse = false }) (start d book)) (start d book)
+
+  abbrev pub both : Bool → Bool → Held
+  both p q = cond q (hold (record { second = 54_000; lapse = true }) (opened p)) (opened p)
+
+  pub moved-by :
+      (p q : Bool) → passes 33_900 (d .time) t ≡ p → passes 54_000 (d .time) t ≡ q → moved d t book ≡ both p q
+  unfolding moved boundaries through pass
+  moved-by p q e f = rw (e, f)
+
+  module _ (s : SoundDay d book) (k : Standing book) (ordered : d .time ≤ t) where
+    early-empty : t < 33_300 → Empty (moved d t book .book)
+    unfolding start
+    early-empty h =
+        rw (moved-by false false (not-reached 33_900 (d .time) t (omega arith)) (not-reached 54_000 (d .time) t (omega arith)))
+        (s .early (omega arith))
+
+    late-empty : 54_000 ≤ t → Empty (moved d t book .book)
+    late-empty h = go (ltb (d .time) 54_000) refl
+      where
+        lapsed : (p : Bool) → Empty (both p true .book)
+        lapsed p = unfold hold in cleared-empty _
+
+        go : (b : Bool) → ltb (d .time) 54_000 ≡ b → Empty (moved d t book .book)
+        go true e =
+            rw (moved-by (passes 33_900 (d .time) t) true refl (passed 54_000 (d .time) t (ltb-true (d .time) 54_000 e) h))
+            (lapsed (passes 33_900 (d .time) t))
+        go false e =
+            let l : 54_000 ≤ d .time = ltb-false (d .time) 54_000 e in
+            rw (moved-by false false (long-past 33_900 (d .time) t (omega arith)) (long-past 54_000 (d .time) t l))
+            (unfold start in s .late l)
+
+    then-uncrossed : 33_900 ≤ t → t ≤ 53_819 → crosses (moved d t book .book) ≡ false
+    then-uncrossed a b = go (ltb (d .time) 33_900) refl
+      where
+        after : crosses (both true false .book) ≡ false
+        after = unfold hold start in auction-uncrosses book k d
+
+        before : 33_900 ≤ d .time → crosses (both false false .book) ≡ false
+        before l = unfold start in timely-of d book s .uncrossed l (omega arith)
+
+        short : passes 54_000 (d .time) t ≡ false
+        short = not-reached 54_000 (d .time) t (omega arith)
+
+        go : (c : Bool) → ltb (d .time) 33_900 ≡ c → crosses (moved d t book .book) ≡ false
+        go true e = rw (moved-by true false (passed 33_900 (d .time) t (ltb-true (d .time) 33_900 e) a) short) after
+        go false e =
+            let l : 33_900 ≤ d .time = ltb-false (d .time) 33_900 e in
+            rw (moved-by false false (long-past 33_900 (d .time) t l) short) (before l)
+
+-- ---- the call
+
+module _ (d : Day) (book : List Order) (s : Sound d book) where
+  pub start-fit : Fit (start d book)
+  unfolding start
+  start-fit = record { many = s .0; whole = whole-of d book (sound-day d book (s .1)) }
+
+  pub move-decided : (t : ℕ) → stuck (d .time) t boundaries (start d book) ≡ false
+  move-decided t = never-stuck (d .time) t boundaries (start d book) start-fit
+
+  pub move-auctions : (t : ℕ) → EachAuction (d .time) t boundaries (start d book)
+  move-auctions t = each-auction (d .time) t boundaries (start d book) start-fit
+
+  pub moved-fit : (t : ℕ) → Fit (moved d t book)
+  unfolding moved
+  moved-fit t = through-fit (d .time) t boundaries (start d book) start-fit
+
+  -- the day at its new time
+  moved-whole : (t : ℕ) → Whole (at t (moved d t book .day)) (moved d t book .book)
+  unfolding at
+  moved-whole t =
+      let day = moved d t book .day in
+      let w = moved-fit t .whole in
+      record {
+        close = w .close;
+        limited = w .limited;
+        issued = w .issued;
+        places = places-later day (at t day) (record { close = refl; limited = refl; issued = omega arith }) (moved d t book .book) (w .places);
+        apart = w .apart;
+        shares = w .shares;
+        figures =
+            record {
+              untraded = w .figures .untraded;
+              traded = w .figures .traded;
+              least = w .figures .least;
+              most = w .figures .most;
+            };
+      }
+
+  moved-sound : (t : ℕ) → d .time ≤ t → t ≤ 86_399 → Sound (at t (moved d t book .day)) (moved d t book .book)
+  unfolding at
+  moved-sound t l m =
+      let day = sound-day d book (s .1) in
+      let stands = sound-stands d book s in (
+        moved-fit t .many,
+        day-sound (at t (moved d t book .day)) (moved d t book .book)
+            (sound-of (at t (moved d t book .day)) (moved d t book .book) (moved-whole t)
+            (record {
+              time = m;
+              early = early-empty d t book day stands l;
+              late = late-empty d t book day stands l;
+              uncrossed = then-uncrossed d t book day stands l;
+            })),
+      )
+
+  -- rule 1 does not hold
+  in-time : (t : ℕ) → (not (isTime t) || ltb t (d .time)) ≡ false → (d .time ≤ t) × (t ≤ 86_399)
+  unfolding isTime
+  in-time t e = go (leb t 86_399) refl e
+    where
+      go : (b : Bool) → leb t 86_399 ≡ b → (not b || ltb t (d .time)) ≡ false → (d .time ≤ t) × (t ≤ 86_399)
+      go true x h = (ltb-false t (d .time) h, leb-true t 86_399 x)
+      go false x h = absurd (not-both refl h)
+
+  module _ (t : ℕ) (lent : List Trade) where
+    moves : firstOf (clockRules d t book (length lent)) ≡ 0 → (d .time ≤ t) × (t ≤ 86_399)
+    unfolding clockRules _when_
+    moves z = in-time t (gives-none (clockRules d t book (length lent)) (clock-numbers d t book lent) z .1 .0)
+
+    pub clock-kept : Sound (clockCall d t book lent .answer .day) (clockCall d t book lent .book)
+    clock-kept =
+        clock-cases d t book lent (λ o. Sound (o .answer .day) (o .book))
+        (λ z. let h = moves z in moved-sound t (h .0) (h .1))
+        (λ _. s)
+
+-- ---- 18 is never given: 15 comes first, and from a sound day no auction on the way is undecided
+
+module _ (d : Day) (t : ℕ) (book : List Order) (room : ℕ) where
+  clock-number :
+      unsound d book ≡ false
+      → stuck (d .time) t boundaries (start d book) ≡ false
+      → firstOf (clockRules d t book room)
+      ≡ cond (not (isTime t) || ltb t (d .time)) 1 (cond (ltb room (length (moved d t book .trades))) 13 0)
+  unfolding clockRules firstOf _when_
+  clock-number u h = rw (u, h)
+
+  unsound-number : unsound d book ≡ true → firstOf (clockRules d t book room) ≡ 15
+  unfolding clockRules firstOf _when_
+  unsound-number u = rw u
+
+pub clock-decided :
+    (d : Day) (t : ℕ) (book : List Order) (lent : List Trade)
+    → clockCall d t book lent .answer .reply ≡ ClockReply.the-variants.Refused 18
+    → ⊥
+clock-decided d t book lent e = go (unsound d book) refl
+  where
+    given : firstOf (clockRules d t book (length lent)) ≡ 18
+    given = first-gives 18 (clockRules d t book (length lent)) (clock-refuses d t book lent .refuses 18 .0 e)
+
+    numbers : (b c : Bool) → _≡_ {A = ℕ} (cond b 1 (cond c 13 0)) 18 → ⊥
+    numbers true c h = omega arith
+    numbers false true h = omega arith
+    numbers false false h = omega arith
+
+    go : (b : Bool) → unsound d book ≡ b → ⊥
+    go true u = let h = unsound-number d t book (length lent) u in omega (arith, given)
+    go false u =
+        let h = move-decided d book (sound-if d book u) t in
+        numbers (not (isTime t) || ltb t (d .time)) (ltb (length lent) (length (moved d t book .trades)))
+        (sym (clock-number d t book (length lent) u h) ∙ given)

@@ -1,0 +1,165 @@
+-- Whose the resting orders are: each is one of the accepted orders, with its number, account and side. Assumes nothing.
+use Prim.Native.Nat.{ℕ, _-_}
+use mathlib.Core.Path.{_≡_, refl, sym, _∙_}
+use mathlib.Core.Logic.{_⊎_, inl, inr, ⊎-elim}
+use mathlib.Core.Bool.{Bool, true, false, cond, _||_}
+use mathlib.Core.List.{List, [], _∷_, _++_, map, append-assoc}
+use lib.Dec.{ltb, eqb}
+use Rattle.model.specs.declared.Order.{Order}
+use Rattle.model.specs.declared.Asked.{Asked}
+use Rattle.model.specs.declared.Trade.{Trade}
+use Rattle.model.specs.declared.Day.{Day}
+use Rattle.model.specs.declared.Boundary.{Boundary}
+use Rattle.model.specs.Choice.{if_then_else_}
+use Rattle.model.specs.Clock.{passes, boundaries}
+use Rattle.model.specs.Book.{free}
+use Rattle.model.specs.Matching.{filledOf, lessBy, settle, rest}
+use Rattle.model.specs.Figures.{nextNumber}
+use Rattle.model.specs.Entry.{entryTrades}
+use Rattle.model.specs.Calls.{isOwn, cleared, placed, entered}
+use Rattle.model.specs.ClockCall.{auctionTrades, Held, hold, pass, through, start, moved}
+use Rattle.model.specs.Session.{Desk}
+use Rattle.book.specs.Standing.{Each}
+use Rattle.book.specs.Places.{lowestFree}
+use Rattle.book.proofs.Lists.{each, every}
+use Rattle.book.proofs.Finding.{taken, rest-set}
+use Rattle.book.proofs.Kept.{free-number, set-each}
+use Rattle.matching.proofs.Trades.{Some}
+use Rattle.demands.specs.Running.{Event, Moves, Enters, Cancels, Owner, Is, ownersBy, accepted, stepped, after, acceptedIn}
+use Rattle.demands.proofs.Cases.{order-cases, cancel-cases, clock-cases}
+use Rattle.demands.proofs.Elements.{each-map, some-map}
+
+-- an order is one of these, where the place is not free
+abbrev pub Known : List Owner → Order → Type 0
+Known ws o = (o .number ≡ 0 → ⊥) → Some (Is o) ws
+
+abbrev pub Owned : List Owner → List Order → Type 0
+Owned ws book = Each (Known ws) book
+
+some-left : {A : Type 0} (P : A → Type 0) (xs ys : List A) → Some P xs → Some P (xs ++ ys)
+some-left P [] ys h = absurd h
+some-left P (x ∷ xs) ys h = ⊎-elim inl (λ k. inr (some-left P xs ys k)) h
+
+some-right : {A : Type 0} (P : A → Type 0) (xs ys : List A) → Some P ys → Some P (xs ++ ys)
+some-right P [] ys h = h
+some-right P (x ∷ xs) ys h = inr (some-right P xs ys h)
+
+module _ (ws : List Owner) where
+  free-known : Known ws free
+  free-known n = absurd (n free-number)
+
+  more : (vs : List Owner) (book : List Order) → Owned ws book → Owned (ws ++ vs) book
+  more vs book = each (Known ws) (Known (ws ++ vs)) book (λ o h n. some-left (Is o) ws vs (h n))
+
+  -- ---- trades, a lapse, a cancel
+
+  -- an order with the same number, account and side
+  same-known :
+      (o p : Order) → o .number ≡ p .number → o .account ≡ p .account → o .side ≡ p .side → Known ws o → Known ws p
+  same-known o p e f g h n =
+      some-map
+      (λ w (i : Is o w). record { number = i .number ∙ e; account = i .account ∙ f; side = i .side ∙ g })
+      ws
+      (h (λ z. n (sym e ∙ z)))
+
+  less-known : (q : ℕ) (o : Order) → Known ws o → Known ws (lessBy q o)
+  unfolding lessBy
+  less-known q o h = go (ltb q (o .left))
+    where
+      go : (b : Bool) → Known ws (cond b (record { side = o .side; account = o .account; left = o .left - q; price = o .price; number = o .number }) free)
+      go true = same-known o _ refl refl refl h
+      go false = free-known
+
+  settle-owned : (ts : List Trade) (book : List Order) → Owned ws book → Owned ws (settle ts book)
+  unfolding settle
+  settle-owned ts book w =
+      each-map (Known ws) (λ (o : Order). lessBy (filledOf (o .number) ts) o) book
+      (each (Known ws) (λ o. Known ws (lessBy (filledOf (o .number) ts) o)) book (λ o h. less-known (filledOf (o .number) ts) o h) w)
+
+  cleared-owned : (book : List Order) → Owned ws (cleared book)
+  unfolding cleared
+  cleared-owned book = each-map (Known ws) (λ (_ : Order). free) book (every (λ (_ : Order). Known ws free) book (λ _. free-known))
+
+  cancel-owned : (account number : ℕ) (book : List Order) → Owned ws book → Owned ws (map (taken account number) book)
+  cancel-owned account number book w =
+      each-map (Known ws) (taken account number) book
+      (each (Known ws) (λ o. Known ws (taken account number o)) book (λ o h. go o h (isOwn account number o)) w)
+    where
+      go : (o : Order) → Known ws o → (b : Bool) → Known ws (if b then free else o)
+      go o h true = free-known
+      go o h false = h
+
+  -- ---- a move of the clock
+
+  hold-owned : (b : Boundary) (h : Held) → Owned ws (h .book) → Owned ws (hold b h .book)
+  unfolding hold
+  hold-owned b h w = go (b .lapse)
+    where
+      go :
+          (l : Bool)
+          → Owned ws (cond l (cleared (settle (auctionTrades (h .day) (h .book)) (h .book))) (settle (auctionTrades (h .day) (h .book)) (h .book)))
+      go true = cleared-owned (settle (auctionTrades (h .day) (h .book)) (h .book))
+      go false = settle-owned (auctionTrades (h .day) (h .book)) (h .book) w
+
+  through-owned :
+      (old new : ℕ) (bs : List Boundary) (h : Held) → Owned ws (h .book) → Owned ws (through old new bs h .book)
+  unfolding through pass
+  through-owned old new [] h w = w
+  through-owned old new (b ∷ bs) h w = through-owned old new bs (pass old new b h) (go (passes (b .second) old new))
+    where
+      go : (p : Bool) → Owned ws (cond p (hold b h) h .book)
+      go true = hold-owned b h w
+      go false = w
+
+-- ---- an order
+
+module _ (ws : List Owner) (d : Day) (a : Asked) (book : List Order) (w : Owned ws book) where
+  abbrev ts : List Trade
+  ts = entryTrades d a book
+
+  abbrev newest : Owner
+  newest = record { number = nextNumber d; account = a .account; side = a .side }
+
+  entered-owned :
+      (q p : ℕ) → Owned (ws ++ (newest ∷ [])) (placed a (nextNumber d) q p (settle ts book))
+  unfolding placed
+  entered-owned q p = go (eqb q 0 || eqb p 0)
+    where
+      rested : Order
+      rested = record { side = a .side; account = a .account; left = q; price = p; number = nextNumber d }
+
+      settled : Owned (ws ++ (newest ∷ [])) (settle ts book)
+      settled = more ws (newest ∷ []) (settle ts book) (settle-owned ws ts book w)
+
+      known : Known (ws ++ (newest ∷ [])) rested
+      known n = some-right (Is rested) ws (newest ∷ []) (inl (record { number = refl; account = refl; side = refl }))
+
+      go : (b : Bool) → Owned (ws ++ (newest ∷ [])) (cond b (settle ts book) (rest rested (settle ts book)))
+      go true = settled
+      go false =
+          rw (rest-set rested (settle ts book))
+          (set-each (Known (ws ++ (newest ∷ []))) (settle ts book) (lowestFree (settle ts book)) rested known settled)
+
+-- ---- events and runs
+
+event-owned : (ws : List Owner) (e : Event) (s : Desk) → Owned ws (s .book) → Owned (ws ++ accepted e s) (stepped e s .book)
+unfolding stepped accepted ownersBy entered moved start
+event-owned ws (Moves t lent) s w =
+    clock-cases (s .day) t (s .book) lent (λ o. Owned (ws ++ []) (o .book))
+    (λ _. more ws [] (moved (s .day) t (s .book) .book) (through-owned ws (s .day .time) t boundaries (start (s .day) (s .book)) w))
+    (λ _. more ws [] (s .book) w)
+event-owned ws (Enters a lent) s w =
+    order-cases (s .day) a (s .book) lent (λ o. Owned (ws ++ ownersBy a (o .answer .reply)) (o .book))
+    (λ _. entered-owned ws (s .day) a (s .book) w _ _)
+    (λ _. more ws [] (s .book) w)
+event-owned ws (Cancels account number) s w =
+    cancel-cases (s .day) account number (s .book) (λ o. Owned (ws ++ []) (o .book))
+    (λ _. more ws [] (map (taken account number) (s .book)) (cancel-owned ws account number (s .book) w))
+    (λ _. more ws [] (s .book) w)
+
+pub run-owned : (ws : List Owner) (es : List Event) (s : Desk) → Owned ws (s .book) → Owned (ws ++ acceptedIn es s) (after es s .book)
+unfolding after acceptedIn
+run-owned ws [] s w = more ws [] (s .book) w
+run-owned ws (e ∷ es) s w =
+    rw (← append-assoc ws (accepted e s) (acceptedIn es (stepped e s)))
+    (run-owned (ws ++ accepted e s) es (stepped e s) (event-owned ws e s w))

@@ -1,0 +1,162 @@
+-- Demand 3: the laws of the auction and of the pairing, for a sound day. Assumes nothing.
+use Prim.Native.Nat.{ℕ, _+_, _-_, _<_}
+use mathlib.Core.Path.{_≡_, refl, sym, ap, _∙_}
+use mathlib.Core.Logic.{_⊎_, inl, inr, ⊎-elim}
+use mathlib.Core.Bool.{Bool, true, false, _&&_}
+use mathlib.Core.List.{List, [], _∷_}
+use native.Mathlib.Omega.{arith}
+use lib.ListN.{length, getD}
+use lib.Dec.{ltb}
+use borrow.Author.Tests.{ltb-true, ltb-false, not-false}
+use Rattle.model.specs.declared.Order.{Order}
+use Rattle.model.specs.declared.Day.{Day}
+use Rattle.model.specs.declared.ReportReply as ReportReply
+use Rattle.model.specs.Lists.{any, from, among}
+use Rattle.model.specs.Matching.{settle}
+use Rattle.model.specs.Figures.{reference}
+use Rattle.model.specs.Auction.{qualifying, leftBy}
+use Rattle.model.specs.Sound.{hasPlaces, sound, crosses}
+use Rattle.model.specs.Refusals.{_when_, firstOf, unsound}
+use Rattle.model.specs.ClockCall.{auctionPrice, auctionTrades, undecided}
+use Rattle.model.specs.AuctionCalls.{due, reportRules, reportCall, listRules, listCall}
+use Rattle.model.proofs.Bools.{and-left, and-right, not-both, true-or-false}
+use Rattle.model.proofs.Rules.{hit, skip}
+use Rattle.book.specs.Standing.{Standing}
+use Rattle.book.proofs.Crossing.{uncrossed, not-crossed}
+use Rattle.book.proofs.Kept.{standing-settle}
+use Rattle.book.proofs.FromSound.{sound-standing}
+use Rattle.auction.specs.Rule.{Rising}
+use Rattle.auction.specs.Spans.{ends}
+use Rattle.auction.proofs.Runs.{run-length, run-at}
+use Rattle.auction.proofs.Spanning.{Spans, span-law}
+use Rattle.auction.proofs.Writing.{due-none, due-all, due-from}
+use Rattle.auction.proofs.Rules.{listed-qualifies, qualifies-listed, due-names, qualifying-rises, no-cross-empty, empty-no-cross, one-left, never-undecided}
+use Rattle.pairing.proofs.Auctioned.{buys-filled, sells-filled}
+use Rattle.pairing.proofs.Auctions.{auction-trades-are, auction-filled, auction-priced, auction-cases, auction-uncrosses}
+use Rattle.demands.specs.Pricing.{Sound, Listing, Called, OneLeft, TradesThere}
+use Rattle.demands.proofs.FirstRules.{first-gives}
+use Rattle.demands.proofs.Refusals.{report-refuses}
+
+-- ---- a sound day
+
+pub not-unsound : (d : Day) (book : List Order) → Sound d book → unsound d book ≡ false
+unfolding unsound
+not-unsound d book s = rw (s .0, s .1)
+
+pub sound-if : (d : Day) (book : List Order) → unsound d book ≡ false → Sound d book
+unfolding unsound
+sound-if d book u =
+    let h = not-false (hasPlaces book && sound d book) u in
+    (and-left (hasPlaces book) (sound d book) h, and-right (hasPlaces book) (sound d book) h)
+
+pub sound-stands : (d : Day) (book : List Order) → Sound d book → Standing book
+sound-stands d book s = sound-standing d book (not-unsound d book s)
+
+-- ---- the list
+
+run-rises : (a n : ℕ) (ps : List ℕ) → from a n ≡ ps → Rising ps
+run-rises a n ps e i j h k =
+    let l : j < n = omega (arith, ap length e, run-length a n) in
+    let x : getD ps i 0 ≡ a + i = sym (ap (λ (l : List ℕ). getD l i 0) e) ∙ run-at a n i 0 (omega arith) in
+    let y : getD ps j 0 ≡ a + j = sym (ap (λ (l : List ℕ). getD l j 0) e) ∙ run-at a n j 0 l in
+    omega arith
+
+none-rises : (ps : List ℕ) → ps ≡ [] → Rising ps
+none-rises ps e i j h k = absurd (omega (arith, ap length e))
+
+due-rises : (book : List Order) (asked : ℕ) → Rising (due asked book)
+due-rises book asked =
+    ⊎-elim
+    (λ k. none-rises (due asked book) (due-none book asked refl (k .0)))
+    (λ k. go (ends (qualifying book) .lo) (ends (qualifying book) .hi) k refl refl (ltb asked (ends (qualifying book) .lo)) refl)
+    (span-law book)
+  where
+    go :
+        (lo hi : ℕ)
+        → Spans book lo hi
+        → ends (qualifying book) .lo ≡ lo
+        → ends (qualifying book) .hi ≡ hi
+        → (b : Bool)
+        → ltb asked lo ≡ b
+        → Rising (due asked book)
+    go lo hi k x y true e =
+        run-rises lo (hi + 1 - lo) (due asked book)
+        (rw (x, y) at (due-all book asked {s = ends (qualifying book)} refl (λ z. omega (arith, k .from-1)) (omega (arith, ltb-true asked lo e))))
+    go lo hi k x y false e =
+        run-rises asked (hi + 1 - asked) (due asked book)
+        (rw y at (due-from book asked {s = ends (qualifying book)} refl (λ z. omega (arith, k .from-1)) (omega (arith, ltb-false asked lo e))))
+
+module _ (book : List Order) (s : Standing book) where
+  pub listing : Listing book
+  listing =
+      record {
+        listed = λ p. ((λ e. listed-qualifies book e), (λ k. qualifies-listed book k));
+        rising = qualifying-rises book;
+        empty-exactly = (
+          λ e. uncrossed book s (empty-no-cross book s e),
+          λ h. no-cross-empty book s (not-crossed book h),
+        );
+      }
+
+  pub one : (qualifying book ≡ [] → ⊥) → (ref : ℕ) → OneLeft book ref
+  one n =
+      ⊎-elim (λ t. one-left book s t) (λ f. absurd (n (no-cross-empty book s f))) (true-or-false (crosses book))
+
+  module _ (d : Day) where
+    price-left : (qualifying book ≡ [] → ⊥) → leftBy book (reference d) ≡ auctionPrice d book ∷ []
+    unfolding auctionPrice
+    price-left n =
+        let e = one n (reference d) .1 in
+        e ∙ ap (λ (p : ℕ). p ∷ []) (sym (ap (λ (l : List ℕ). getD l 0 0) e))
+
+    pub trades-there : TradesThere d book (auctionTrades d book)
+    trades-there =
+        let p = auctionPrice d book in
+        let e = auction-trades-are book s d in
+        record {
+          price = price-left;
+          at-price = auction-priced book s d;
+          in-all = auction-filled book s d;
+          buys = rw e (buys-filled p book s);
+          sells = rw e (sells-filled p book s);
+          none = λ z.
+              ⊎-elim (λ k. absurd (unlisted z (qualifies-listed book (k .qualifies)))) (λ k. k .1) (auction-cases book s d);
+          after = uncrossed (settle (auctionTrades d book) book) (standing-settle (auctionTrades d book) book s) (auction-uncrosses book s d);
+        }
+      where
+        unlisted : qualifying book ≡ [] → among (qualifying book) (auctionPrice d book) ≡ true → ⊥
+        unlisted z e = unfold among any in not-both (rw z at e) refl
+
+-- ---- the calls
+
+pub called : (d : Day) (book : List Order) → Sound d book → (asked : ℕ) (lent : List ℕ) → Called d book asked lent
+unfolding listCall listRules firstOf _when_
+called d book s asked lent =
+    record {
+      due-ones = due-names book asked;
+      due-rising = due-rises book asked;
+      told = rw (not-unsound d book s);
+      written = rw (not-unsound d book s);
+    }
+
+-- 15 comes first, and a sound day is never undecided
+report-number : (d : Day) (book : List Order) → (firstOf (reportRules d book) ≡ 15) ⊎ (firstOf (reportRules d book) ≡ 0)
+unfolding reportRules
+report-number d book = go (unsound d book) refl
+  where
+    nothing : firstOf [] ≡ 0
+    nothing = unfold firstOf in refl
+
+    go :
+        (b : Bool)
+        → unsound d book ≡ b
+        → (firstOf (15 when (unsound d book) ∷ 18 when (undecided d book) ∷ []) ≡ 15)
+        ⊎ (firstOf (15 when (unsound d book) ∷ 18 when (undecided d book) ∷ []) ≡ 0)
+    go true u = inl (hit 15 (18 when (undecided d book) ∷ []) u)
+    go false u =
+        inr (skip 15 (18 when (undecided d book) ∷ []) u ∙ skip 18 [] (never-undecided book (sound-standing d book u) d) ∙ nothing)
+
+pub report-decided : (d : Day) (book : List Order) → reportCall d book ≡ ReportReply.the-variants.Refused 18 → ⊥
+report-decided d book e =
+    let h : firstOf (reportRules d book) ≡ 18 = first-gives 18 (reportRules d book) (report-refuses d book .refuses 18 .0 e) in
+    ⊎-elim (λ k. absurd (omega arith)) (λ k. absurd (omega arith)) (report-number d book)

@@ -1,0 +1,112 @@
+-- Demand 2 for any run from an accepted opening. Assumes nothing.
+use Prim.Native.Nat.{ℕ, suc}
+use mathlib.Core.Path.{_≡_, sym, ap, _∙_}
+use mathlib.Core.List.{List, [], _∷_}
+use native.Mathlib.Omega.{arith}
+use lib.ListN.{getD, length}
+use Rattle.model.specs.declared.Order.{Order}
+use Rattle.model.specs.declared.Day.{Day}
+use Rattle.model.specs.declared.CancelReply as CancelReply
+use Rattle.model.specs.Lists.{from}
+use Rattle.model.specs.Book.{free}
+use Rattle.model.specs.Matching.{firstPrice, lastPrice}
+use Rattle.model.specs.Figures.{freshDay, openPrice, closePrice}
+use Rattle.model.specs.Calls.{cancelCall}
+use Rattle.model.specs.Session.{Desk}
+use Rattle.book.specs.Standing.{Each}
+use Rattle.book.proofs.Lists.{each}
+use Rattle.book.proofs.Kept.{free-number}
+use Rattle.matching.proofs.Trades.{Some}
+use Rattle.soundness.proofs.SoundDays.{sound-day}
+use Rattle.demands.specs.Pricing.{Sound}
+use Rattle.demands.specs.Totalling.{Totals}
+use Rattle.demands.specs.Running.{Event, Owner, answers, stepped, after, tradesIn, acceptedIn, Fresh, Is, Running}
+use Rattle.demands.proofs.Fresh.{open-fresh, open-day}
+use Rattle.demands.proofs.Answers.{event-sound, event-not-15}
+use Rattle.demands.proofs.Issued.{run-counts}
+use Rattle.demands.proofs.Owned.{Known, Owned, run-owned}
+use Rattle.demands.proofs.RunTotals.{run-prices, run-totals, close-is}
+use Rattle.demands.proofs.Owns.{cancel-own}
+use Rattle.demands.proofs.Elements.{each-at, some-map}
+
+run-sound : (es : List Event) (s : Desk) → Sound (s .day) (s .book) → Sound (after es s .day) (after es s .book)
+unfolding after
+run-sound [] s k = k
+run-sound (e ∷ es) s k = run-sound es (stepped e s) (event-sound e s k)
+
+run-not-15 : (es : List Event) (s : Desk) → Sound (s .day) (s .book) → Each (λ (ns : List ℕ). getD ns 0 0 ≡ 15 → ⊥) (answers es s)
+unfolding answers
+run-not-15 [] s k = tt
+run-not-15 (e ∷ es) s k = (event-not-15 e s k, run-not-15 es (stepped e s) (event-sound e s k))
+
+module _ (s : Desk) (f : Fresh s) where
+  fresh-sound : Sound (s .day) (s .book)
+  fresh-sound = rw (← f .book) (open-fresh (f .close) (f .mark) (f .places) (s .day) (f .opened))
+
+  is-fresh : s .day ≡ freshDay (f .close) (f .mark)
+  is-fresh = open-day (f .close) (f .mark) (f .places) (s .day) (f .opened)
+
+  none-issued : s .day .issued ≡ 0
+  unfolding freshDay
+  none-issued = ap (λ (d : Day). d .issued) is-fresh
+
+  at-midnight : s .day .time ≡ 0
+  unfolding freshDay
+  at-midnight = ap (λ (d : Day). d .time) is-fresh
+
+  nobody : Owned [] (s .book)
+  nobody =
+      each (λ o. o ≡ free) (Known []) (s .book) (λ o e n. absurd (n (ap (λ (x : Order). x .number) e ∙ free-number)))
+      (sound-day (s .day) (s .book) (fresh-sound .1) .early (omega (arith, at-midnight)))
+
+  theirs : (es : List Event) → Owned (acceptedIn es s) (after es s .book)
+  theirs es = run-owned [] es s nobody
+
+  cancels-own :
+      (es : List Event) (account number shares : ℕ)
+      → cancelCall (after es s .day) account number (after es s .book) .reply ≡ CancelReply.the-variants.Withdrawn shares
+      → Some (λ (w : Owner). (w .number ≡ number) × (w .account ≡ account)) (acceptedIn es s)
+  cancels-own es account number shares r =
+      let t = cancel-own (after es s .day) account number (after es s .book) (run-sound es s fresh-sound) shares r in
+      some-map (λ w (i : Is (getD (after es s .book) (t .place) free) w). (i .number ∙ t .its-number, i .account ∙ t .its-account))
+      (acceptedIn es s)
+      (each-at (Known (acceptedIn es s)) (after es s .book) free (theirs es) (t .place) (t .inside) (λ z. t .real (sym (t .its-number) ∙ z)))
+
+  untraded : (s .day .shares ≡ 0) × (s .day .turnover ≡ 0) × (s .day .first ≡ 0) × (s .day .last ≡ 0)
+  unfolding freshDay
+  untraded = (
+    ap (λ (d : Day). d .shares) is-fresh,
+    ap (λ (d : Day). d .turnover) is-fresh,
+    ap (λ (d : Day). d .first) is-fresh,
+    ap (λ (d : Day). d .last) is-fresh,
+  )
+
+  totals : (es : List Event) → Totals (s .day) (after es s .day) (tradesIn es s)
+  totals es = run-totals es s fresh-sound
+
+  first-traded : (es : List Event) → openPrice (after es s .day) ≡ firstPrice 0 (tradesIn es s)
+  unfolding openPrice
+  first-traded es = totals es .first ∙ rw (untraded .2)
+
+  last-traded : (es : List Event) → closePrice (after es s .day) ≡ lastPrice (after es s .day .close) (tradesIn es s)
+  last-traded es =
+      close-is (after es s .day) (tradesIn es s) (run-prices es s fresh-sound)
+      (totals es .last ∙ ap (λ (p : ℕ). lastPrice p (tradesIn es s)) (untraded .3))
+
+  pub running : (es : List Event) → Running es s
+  running es =
+      let k = run-sound es s fresh-sound in
+      let c = run-counts es s in
+      record {
+        never-unsound = run-not-15 es s fresh-sound;
+        kept = k;
+        once = c .order ∙ ap (λ (n : ℕ). from (suc n) (length (acceptedIn es s))) none-issued;
+        counted = omega (arith, c .count, none-issued);
+        theirs = theirs es;
+        apart = sound-day (after es s .day) (after es s .book) (k .1) .apart;
+        shares = omega (arith, totals es .shares, untraded .0);
+        turnover = omega (arith, totals es .turnover, untraded .1);
+        opens-at = first-traded es;
+        closes-at = last-traded es;
+        cancels-own = cancels-own es;
+      }

@@ -1,0 +1,177 @@
+-- The day's totals through the trades of an order, and through those of one auction after the other. Assumes nothing.
+use Prim.Native.Nat.{ℕ, _+_, _*_}
+use mathlib.Core.Path.{_≡_, refl, sym, _∙_}
+use mathlib.Core.Bool.{Bool, true, false, cond}
+use mathlib.Core.List.{List, [], _∷_, _++_}
+use native.Mathlib.Omega.{arith}
+use lib.ListN.{length, take, drop}
+use lib.Seq.{take-at}
+use lib.Dec.{eqb}
+use borrow.Author.Tests.{eqb-true, ne-eqb}
+use Rattle.model.specs.declared.Order.{Order}
+use Rattle.model.specs.declared.Asked.{Asked}
+use Rattle.model.specs.declared.Trade.{Trade}
+use Rattle.model.specs.declared.Day.{Day}
+use Rattle.model.specs.declared.Boundary.{Boundary}
+use Rattle.model.specs.Lists.{total}
+use Rattle.model.specs.Clock.{passes, boundaries}
+use Rattle.model.specs.Matching.{filled, firstPrice, lastPrice}
+use Rattle.model.specs.Figures.{at, issue, money, tally}
+use Rattle.model.specs.Entry.{entryTrades}
+use Rattle.model.specs.Calls.{written, entered, orderCall}
+use Rattle.model.specs.ClockCall.{auctionTrades, Held, hold, pass, through, start, moved, clockCall}
+use Rattle.book.specs.Standing.{Price, Each}
+use Rattle.demands.specs.Pricing.{Sound}
+use Rattle.demands.specs.Totalling.{Totals}
+use Rattle.demands.proofs.Cases.{order-cases, clock-cases}
+use Rattle.demands.proofs.Elements.{each-append}
+use Rattle.demands.proofs.Entered.{allowed, entered-prices}
+use Rattle.demands.proofs.Moved.{Fit, auction-proper, hold-fit, start-fit}
+
+abbrev pub Prices : List Trade → Type 0
+Prices ts = Each (λ (t : Trade). Price (t .price)) ts
+
+-- ---- trades behind others
+
+total-append : (f : Trade → ℕ) (ts us : List Trade) → total f (ts ++ us) ≡ total f ts + total f us
+unfolding total
+total-append f [] us = omega arith
+total-append f (t ∷ ts) us = omega (arith, total-append f ts us)
+
+last-append : (p : ℕ) (ts us : List Trade) → lastPrice p (ts ++ us) ≡ lastPrice (lastPrice p ts) us
+unfolding lastPrice
+last-append p [] us = refl
+last-append p (t ∷ ts) us = last-append (t .price) ts us
+
+first-append :
+    (p : ℕ) (ts us : List Trade)
+    → Prices ts
+    → cond (eqb (cond (eqb p 0) (firstPrice 0 ts) p) 0) (firstPrice 0 us) (cond (eqb p 0) (firstPrice 0 ts) p)
+    ≡ cond (eqb p 0) (firstPrice 0 (ts ++ us)) p
+unfolding firstPrice
+first-append p ts us h = go (eqb p 0) refl ts h
+  where
+    go :
+        (b : Bool)
+        → eqb p 0 ≡ b
+        → (ts : List Trade)
+        → Prices ts
+        → cond (eqb (cond b (firstPrice 0 ts) p) 0) (firstPrice 0 us) (cond b (firstPrice 0 ts) p)
+        ≡ cond b (firstPrice 0 (ts ++ us)) p
+    go true e [] h = refl
+    go true e (t ∷ ts) h = rw (ne-eqb (t .price) 0 (λ z. omega (arith, h .0 .low)))
+    go false e ts h = rw e
+
+pub totals-join :
+    (d e f : Day) (ts us : List Trade) → Prices ts → Totals d e ts → Totals e f us → Totals d f (ts ++ us)
+unfolding filled money
+totals-join d e f ts us h k m =
+    record {
+      shares = omega (arith, k .shares, m .shares, total-append (λ t. t .quantity) ts us);
+      turnover = omega (arith, k .turnover, m .turnover, total-append (λ t. t .price * t .quantity) ts us);
+      first = m .first ∙ rw (k .first) (first-append (d .first) ts us h);
+      last = m .last ∙ rw (k .last) (sym (last-append (d .last) ts us));
+    }
+
+totals-tally : (d : Day) (ts : List Trade) → Totals d (tally ts d) ts
+unfolding tally
+totals-tally d ts = record { shares = refl; turnover = refl; first = refl; last = refl }
+
+-- ---- no trade yet
+
+pub totals-none : (d : Day) → Totals d d []
+unfolding filled money total firstPrice lastPrice
+totals-none d =
+    record { shares = omega arith; turnover = omega arith; first = go (eqb (d .first) 0) refl; last = refl }
+  where
+    go : (b : Bool) → eqb (d .first) 0 ≡ b → d .first ≡ cond b 0 (d .first)
+    go true e = eqb-true (d .first) 0 e
+    go false e = refl
+
+-- ---- an order
+
+pub order-totals :
+    (d : Day) (a : Asked) (book : List Order) (lent : List Trade)
+    → Totals d (orderCall d a book lent .answer .day) (take (orderCall d a book lent .answer .made) (orderCall d a book lent .trades))
+unfolding entered written tally issue
+order-totals d a book lent =
+    order-cases d a book lent (λ o. Totals d (o .answer .day) (take (o .answer .made) (o .trades)))
+    (λ _.
+    rw (take-at (entryTrades d a book) (drop (length (entryTrades d a book)) lent) (length (entryTrades d a book)) refl)
+    (record { shares = refl; turnover = refl; first = refl; last = refl }))
+    (λ _. totals-none d)
+
+pub order-prices :
+    (d : Day) (a : Asked) (book : List Order) (lent : List Trade)
+    → Sound d book
+    → Prices (take (orderCall d a book lent .answer .made) (orderCall d a book lent .trades))
+unfolding entered written
+order-prices d a book lent s =
+    order-cases d a book lent (λ o. Prices (take (o .answer .made) (o .trades)))
+    (λ z.
+    rw (take-at (entryTrades d a book) (drop (length (entryTrades d a book)) lent) (length (entryTrades d a book)) refl)
+    (entered-prices d a book s (allowed d a book lent z)))
+    (λ _. tt)
+
+-- ---- a move of the clock
+
+-- the figures so far, in the middle of a move
+record SoFar (d : Day) (h : Held) : Type 0 where
+  fit : Fit h
+  prices : Prices (h .trades)
+  totals : Totals d (h .day) (h .trades)
+
+module _ (d : Day) where
+  hold-totals : (b : Boundary) (h : Held) → SoFar d h → SoFar d (hold b h)
+  unfolding hold
+  hold-totals b h k =
+      let ts = auctionTrades (h .day) (h .book) in
+      record {
+        fit = hold-fit h (k .fit) b;
+        prices = each-append (λ (t : Trade). Price (t .price)) (h .trades) ts (k .prices) (auction-proper h (k .fit) .priced);
+        totals = totals-join d (h .day) (tally ts (h .day)) (h .trades) ts (k .prices) (k .totals) (totals-tally (h .day) ts);
+      }
+
+  through-totals : (old new : ℕ) (bs : List Boundary) (h : Held) → SoFar d h → SoFar d (through old new bs h)
+  unfolding through pass
+  through-totals old new [] h k = k
+  through-totals old new (b ∷ bs) h k = through-totals old new bs (pass old new b h) (go (passes (b .second) old new))
+    where
+      go : (p : Bool) → SoFar d (cond p (hold b h) h)
+      go true = hold-totals b h k
+      go false = k
+
+  module _ (book : List Order) (s : Sound d book) where
+    so-far : (t : ℕ) → SoFar d (moved d t book)
+    unfolding moved
+    so-far t = through-totals (d .time) t boundaries (start d book) begun
+      where
+        begun : SoFar d (start d book)
+        begun = record { fit = start-fit d book s; prices = unfold start in tt; totals = unfold start in totals-none d }
+
+    moved-totals : (t : ℕ) → Totals d (at t (moved d t book .day)) (moved d t book .trades)
+    unfolding at
+    moved-totals t =
+        let k = so-far t .totals in
+        record { shares = k .shares; turnover = k .turnover; first = k .first; last = k .last }
+
+    pub clock-prices :
+        (t : ℕ) (lent : List Trade) → Prices (take (clockCall d t book lent .answer .made) (clockCall d t book lent .trades))
+    unfolding written
+    clock-prices t lent =
+        clock-cases d t book lent (λ o. Prices (take (o .answer .made) (o .trades)))
+        (λ _.
+        rw (take-at (moved d t book .trades) (drop (length (moved d t book .trades)) lent) (length (moved d t book .trades)) refl)
+        (so-far t .prices))
+        (λ _. tt)
+
+    pub clock-totals :
+        (t : ℕ) (lent : List Trade)
+        → Totals d (clockCall d t book lent .answer .day) (take (clockCall d t book lent .answer .made) (clockCall d t book lent .trades))
+    unfolding written
+    clock-totals t lent =
+        clock-cases d t book lent (λ o. Totals d (o .answer .day) (take (o .answer .made) (o .trades)))
+        (λ _.
+        rw (take-at (moved d t book .trades) (drop (length (moved d t book .trades)) lent) (length (moved d t book .trades)) refl)
+        (moved-totals t))
+        (λ _. totals-none d)

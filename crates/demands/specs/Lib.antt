@@ -1,0 +1,9 @@
+-- The three demands, stated over the model's definitions. Each statement can be read without its proof.
+pub mod Refusing
+pub mod Pricing
+pub mod Keeping
+pub mod Running
+pub mod Entering
+pub mod Totalling
+pub mod Owning
+pub mod Starred

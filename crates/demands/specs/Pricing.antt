@@ -1,0 +1,92 @@
+-- Demand 3: the price list of a sound book, the one price that the tie rules leave, and the auction that trades there.
+use Prim.Native.Nat.{ℕ, _≤_, _<_, min}
+use mathlib.Core.Path.{_≡_}
+use mathlib.Core.Logic.{_↔_}
+use mathlib.Core.Bool.{true}
+use mathlib.Core.List.{List, [], _∷_, _++_}
+use lib.ListN.{length, getD, take, drop}
+use Rattle.model.specs.declared.Order.{Order}
+use Rattle.model.specs.declared.Trade.{Trade}
+use Rattle.model.specs.declared.Day.{Day}
+use Rattle.model.specs.declared.ClockReply as ClockReply
+use Rattle.model.specs.declared.ReportReply as ReportReply
+use Rattle.model.specs.declared.ListReply as ListReply
+use Rattle.model.specs.declared.Boundary.{Boundary}
+use Rattle.model.specs.Lists.{among}
+use Rattle.model.specs.Clock.{passes, boundaries}
+use Rattle.model.specs.Book.{standsOn, queue}
+use Rattle.model.specs.Matching.{filled, filledOf, settle}
+use Rattle.model.specs.Figures.{reference}
+use Rattle.model.specs.Auction.{volume, qualifying, leftBy}
+use Rattle.model.specs.Pairing.{cut}
+use Rattle.model.specs.Sound.{hasPlaces, sound}
+use Rattle.model.specs.ClockCall.{auctionPrice, auctionTrades, Held, pass, start, clockCall}
+use Rattle.model.specs.AuctionCalls.{due, reportCall, listCall}
+use Rattle.book.specs.Standing.{Each}
+use Rattle.auction.specs.Rule.{Qualifies, Rising}
+use Rattle.pairing.specs.Granted.{granted}
+
+-- 1 to 4,096 places, and a sound day: refusal 15 is not given
+abbrev pub Sound : Day → List Order → Type 0
+Sound d book = (hasPlaces book ≡ true) × (sound d book ≡ true)
+
+-- no buy price reaches a sell price
+abbrev pub NoneReach : List Order → Type 0
+NoneReach book =
+    Each (λ (b : Order). standsOn 0 b ≡ true → Each (λ (s : Order). standsOn 1 s ≡ true → b .price < s .price) book) book
+
+-- a price is listed exactly when it is a whole-fen price with a volume of at least 1 at which the three conditions hold, as
+-- `Qualifies` spells them out; the list rises, so each price is there once; it is empty exactly when no buy reaches a sell
+pub record Listing (book : List Order) : Type 0 where
+  pub listed : (p : ℕ) → (among (qualifying book) p ≡ true) ↔ Qualifies book p
+  pub rising : Rising (qualifying book)
+  pub empty-exactly : (qualifying book ≡ []) ↔ NoneReach book
+
+-- the call writes those from the asked price on: as many as fit, the rest of the lent list stays
+pub record Called (d : Day) (book : List Order) (asked : ℕ) (lent : List ℕ) : Type 0 where
+  pub due-ones : (p : ℕ) → (among (due asked book) p ≡ true) ↔ (Qualifies book p × (asked ≤ p))
+  pub due-rising : Rising (due asked book)
+  pub told :
+      listCall d asked book lent .reply
+      ≡ ListReply.the-variants.Listed (min (length lent) (length (due asked book))) (getD (due asked book) (length lent) 0)
+  pub written : listCall d asked book lent .prices ≡ take (length lent) (due asked book) ++ drop (length (due asked book)) lent
+
+-- one price of the list is left, for every reference price
+abbrev pub OneLeft : List Order → ℕ → Type 0
+OneLeft book ref = (p : ℕ) × (leftBy book ref ≡ p ∷ []) × Qualifies book p
+
+-- an auction's trades: at that price alone, its volume in all, and each order gets what its side's queue, cut to the volume,
+-- has for it; without a listed price there is none. Afterwards no buy reaches a sell.
+pub record TradesThere (d : Day) (book : List Order) (ts : List Trade) : Type 0 where
+  pub price : (qualifying book ≡ [] → ⊥) → leftBy book (reference d) ≡ auctionPrice d book ∷ []
+  pub at-price : Each (λ (t : Trade). t .price ≡ auctionPrice d book) ts
+  pub in-all : filled ts ≡ volume book (auctionPrice d book)
+  pub buys :
+      Each (λ (o : Order). filledOf (o .number) ts ≡ granted (o .number) (cut (volume book (auctionPrice d book)) (queue 0 book)))
+      (queue 0 book)
+  pub sells :
+      Each (λ (o : Order). filledOf (o .number) ts ≡ granted (o .number) (cut (volume book (auctionPrice d book)) (queue 1 book)))
+      (queue 1 book)
+  pub none : qualifying book ≡ [] → ts ≡ []
+  pub after : NoneReach (settle ts book)
+
+-- each auction that a move of the clock holds trades there, with the day and the book as they stand then
+abbrev pub EachAuction : ℕ → ℕ → List Boundary → Held → Type 0
+EachAuction old new [] h = Unit {0}
+EachAuction old new (b ∷ bs) h =
+    (passes (b .second) old new ≡ true → TradesThere (h .day) (h .book) (auctionTrades (h .day) (h .book)))
+    × EachAuction old new bs (pass old new b h)
+
+-- the demand, for any sound day
+pub record Pricing : Type 0 where
+  pub listing : (d : Day) (book : List Order) → Sound d book → Listing book
+  pub called : (d : Day) (book : List Order) → Sound d book → (asked : ℕ) (lent : List ℕ) → Called d book asked lent
+  pub one-left : (d : Day) (book : List Order) → Sound d book → (qualifying book ≡ [] → ⊥) → (ref : ℕ) → OneLeft book ref
+  pub trades-there : (d : Day) (book : List Order) → Sound d book → TradesThere d book (auctionTrades d book)
+  pub auctions : (d : Day) (book : List Order) → Sound d book → (t : ℕ) → EachAuction (d .time) t boundaries (start d book)
+  -- 18 is never given, from any day
+  pub report-decided : (d : Day) (book : List Order) → reportCall d book ≡ ReportReply.the-variants.Refused 18 → ⊥
+  pub clock-decided :
+      (d : Day) (t : ℕ) (book : List Order) (lent : List Trade)
+      → clockCall d t book lent .answer .reply ≡ ClockReply.the-variants.Refused 18
+      → ⊥

@@ -1,0 +1,238 @@
+-- What each call left and what was put of it is the definitions' answer to the line that asked for it. Assumes nothing.
+use Prim.Native.Nat.{ℕ, _+_, _*_, _≤_}
+use mathlib.Core.Path.{_≡_, refl, sym, ap, subst, _∙_}
+use mathlib.Core.Bool.{Bool, true, false, cond}
+use mathlib.Core.List.{List}
+use mathlib.Core.Option.{Option, none, some}
+use native.Mathlib.Omega.{arith}
+use lib.Dec.{eqb}
+use lib.ListN.{length, take, length-append, length-map}
+use lib.Seq.{length-take-le}
+use Rattle.model.specs.declared.Order.{Order}
+use Rattle.model.specs.declared.Asked.{Asked}
+use Rattle.model.specs.declared.Trade.{Trade}
+use Rattle.model.specs.declared.Day.{Day}
+use Rattle.model.specs.declared.Command.{Command}
+use Rattle.model.specs.declared.Command.the-variants.{Malformed}
+use Rattle.model.specs.declared.OpenReply as OpenReply
+use Rattle.model.specs.declared.OrderAnswer.{OrderAnswer}
+use Rattle.model.specs.declared.ClockAnswer.{ClockAnswer}
+use Rattle.model.specs.declared.CancelReply.{CancelReply}
+use Rattle.model.specs.Figures.{freshDay}
+use Rattle.model.specs.Refusals.{firstOf}
+use Rattle.model.specs.Calls.{Outcome, OpenOutcome, written, openRules, cleared, openCall, entered, orderRules, orderCall, cancelCall}
+use Rattle.model.specs.ClockCall.{clockRules, clockCall}
+use Rattle.model.specs.Lines.{refusalLine, tradeLines, openLine, clockLine, orderLine, cancelLine}
+use Rattle.model.specs.Session as Session
+use Rattle.model.specs.Session.{Desk, opened, openAnswer, clockAnswer, orderAnswer, cancelAnswer, onDesk, answer}
+use Rattle.book.specs.Rows.{orderOf, bookOf, tradeOf, tradesOf}
+use Rattle.day.specs.Promises.{openLeft, left, cancelLeft}
+use Rattle.text.specs.Printing.{Wrote}
+use Rattle.text.proofs.Printed.{and-then, put-long}
+use Rattle.text.proofs.Replied.{trades-fit, refusal-fits, open-fits, clock-fits, order-fits, cancel-fits}
+use Rattle.text.proofs.Lent.{answered, orderText, clockText, open-answer, order-answer, clock-answer}
+use Rattle.desk.specs.declared.Answered.{Answered}
+use Rattle.desk.specs.Desks.{deskOf, Leaves}
+
+-- ---- the trades that were made stand in the list
+
+written-holds : (ts lent : List Trade) → length ts ≤ length (written ts lent)
+unfolding written
+written-holds ts lent = rw length-append (omega arith)
+
+-- where either case of a choice holds its trades, the choice does
+either-holds :
+    {A : Type 0} (made : A → ℕ) (t : Bool) (o p : Outcome A)
+    → made (o .answer) ≤ length (o .trades)
+    → made (p .answer) ≤ length (p .trades)
+    → made (cond t o p .answer) ≤ length (cond t o p .trades)
+either-holds made true o p x y = x
+either-holds made false o p x y = y
+
+order-holds :
+    (d : Day) (a : Asked) (book : List Order) (lent : List Trade)
+    → orderCall d a book lent .answer .made ≤ length (orderCall d a book lent .trades)
+unfolding orderCall entered
+order-holds d a book lent =
+    either-holds (λ r. r .made) (eqb (firstOf (orderRules d a book (length lent))) 0) _ _ (written-holds _ lent) (omega arith)
+
+clock-holds :
+    (d : Day) (t : ℕ) (book : List Order) (lent : List Trade)
+    → clockCall d t book lent .answer .made ≤ length (clockCall d t book lent .trades)
+unfolding clockCall
+clock-holds d t book lent =
+    either-holds (λ r. r .made) (eqb (firstOf (clockRules d t book (length lent))) 0) _ _ (written-holds _ lent) (omega arith)
+
+-- and so they do in the rows of memory
+made-within :
+    {A : Type 0} (made : A → ℕ) (o : Outcome A) (r : A) (rows trades : List (List ℕ))
+    → made (o .answer) ≤ length (o .trades)
+    → left r rows trades ≡ o
+    → made r ≤ length trades
+made-within {A} made o r rows trades h e =
+    let n : length (tradesOf trades) ≡ length trades = length-map trades tradeOf in
+    let k : made r ≤ length (tradesOf trades) = subst (λ (x : Outcome A). made (x .answer) ≤ length (x .trades)) (sym e) h in
+    omega arith
+
+module _ (d : Day) (rows trades rows′ trades′ : List (List ℕ)) where
+  pub order-made :
+      (a : Asked) {r : OrderAnswer} → left r rows′ trades′ ≡ orderCall d a (bookOf rows) (tradesOf trades) → r .made ≤ length trades′
+  order-made a {r} = made-within (λ x. x .made) _ r rows′ trades′ (order-holds d a (bookOf rows) (tradesOf trades))
+
+  pub clock-made :
+      (t : ℕ) {r : ClockAnswer} → left r rows′ trades′ ≡ clockCall d t (bookOf rows) (tradesOf trades) → r .made ≤ length trades′
+  clock-made t {r} = made-within (λ x. x .made) _ r rows′ trades′ (clock-holds d t (bookOf rows) (tradesOf trades))
+
+-- their lines take 86 bytes each at most
+pub behind-trades :
+    (trades : List (List ℕ)) (made : ℕ) {before after : List ℕ} {at p : ℕ}
+    → made ≤ length trades
+    → Wrote before at (tradeLines (take made (tradesOf trades))) after p
+    → p ≤ at + 86 * made
+behind-trades trades made h w =
+    let n : length (tradesOf trades) ≡ length trades = length-map trades tradeOf in
+    let k : length (take made (tradesOf trades)) ≡ made = length-take-le made (tradesOf trades) (omega arith) in
+    omega (arith, w .place, trades-fit (take made (tradesOf trades)))
+
+-- where there is room for a line, the text ends in the buffer
+within :
+    {before text after : List ℕ} {p q : ℕ}
+    → Wrote before p text after q
+    → length text ≤ 110
+    → p + 110 ≤ length before
+    → q ≤ length after
+within w h room = omega (arith, w .place, put-long w)
+
+-- ---- answers
+
+-- a refused opening leaves the book
+open-stays :
+    (close mark : ℕ) (book : List Order) (n : ℕ)
+    → openCall close mark book .reply ≡ OpenReply.the-variants.Refused n
+    → openCall close mark book .book ≡ book
+unfolding openCall
+open-stays close mark book n = go (eqb (firstOf (openRules close mark book)) 0)
+  where
+    go :
+        (t : Bool)
+        → let o : OpenOutcome = cond t (record { reply = OpenReply.the-variants.Opened (freshDay close mark); book = cleared book })
+        (record { reply = OpenReply.the-variants.Refused (firstOf (openRules close mark book)); book = book }) in
+        o .reply ≡ OpenReply.the-variants.Refused n
+        → o .book ≡ book
+    go true e = let z : _≡_ {A = ℕ} 0 1 = cc in absurd (omega arith)
+    go false e = refl
+
+-- the desk depends on the rows by the book alone
+same-desk :
+    (begun : Bool) (d : Day) (rows rows′ : List (List ℕ)) → bookOf rows′ ≡ bookOf rows → deskOf begun d rows′ ≡ deskOf begun d rows
+same-desk true d rows rows′ e = ap (λ (b : List Order). some (record { day = d; book = b })) e
+same-desk false d rows rows′ e = refl
+
+module _ {before after : List ℕ} {at : ℕ} where
+  -- an answer's text and desk, as they are known
+  leaves :
+      {a : Session.Answered} {text : List ℕ} {desk : Option Desk} {rows : List (List ℕ)} {r : Answered}
+      → a ≡ answered text desk
+      → Wrote before at text after (r .next)
+      → r .next ≤ length after
+      → deskOf (r .begun) (r .day) rows ≡ desk
+      → Leaves a before at rows after r
+  leaves {rows = rows} {r} e w h f =
+      subst (λ (x : Session.Answered). Leaves x before at rows after r) (sym e) (record { text = w; fits = h; desk = f })
+
+  -- the line asks for what it was taken to ask for
+  pub as-asked :
+      {c k : Command} (desk : Option Desk) {rows : List (List ℕ)} {r : Answered}
+      → c ≡ k
+      → Leaves (answer k desk) before at rows after r
+      → Leaves (answer c desk) before at rows after r
+  as-asked desk {rows} {r} e l = subst (λ (x : Command). Leaves (answer x desk) before at rows after r) (sym e) l
+
+  module _ (begun : Bool) (d : Day) (rows : List (List ℕ)) where
+    -- 17: no day opened yet
+    pub no-day :
+        (f : Desk → Session.Answered) (r : Answered)
+        → at + 110 ≤ length before
+        → begun ≡ false
+        → r .begun ≡ begun
+        → Wrote before at (refusalLine 17) after (r .next)
+        → Leaves (onDesk f (deskOf begun d rows)) before at rows after r
+    unfolding onDesk
+    no-day f r h e g w = leaves {desk = none} (rw e) w (within w (refusal-fits 17) h) (rw (g, e))
+
+    -- 16: the desk stays
+    pub no-line :
+        (r : Answered)
+        → at + 110 ≤ length before
+        → r .begun ≡ begun
+        → r .day ≡ d
+        → Wrote before at (refusalLine 16) after (r .next)
+        → Leaves (answer Malformed (deskOf begun d rows)) before at rows after r
+    unfolding answer
+    no-line r h f g w = leaves refl w (within w (refusal-fits 16) h) (rw (f, g))
+
+    module _ (rows′ : List (List ℕ)) (next : ℕ) where
+      module _
+          (close mark : ℕ) (reply : OpenReply.OpenReply) (n : length rows ≡ 1_024)
+          (e : openLeft reply rows′ ≡ openCall close mark (bookOf rows)) (w : Wrote before at (openLine reply) after next)
+          (h : at + 110 ≤ length before) where
+        opening : openAnswer close mark (deskOf begun d rows) ≡ answered (openLine reply) (opened (openLeft reply rows′) (deskOf begun d rows))
+        opening =
+            open-answer close mark (bookOf rows) (length-map rows orderOf ∙ n) (deskOf begun d rows)
+            ∙ sym (ap (λ (o : OpenOutcome). answered (openLine (o .reply)) (opened o (deskOf begun d rows))) e)
+
+        pub opening-made :
+            (fresh : Day)
+            → reply ≡ OpenReply.the-variants.Opened fresh
+            → Leaves (openAnswer close mark (deskOf begun d rows)) before at rows′ after (record { begun = true; day = fresh; next = next })
+        unfolding opened
+        opening-made fresh f = leaves opening w (within w (open-fits reply) h) (rw f)
+
+        pub opening-refused :
+            (m : ℕ)
+            → reply ≡ OpenReply.the-variants.Refused m
+            → Leaves (openAnswer close mark (deskOf begun d rows)) before at rows′ after (record { begun = begun; day = d; next = next })
+        unfolding opened
+        opening-refused m f =
+            let g : openCall close mark (bookOf rows) .reply ≡ OpenReply.the-variants.Refused m = sym (ap (λ (o : OpenOutcome). o .reply) e) ∙ f in
+            let k : bookOf rows′ ≡ bookOf rows = ap (λ (o : OpenOutcome). o .book) e ∙ open-stays close mark (bookOf rows) m g in
+            leaves opening w (within w (open-fits reply) h) (rw f (same-desk begun d rows rows′ k))
+
+      pub cancel-answered :
+          (account number : ℕ) (reply : CancelReply)
+          → at + 110 ≤ length before
+          → begun ≡ true
+          → cancelLeft reply rows′ ≡ cancelCall d account number (bookOf rows)
+          → Wrote before at (cancelLine number reply) after next
+          → Leaves (onDesk (cancelAnswer account number) (deskOf begun d rows)) before at rows′ after (record { begun = true; day = d; next = next })
+      unfolding onDesk cancelAnswer
+      cancel-answered account number reply h o e w = leaves (rw (o, ← e)) w (within w (cancel-fits number reply) h) refl
+
+      module _
+          (trades trades′ : List (List ℕ)) (n : length trades ≡ 2_048) (o : begun ≡ true)
+          {middle : List ℕ} {p : ℕ} (h : p + 110 ≤ length middle) where
+        pub order-answered :
+            (a : Asked) (r : OrderAnswer)
+            → left r rows′ trades′ ≡ orderCall d a (bookOf rows) (tradesOf trades)
+            → Wrote before at (tradeLines (take (r .made) (tradesOf trades′))) middle p
+            → Wrote middle p (orderLine (r .reply)) after next
+            → Leaves (onDesk (orderAnswer a) (deskOf begun d rows)) before at rows′ after (record { begun = true; day = r .day; next = next })
+        unfolding onDesk
+        order-answered a r e v w =
+            leaves
+            (rw o (order-answer (tradesOf trades) (length-map trades tradeOf ∙ n) (record { day = d; book = bookOf rows }) a
+            ∙ sym (ap (λ (x : Outcome OrderAnswer). orderText (take (x .answer .made) (x .trades)) (x .answer) (x .book)) e)))
+            (and-then v w) (within w (order-fits (r .reply)) h) refl
+
+        pub clock-answered :
+            (t : ℕ) (r : ClockAnswer)
+            → left r rows′ trades′ ≡ clockCall d t (bookOf rows) (tradesOf trades)
+            → Wrote before at (tradeLines (take (r .made) (tradesOf trades′))) middle p
+            → Wrote middle p (clockLine (r .reply)) after next
+            → Leaves (onDesk (clockAnswer t) (deskOf begun d rows)) before at rows′ after (record { begun = true; day = r .day; next = next })
+        unfolding onDesk
+        clock-answered t r e v w =
+            leaves
+            (rw o (clock-answer (tradesOf trades) (length-map trades tradeOf ∙ n) (record { day = d; book = bookOf rows }) t
+            ∙ sym (ap (λ (x : Outcome ClockAnswer). clockText (take (x .answer .made) (x .trades)) (x .answer) (x .book)) e)))
+            (and-then v w) (within w (clock-fits (r .reply)) h) refl

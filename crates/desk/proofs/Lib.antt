@@ -1,0 +1,3 @@
+-- The laws behind the desk's answers.
+pub mod Answers
+pub mod LineByLine

@@ -1,0 +1,146 @@
+-- A block's lines answered one behind the other: the start, one line further, and either end. Assumes nothing.
+use Prim.Native.Nat.{ℕ, _+_, _≤_, _<_}
+use mathlib.Core.Path.{_≡_, refl, sym, ap, subst, _∙_}
+use mathlib.Core.Bool.{Bool, true, false}
+use mathlib.Core.List.{List, [], _++_, append-assoc, append-nil}
+use mathlib.Core.Option.{Option}
+use native.Mathlib.Nat.{le-refl}
+use native.Mathlib.Omega.{arith}
+use lib.ListN.{length, take}
+use Rattle.model.specs.declared.Command.{Command}
+use Rattle.model.specs.declared.Day.{Day}
+use Rattle.model.specs.Session.{Desk, answer}
+use Rattle.text.specs.declared.Next as Next
+use Rattle.text.specs.Blocks.{nextCommand}
+use Rattle.text.specs.Answers.{repliesTo, deskAfter}
+use Rattle.text.specs.Printing.{Wrote}
+use Rattle.text.proofs.Printed.{nothing-put, and-then, put-as, put-long, put-shown}
+use Rattle.text.proofs.Blocks.{taken, all-taken}
+use Rattle.desk.specs.declared.Answered.{Answered}
+use Rattle.desk.specs.declared.Progress.{Progress}
+use Rattle.desk.specs.Desks.{deskOf, Leaves}
+use Rattle.desk.specs.Blocks.{Point, pointOf, asksFrom, Answers, Through, Serves}
+
+module _ (block : List ℕ) where
+  answers-none : (p : Point) → p .at ≤ length block → Answers block p [] p
+  answers-none p h = record { inside = h; replies = refl; desk = refl; tail = refl; still = refl }
+
+  answers-one :
+      {p q : Point} {text : List ℕ}
+      → Answers block p text q
+      → (command : Command) (place : ℕ)
+      → nextCommand (q .long) block (q .at) ≡ Next.the-variants.Line command place
+      → Answers block p (text ++ answer command (q .desk) .text)
+      (record { desk = answer command (q .desk) .desk; at = place; long = false })
+  unfolding repliesTo deskAfter
+  answers-one {p} {q} {text} a command place e =
+      let t = taken block (q .at) (q .long) command place e in
+      record {
+        inside = t .inside;
+        replies =
+            a .replies
+            ∙ ap (λ (cs : List Command). text ++ repliesTo cs (q .desk)) (t .asks)
+            ∙ sym (append-assoc text (answer command (q .desk) .text) _);
+        desk = a .desk ∙ ap (λ (cs : List Command). deskAfter cs (q .desk)) (t .asks);
+        tail = a .tail ∙ t .tail;
+        still = a .still ∙ t .still;
+      }
+
+  -- one text behind the other
+  pub answers-more : {p q s : Point} {text more : List ℕ} → Answers block p text q → Answers block q more s → Answers block p (text ++ more) s
+  answers-more {s = s} {text} {more} a b = record {
+    inside = b .inside;
+    replies = a .replies ∙ ap (λ (l : List ℕ). text ++ l) (b .replies) ∙ sym (append-assoc text more _);
+    desk = a .desk ∙ b .desk;
+    tail = a .tail ∙ b .tail;
+    still = a .still ∙ b .still;
+  }
+
+  -- where no line is left, the text is all replies, and the desk is the one behind them
+  module _ {p q : Point} {text : List ℕ} (a : Answers block p text q) (t : Through block q) where
+    pub through-replies : text ≡ repliesTo (asksFrom block p) (p .desk)
+    unfolding repliesTo
+    through-replies = sym (a .replies ∙ ap (λ (cs : List Command). text ++ repliesTo cs (q .desk)) (t .asks) ∙ append-nil text)
+
+    pub through-desk : q .desk ≡ deskAfter (asksFrom block p) (p .desk)
+    unfolding deskAfter
+    through-desk = sym (a .desk ∙ ap (λ (cs : List Command). deskAfter cs (q .desk)) (t .asks))
+
+-- ---- the loop
+
+module _ (block : List ℕ) (p : Point) (before : List ℕ) where
+  -- the replies put so far, and the point that is reached
+  pub record Going (rows : List (List ℕ)) (after : List ℕ) (r : Progress) : Type 0 where
+    pub text : Wrote before 0 (take (r .next) after) after (r .next)
+    pub answers : Answers block p (take (r .next) after) (pointOf r rows)
+    pub fits : r .next ≤ length after
+    pub onward : p .at ≤ r .at
+    pub past : 0 < r .next → p .at < r .at
+    pub goes : r .done ≡ false
+
+  pub going-start :
+      (begun : Bool) (d : Day) (at : ℕ) (long : Bool) (rows : List (List ℕ))
+      → p ≡ record { desk = deskOf begun d rows; at = at; long = long }
+      → at ≤ length block
+      → Going rows before (record { begun = begun; day = d; at = at; long = long; next = 0; done = false })
+  going-start begun d at long rows e h = record {
+    text = nothing-put;
+    answers = subst (λ (q : Point). Answers block q [] (record { desk = deskOf begun d rows; at = at; long = long })) (sym e) (answers-none block _ h);
+    fits = omega arith;
+    onward = rw e (le-refl at);
+    past = λ z. absurd (omega arith);
+    goes = refl;
+  }
+
+  module _ {rows : List (List ℕ)} {after : List ℕ} {r : Progress} (g : Going rows after r) where
+    module _
+        (command : Command) (place : ℕ)
+        (e : nextCommand (r .long) block (r .at) ≡ Next.the-variants.Line command place)
+        {rows′ : List (List ℕ)} {after′ : List ℕ} (a : Answered)
+        (l : Leaves (answer command (deskOf (r .begun) (r .day) rows)) after (r .next) rows′ after′ a) where
+      abbrev reached : Progress
+      reached = record { begun = a .begun; day = a .day; at = place; long = false; next = a .next; done = false }
+
+      shown : take (a .next) after′ ≡ take (r .next) after ++ answer command (deskOf (r .begun) (r .day) rows) .text
+      shown =
+          let w = and-then (g .text) (l .text) in
+          put-shown w (omega (arith, w .place, put-long w, l .fits))
+
+      pub going-on : Going rows′ after′ reached
+      going-on =
+          let t = taken block (r .at) (r .long) command place e in
+          record {
+            text = put-as (sym shown) (and-then (g .text) (l .text));
+            answers =
+                subst (λ (x : List ℕ). Answers block p x (pointOf reached rows′)) (sym shown)
+                (subst (λ (k : Option Desk). Answers block p (take (r .next) after ++ answer command (deskOf (r .begun) (r .day) rows) .text) (record { desk = k; at = place; long = false }))
+                (sym (l .desk)) (answers-one block (g .answers) command place e));
+            fits = l .fits;
+            onward = omega (arith, t .onward, g .onward);
+            past = λ z. omega (arith, t .onward, g .onward);
+            goes = refl;
+          }
+
+      -- what is left of the block is less
+      pub going-less : (r .at < place) × (place ≤ length block)
+      going-less = let t = taken block (r .at) (r .long) command place e in (t .onward, t .inside)
+
+    pub going-through :
+        nextCommand (r .long) block (r .at) ≡ Next.the-variants.Tail
+        → Serves block p before rows after (record { begun = r .begun; day = r .day; at = r .at; long = r .long; next = r .next; done = true })
+    going-through e =
+        let t = all-taken block (r .at) (r .long) e in
+        record {
+          text = g .text;
+          answers = g .answers;
+          all = λ z. record { asks = t .asks; tail = t .tail; still = t .still };
+          some = λ z. let f : _≡_ {A = ℕ} 0 1 = cc in absurd (omega arith);
+        }
+
+    pub going-full : 0 < r .next → Serves block p before rows after r
+    going-full h = record {
+      text = g .text;
+      answers = g .answers;
+      all = λ z. let s = sym (g .goes) ∙ z in let f : _≡_ {A = ℕ} 0 1 = cc in absurd (omega arith);
+      some = λ z. g .past h;
+    }

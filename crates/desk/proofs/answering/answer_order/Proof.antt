@@ -1,0 +1,74 @@
+-- The lines of the trades that were made, and the line of the reply behind them. Assumes nothing.
+use native.Mathlib.Omega.{arith}
+use borrow.Author.Tests.{not-true, not-false}
+use Rattle.model.specs.Session.{orderAnswer}
+use Rattle.text.proofs.Printed.{put-long}
+use Rattle.desk.proofs.Answers.{order-made, behind-trades, no-day, order-answered}
+use borrow.Author.Needs.{needs}
+use Rattle.desk.proofs.answering.answer_order.Statement.{statement}
+use Rattle.desk.proofs.answering.answer_order.Tie as tie
+
+refuse-requires : tie.Need-refuse-requires
+refuse-requires c κs = search needs
+
+same-length : tie.Need-same-length
+same-length c = search needs
+
+returns : tie.Need-returns
+returns c =
+    let s = c .before .before .before .before .before .before .args in
+    let r = c .before .before .refuse in
+    no-day (s .begun) (s .d) (s .rows .now) (orderAnswer (s .a)) _ (omega arith) (not-true _ (c .before .before .before .before .if1 .taken)) (r .ensures .0) (r .ensures .2)
+
+enter-order-requires : tie.Need-enter-order-requires
+enter-order-requires c κs = search needs
+
+put-trades-requires : tie.Need-put-trades-requires
+put-trades-requires c κs =
+    let s = c .before .before .before .before .before .before .before .before .before in
+    let k = c .before .before .before .before .enter-order in
+    let m = order-made (s .args .d) (s .args .rows .now) (s .args .trades .now) (k .last .1 .1 .0) (k .last .1 .1 .1 .0) (s .args .a) (k .ensures) in
+    (m, omega (arith, s .pre, k .kept .1 .1 .1 .0))
+
+put-order-requires : tie.Need-put-order-requires
+put-order-requires c κs =
+    let s = c .before .before .before .before .before .before .before .before .before .before .before .before .before in
+    let k = c .before .before .before .before .before .before .before .before .enter-order in
+    let w = c .before .before .before .put-trades .ensures in
+    let m = order-made (s .args .d) (s .args .rows .now) (s .args .trades .now) (k .last .1 .1 .0) (k .last .1 .1 .1 .0) (s .args .a) (k .ensures) in
+    omega (arith, s .pre, k .kept .1 .1 .1 .0, behind-trades (k .last .1 .1 .1 .0) (k .result .made) m w, put-long w)
+
+same-length-2 : tie.Need-same-length-2
+same-length-2 c = search needs
+
+same-length-3 : tie.Need-same-length-3
+same-length-3 c = search needs
+
+same-length-4 : tie.Need-same-length-4
+same-length-4 c = search needs
+
+returns-2 : tie.Need-returns-2
+returns-2 c =
+    let s = c .before .before .before .before .before .before .before .before .before .before .before .before .before .before .before .before .before in
+    let k = c .before .before .before .before .before .before .before .before .before .before .before .before .enter-order in
+    let w = c .before .before .before .before .before .before .before .put-trades .ensures in
+    let m = order-made (s .args .d) (s .args .rows .now) (s .args .trades .now) (k .last .1 .1 .0) (k .last .1 .1 .1 .0) (s .args .a) (k .ensures) in
+    order-answered (s .args .begun) (s .args .d) (s .args .rows .now) (k .last .1 .1 .0) _ (s .args .trades .now) (k .last .1 .1 .1 .0) (s .pre .0)
+    (not-false _ (c .before .before .before .before .before .before .before .before .before .before .before .before .before .before .before .if1 .left))
+    (omega (arith, s .pre, k .kept .1 .1 .1 .0, behind-trades (k .last .1 .1 .1 .0) (k .result .made) m w, put-long w))
+    (s .args .a) (k .result) (k .ensures) w (c .before .before .before .put-order .ensures)
+
+pub answer-order-spec : {M : Type 1} → statement M
+answer-order-spec =
+    tie.close
+    (tie.spec
+    refuse-requires
+    same-length
+    returns
+    enter-order-requires
+    put-trades-requires
+    put-order-requires
+    same-length-2
+    same-length-3
+    same-length-4
+    returns-2)

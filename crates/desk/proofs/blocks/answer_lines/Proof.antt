@@ -1,0 +1,112 @@
+-- The replies put so far answer the block up to the place that is reached; one more line is one more reply. Assumes nothing.
+use Prim.Native.Nat.{_-_}
+use mathlib.Core.Path.{_≡_, refl, sym, _∙_}
+use native.Mathlib.Omega.{arith}
+use lib.ListN.{length}
+use Rattle.desk.specs.Blocks.{pointOf}
+use Rattle.desk.proofs.LineByLine.{Going, going-start, going-on, going-less, going-through, going-full}
+use borrow.Author.Needs.{needs}
+use Rattle.desk.proofs.blocks.answer_lines.Statement.{statement}
+use Rattle.desk.proofs.blocks.answer_lines.Tie as tie
+
+abbrev Inv-loop : tie.InvT-loop
+Inv-loop rows₀ trades₀ block out₀ room p₀ rows trades out p =
+    (length rows ≡ length rows₀) × (length trades ≡ length trades₀) × (length out ≡ length out₀) × Going block (pointOf p₀ rows₀) out₀ rows out p
+
+abbrev μ-loop : tie.MeasureT-loop
+μ-loop rows₀ trades₀ block out₀ room p₀ rows trades out p = length block - p .at
+
+sub-room : tie.Need-sub-room Inv-loop μ-loop
+sub-room c = search needs
+
+loop-holds : tie.Need-loop-holds Inv-loop μ-loop
+loop-holds c =
+    let s = c .before .before .before in (
+      refl,
+      refl,
+      refl,
+      going-start (s .args .block .now) _ (s .args .out .now) (s .args .from .begun) (s .args .from .day) (s .args .from .at) (s .args .from .long) (s .args .rows .now) refl (s .pre .3),
+    )
+
+next-command-requires : tie.Need-next-command-requires Inv-loop μ-loop
+next-command-requires c κs = search needs
+
+enum-known-command : tie.Need-enum-known-command Inv-loop μ-loop
+enum-known-command c = search needs
+
+enum-told : tie.Need-enum-told Inv-loop μ-loop
+enum-told c = search needs
+
+same-length : tie.Need-same-length Inv-loop μ-loop
+same-length c = c .before .before .before .before .before .loop .inv .0
+
+same-length-2 : tie.Need-same-length-2 Inv-loop μ-loop
+same-length-2 c = c .before .before .before .before .before .loop .inv .1
+
+same-length-3 : tie.Need-same-length-3 Inv-loop μ-loop
+same-length-3 c = c .before .before .before .before .before .loop .inv .2
+
+returns : tie.Need-returns Inv-loop μ-loop
+returns c =
+    let s = c .before .before .before .before .before .before .before .before .before .args in
+    going-through (s .block .now) _ (s .out .now) (c .before .before .before .before .before .loop .inv .3) (sym (c .before .before .next-command .ensures) ∙ c .enum-told .given .1)
+
+answer-command-requires : tie.Need-answer-command-requires Inv-loop μ-loop
+answer-command-requires c κs =
+    let i = c .before .before .before .before .before .before .before .before .before .before .loop .inv in
+    let s = c .before .before .before .before .before .before .before .before .before .before .before .before .before .before .pre in
+    (i .0 ∙ s .0, i .1 ∙ s .1, omega (arith, i .2, s .2, c .before .before .before .before .before .before .before .before .if1 .taken))
+
+loop-less : tie.Need-loop-less Inv-loop μ-loop
+loop-less c =
+    let s = c .before .before .before .before .before .before .before .before .before .before .before .before .before .before .before .before .before .before .before .before .args in
+    let n = going-less (s .block .now) _ (s .out .now) (c .before .before .before .before .before .before .before .before .before .before .before .before .before .before .before .before .loop .inv .3) _ _ (sym (c .before .before .before .before .before .before .before .before .before .before .before .before .before .next-command .ensures) ∙ c .before .before .before .before .before .before .before .before .before .before .before .command .given .1) _ (c .before .before .before .before .before .answer-command .ensures) in
+    omega arith
+
+loop-again : tie.Need-loop-again Inv-loop μ-loop
+loop-again c =
+    let s = c .before .before .before .before .before .before .before .before .before .before .before .before .before .before .before .before .before .before .before .before .args in
+    let i = c .before .before .before .before .before .before .before .before .before .before .before .before .before .before .before .before .loop .inv in
+    let k = c .before .before .before .before .before .answer-command in (
+      k .kept .1 .1 .0 ∙ i .0,
+      k .kept .1 .1 .1 .0 ∙ i .1,
+      k .kept .1 .1 .1 .1 .1 .0 ∙ i .2,
+      going-on (s .block .now) _ (s .out .now) (i .3) _ _ (sym (c .before .before .before .before .before .before .before .before .before .before .before .before .before .next-command .ensures) ∙ c .before .before .before .before .before .before .before .before .before .before .before .command .given .1) _ (k .ensures),
+    )
+
+same-length-4 : tie.Need-same-length-4 Inv-loop μ-loop
+same-length-4 c = c .before .before .loop .inv .0
+
+same-length-5 : tie.Need-same-length-5 Inv-loop μ-loop
+same-length-5 c = c .before .before .loop .inv .1
+
+same-length-6 : tie.Need-same-length-6 Inv-loop μ-loop
+same-length-6 c = c .before .before .loop .inv .2
+
+returns-2 : tie.Need-returns-2 Inv-loop μ-loop
+returns-2 c =
+    let s = c .before .before .before .before .before .before .args in
+    going-full (s .block .now) _ (s .out .now) (c .before .before .loop .inv .3) (omega (arith, c .if1 .left))
+
+pub answer-lines-spec : {M : Type 1} → statement M
+answer-lines-spec =
+    tie.close
+    (tie.spec
+    Inv-loop
+    μ-loop
+    sub-room
+    loop-holds
+    next-command-requires
+    enum-known-command
+    enum-told
+    same-length
+    same-length-2
+    same-length-3
+    returns
+    answer-command-requires
+    loop-less
+    loop-again
+    same-length-4
+    same-length-5
+    same-length-6
+    returns-2)

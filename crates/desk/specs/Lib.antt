@@ -1,0 +1,3 @@
+-- What the desk promises of an answer and of a block's answers, in terms of the definitions' session.
+pub mod Desks
+pub mod Blocks

@@ -1,0 +1,174 @@
+// What a line is answered with: the call that it asks for is made, and its trades and its reply are put into the lent buffer.
+use crate::Answered;
+use day::cancelling::cancel_order;
+use day::entering::enter_order;
+use day::moving::move_clock;
+use day::opening::open_day;
+use model::Asked;
+use model::Command;
+use model::Day;
+use model::OpenReply;
+use text::printing::put_cancel;
+use text::printing::put_clock;
+use text::printing::put_open;
+use text::printing::put_order;
+use text::printing::put_refusal;
+use text::printing::put_trades;
+ghost use mathlib.Core.Path.{_≡_};
+ghost use Prim.Native.Nat.{_+_, _≤_};
+ghost use lib.ListN.{length};
+ghost use Rattle.model.specs.Lines.{refusalLine};
+ghost use Rattle.model.specs.Session.{openAnswer, clockAnswer, orderAnswer, cancelAnswer, onDesk, answer};
+ghost use Rattle.text.specs.Printing.{Wrote};
+ghost use Rattle.desk.specs.Desks.{deskOf, Leaves};
+
+// A refusal that no call gives: the desk stays.
+fn refuse(begun: bool, d: Day, n: u64, out: &mut [u8], at: usize) -> Answered
+    requires { ⌜ at + 110 ≤ length (now out) ⌝ }
+    ensures { λ r. ⌜ (r .begun ≡ begun) × (r .day ≡ d) × Wrote (now (out .entry)) at (refusalLine n) (now (out .exit)) (r .next) ⌝ }
+{
+    let next = put_refusal(out, at, n);
+    Answered {
+        begun,
+        day: d,
+        next,
+    }
+}
+
+// A new day starts over; a refused one changes nothing.
+fn answer_opening(
+    begun: bool,
+    d: Day,
+    rows: &mut [[u64; 5]],
+    close: u64,
+    mark: u64,
+    out: &mut [u8],
+    at: usize,
+) -> Answered
+    requires { ⌜ (length (now rows) ≡ 1024) × (at + 110 ≤ length (now out)) ⌝ }
+    ensures { λ r. ⌜ Leaves (openAnswer close mark (deskOf begun d (now (rows .entry)))) (now (out .entry)) at (now (rows .exit)) (now (out .exit)) r ⌝ }
+{
+    let reply = open_day(close, mark, &mut *rows);
+    let next = put_open(out, at, reply);
+    match reply {
+        OpenReply::Refused(_) => Answered {
+            begun,
+            day: d,
+            next,
+        },
+        OpenReply::Opened(day) => Answered {
+            begun: true,
+            day,
+            next,
+        },
+    }
+}
+
+// Trades come first.
+fn answer_move(
+    begun: bool,
+    d: Day,
+    rows: &mut [[u64; 5]],
+    trades: &mut [[u64; 4]],
+    time: u64,
+    out: &mut [u8],
+    at: usize,
+) -> Answered
+    requires { ⌜ (length (now trades) ≡ 2048) × (at + 176238 ≤ length (now out)) ⌝ }
+    ensures { λ r. ⌜ Leaves (onDesk (clockAnswer time) (deskOf begun d (now (rows .entry)))) (now (out .entry)) at (now (rows .exit)) (now (out .exit)) r ⌝ }
+{
+    if !begun {
+        return refuse(begun, d, 17, out, at);
+    }
+    let answer = move_clock(d, time, &mut *rows, &mut *trades);
+    let reply = answer.reply;
+    let behind = put_trades(out, at, trades, answer.made);
+    let next = put_clock(out, behind, reply);
+    let day = answer.day;
+    Answered {
+        begun: true,
+        day,
+        next,
+    }
+}
+
+fn answer_order(
+    begun: bool,
+    d: Day,
+    rows: &mut [[u64; 5]],
+    trades: &mut [[u64; 4]],
+    a: Asked,
+    out: &mut [u8],
+    at: usize,
+) -> Answered
+    requires { ⌜ (length (now trades) ≡ 2048) × (at + 176238 ≤ length (now out)) ⌝ }
+    ensures { λ r. ⌜ Leaves (onDesk (orderAnswer a) (deskOf begun d (now (rows .entry)))) (now (out .entry)) at (now (rows .exit)) (now (out .exit)) r ⌝ }
+{
+    if !begun {
+        return refuse(begun, d, 17, out, at);
+    }
+    let answer = enter_order(d, a, &mut *rows, &mut *trades);
+    let reply = answer.reply;
+    let behind = put_trades(out, at, trades, answer.made);
+    let next = put_order(out, behind, reply);
+    let day = answer.day;
+    Answered {
+        begun: true,
+        day,
+        next,
+    }
+}
+
+fn answer_cancel(
+    begun: bool,
+    d: Day,
+    rows: &mut [[u64; 5]],
+    account: u64,
+    number: u64,
+    out: &mut [u8],
+    at: usize,
+) -> Answered
+    requires { ⌜ at + 110 ≤ length (now out) ⌝ }
+    ensures { λ r. ⌜ Leaves (onDesk (cancelAnswer account number) (deskOf begun d (now (rows .entry)))) (now (out .entry)) at (now (rows .exit)) (now (out .exit)) r ⌝ }
+{
+    if !begun {
+        return refuse(begun, d, 17, out, at);
+    }
+    let reply = cancel_order(d, &mut *rows, account, number);
+    let next = put_cancel(out, at, number, reply);
+    Answered {
+        begun: true,
+        day: d,
+        next,
+    }
+}
+
+// The answer to any line.
+pub fn answer_command(
+    begun: bool,
+    d: Day,
+    rows: &mut [[u64; 5]],
+    trades: &mut [[u64; 4]],
+    c: Command,
+    out: &mut [u8],
+    at: usize,
+) -> Answered
+    requires { ⌜ (length (now rows) ≡ 1024) × (length (now trades) ≡ 2048) × (at + 176238 ≤ length (now out)) ⌝ }
+    ensures { λ r. ⌜ Leaves (answer c (deskOf begun d (now (rows .entry)))) (now (out .entry)) at (now (rows .exit)) (now (out .exit)) r ⌝ }
+{
+    match c {
+        Command::Malformed => refuse(begun, d, 16, out, at),
+        Command::Opens { close, mark } => answer_opening(begun, d, rows, close, mark, out, at),
+        Command::Moves(time) => answer_move(begun, d, rows, trades, time, out, at),
+        Command::Enters(a) => answer_order(begun, d, rows, trades, a, out, at),
+        Command::Cancels { account, number } => answer_cancel(
+            begun,
+            d,
+            rows,
+            account,
+            number,
+            out,
+            at,
+        ),
+    }
+}

@@ -1,0 +1,59 @@
+// The lines of a block, answered one behind the other into the lent output.
+use crate::Progress;
+use crate::answering::answer_command;
+use text::Next;
+use text::reading::next_command;
+ghost use mathlib.Core.Path.{_≡_};
+ghost use Prim.Native.Nat.{_≤_};
+ghost use lib.ListN.{length};
+ghost use Rattle.desk.specs.Blocks.{pointOf, Serves};
+
+// Goes on from a place of the block until no line is left, or the output might not hold another reply: 2,048 trades and a
+// line.
+pub fn answer_lines(
+    from: Progress,
+    rows: &mut [[u64; 5]],
+    trades: &mut [[u64; 4]],
+    block: &[u8],
+    out: &mut [u8],
+) -> Progress
+    requires { ⌜ (length (now rows) ≡ 1024) × (length (now trades) ≡ 2048) × (176238 ≤ length (now out)) × (from .at ≤ length (now block)) ⌝ }
+    ensures { λ r. ⌜ Serves (now (block .entry)) (pointOf from (now (rows .entry))) (now (out .entry)) (now (rows .exit)) (now (out .exit)) r ⌝ }
+{
+    let room = out.len() - 176238;
+    let start = from.day;
+    let mut p = Progress {
+        begun: from.begun,
+        day: start,
+        at: from.at,
+        long: from.long,
+        next: 0,
+        done: false,
+    };
+    while p.next <= room {
+        let Next::Line { command, place } = next_command(block, p.at, p.long) else {
+            p.done = true;
+            return p;
+        };
+        let day = p.day;
+        let a = answer_command(
+            p.begun,
+            day,
+            &mut *rows,
+            &mut *trades,
+            command,
+            &mut *out,
+            p.next,
+        );
+        let next = a.day;
+        p = Progress {
+            begun: a.begun,
+            day: next,
+            at: place,
+            long: false,
+            next: a.next,
+            done: false,
+        };
+    }
+    p
+}

@@ -1,0 +1,23 @@
+// The desk of the rehearsal program: the day and its book, once a day is open, and what a line is answered with.
+pub mod answering;
+pub mod blocks;
+
+use model::Day;
+
+// What an answer leaves: the day, if one is open, and the place behind the text that was put.
+pub struct Answered {
+    pub begun: bool,
+    pub day: Day,
+    pub next: usize,
+}
+
+// How far a block is answered: the desk's mark and day, the place of the next line, whether that line began before the block
+// and is too long, the place behind the replies that were put, and whether no line is left.
+pub struct Progress {
+    pub begun: bool,
+    pub day: Day,
+    pub at: usize,
+    pub long: bool,
+    pub next: usize,
+    pub done: bool,
+}
