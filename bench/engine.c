@@ -1,0 +1,516 @@
+#include "engine.h"
+#include <stdbool.h>
+#include <stdlib.h>
+#include <string.h>
+
+enum { PLACES = 4096, TOP_PRICE = 999999, SLOTS = 16384, SMALL = 8 };
+
+struct day {
+    uint64_t close, limited, time, issued, shares, turnover, first, last;
+};
+
+struct order {
+    uint64_t side, account, left, price, number;
+};
+
+struct trade {
+    uint64_t price, quantity, buyer, seller;
+};
+
+/* The orders of one side at one price, oldest number first. */
+struct level {
+    uint64_t price;
+    int first, count; /* in the side's queue */
+};
+
+static struct day day;
+static struct order places[PLACES];
+static size_t place_count;
+static struct level levels[2][PLACES]; /* best first */
+static int level_count[2];
+static int queue[2][PLACES]; /* places in priority */
+static int queue_count[2];
+static int slots[SLOTS]; /* place + 1 by order number */
+static struct trade made[2 * PLACES];
+static size_t made_count;
+
+uint64_t engine_tried_all, engine_tried_differed;
+
+/* ---- bytes */
+
+uint64_t number_at(const uint8_t *b, size_t i) {
+    uint64_t v = 0;
+    for (int k = 7; k >= 0; k--) v = v << 8 | b[8 * i + (size_t)k];
+    return v;
+}
+
+void put_number(uint8_t *b, size_t i, uint64_t value) {
+    for (size_t k = 0; k < 8; k++) b[8 * i + k] = (uint8_t)(value >> 8 * k);
+}
+
+static void read_numbers(const uint8_t *b, size_t at, void *record, size_t count) {
+    uint64_t numbers[8];
+    for (size_t i = 0; i < count; i++) numbers[i] = number_at(b, at + i);
+    memcpy(record, numbers, count * sizeof numbers[0]);
+}
+
+static void write_numbers(uint8_t *b, size_t at, const void *record, size_t count) {
+    uint64_t numbers[8];
+    memcpy(numbers, record, count * sizeof numbers[0]);
+    for (size_t i = 0; i < count; i++) put_number(b, at + i, numbers[i]);
+}
+
+static void write_book(uint8_t *b) {
+    for (size_t p = 0; p < place_count; p++) write_numbers(b, 5 * p, &places[p], 5);
+}
+
+static void write_trades(struct lent *m) {
+    for (size_t t = 0; t < made_count; t++) write_numbers(m->list, 4 * t, &made[t], 4);
+}
+
+/* The refusal, and count values behind it (zeros where it refuses), as many whole numbers as the buffer holds. */
+static uint64_t answer(struct lent *m, uint64_t refusal, const uint64_t *values, size_t count) {
+    size_t room = m->reply_length / 8;
+    for (size_t i = 0; i < room && i <= count; i++)
+        put_number(m->reply, i, i == 0 ? refusal : refusal ? 0 : values[i - 1]);
+    return refusal;
+}
+
+/* ---- the clock */
+
+static int phase_at(uint64_t t) {
+    if (t < 33300) return 0;
+    if (t < 33600) return 1;
+    if (t < 33900) return 2;
+    if (t < 34200) return 3;
+    if (t < 41400) return 4;
+    if (t < 46800) return 5;
+    if (t < 53820) return 4;
+    if (t < 54000) return 6;
+    return 0;
+}
+
+/* ---- numbers */
+
+static bool is_price(uint64_t p) { return p >= 1 && p <= TOP_PRICE; }
+
+static bool in_band(uint64_t p) { return 10 * p >= 7 * day.close && 10 * p <= 13 * day.close; }
+
+/* ---- the hash of numbers */
+
+static int *slot_of(uint64_t number) {
+    size_t s = (size_t)(number * 11400714819323198485ull >> 50);
+    while (slots[s] && places[slots[s] - 1].number != number) s = (s + 1) % SLOTS;
+    return &slots[s];
+}
+
+/* ---- levels */
+
+static int compare_places(const void *a, const void *b) {
+    const struct order *x = &places[*(const int *)a], *y = &places[*(const int *)b];
+    if (x->price != y->price) return (x->price < y->price) == (x->side == 1) ? -1 : 1;
+    return x->number < y->number ? -1 : x->number > y->number;
+}
+
+static void build_levels(void) {
+    queue_count[0] = queue_count[1] = 0;
+    for (size_t p = 0; p < place_count; p++)
+        if (places[p].number) queue[places[p].side][queue_count[places[p].side]++] = (int)p;
+    for (int s = 0; s < 2; s++) {
+        qsort(queue[s], (size_t)queue_count[s], sizeof(int), compare_places);
+        level_count[s] = 0;
+        for (int i = 0; i < queue_count[s]; i++) {
+            uint64_t price = places[queue[s][i]].price;
+            if (!level_count[s] || levels[s][level_count[s] - 1].price != price)
+                levels[s][level_count[s]++] = (struct level){price, i, 0};
+            levels[s][level_count[s] - 1].count++;
+        }
+    }
+}
+
+static uint64_t best(int side) { return level_count[side] ? levels[side][0].price : 0; }
+
+/* ---- soundness */
+
+static bool place_sound(size_t p) {
+    const struct order *o = &places[p];
+    if (!o->side && !o->account && !o->left && !o->price && !o->number) return true;
+    if (o->side > 1 || !o->account || o->left < 1 || o->left > 1000000) return false;
+    if (!is_price(o->price) || (day.limited && !in_band(o->price))) return false;
+    if (o->number < 1 || o->number > day.issued) return false;
+    int *slot = slot_of(o->number);
+    if (*slot) return false;
+    *slot = (int)p + 1;
+    return true;
+}
+
+static bool figures_sound(void) {
+    return is_price(day.close) && day.limited <= 1 && day.time <= 86399 && day.issued <= 999999;
+}
+
+static bool totals_sound(void) {
+    unsigned __int128 resting = 0, shares = day.shares, turnover = day.turnover;
+    for (size_t p = 0; p < place_count; p++) resting += places[p].left;
+    if (2 * shares + resting > (unsigned __int128)1000000 * day.issued) return false;
+    if (turnover < shares || turnover > TOP_PRICE * shares) return false;
+    if (!day.shares) return !day.first && !day.last;
+    return is_price(day.first) && is_price(day.last);
+}
+
+/* Reads day and book, and says whether they are sound. Builds levels and hash where they are. */
+static bool load(const struct lent *m) {
+    made_count = 0;
+    place_count = m->book_length / 40;
+    if (m->day_length != 64 || place_count < 1 || place_count > PLACES) return false;
+    read_numbers(m->day, 0, &day, 8);
+    for (size_t p = 0; p < place_count; p++) read_numbers(m->book, 5 * p, &places[p], 5);
+    memset(slots, 0, sizeof slots);
+    if (!figures_sound()) return false;
+    for (size_t p = 0; p < place_count; p++)
+        if (!place_sound(p)) return false;
+    build_levels();
+    bool empty = !queue_count[0] && !queue_count[1];
+    if ((day.time < 33300 || day.time >= 54000) && !empty) return false;
+    if (day.time >= 33900 && day.time <= 53819 && best(0) && best(1) && best(0) >= best(1)) return false;
+    return totals_sound();
+}
+
+/* ---- trades */
+
+static void take_off(int place, uint64_t quantity) {
+    places[place].left -= quantity;
+    if (!places[place].left) memset(&places[place], 0, sizeof places[place]);
+}
+
+static void trade(uint64_t price, uint64_t quantity, uint64_t buyer, uint64_t seller) {
+    made[made_count++] = (struct trade){price, quantity, buyer, seller};
+    day.shares += quantity;
+    day.turnover += price * quantity;
+    day.last = price;
+    if (!day.first) day.first = price;
+}
+
+static bool too_many_trades(const struct lent *m) { return made_count > m->list_length / 32; }
+
+/* ---- opening */
+
+uint64_t engine_open(struct lent *m, const uint64_t *asked) {
+    size_t count = m->book_length / 40;
+    if (m->day_length != 64 || !is_price(asked[0]) || asked[1] > 1 || count < 1 || count > PLACES) return answer(m, 14, NULL, 0);
+    memset(m->book, 0, 40 * count);
+    day = (struct day){asked[0], asked[1], 0, 0, 0, 0, 0, 0};
+    write_numbers(m->day, 0, &day, 8);
+    return answer(m, 0, NULL, 0);
+}
+
+/* ---- orders */
+
+struct wish {
+    uint64_t side, kind, account, quantity, price;
+};
+
+static bool in_range(const struct wish *w) {
+    int own = (int)w->side, other = 1 - own;
+    uint64_t base = best(other) ? best(other) : best(own) ? best(own) : day.last ? day.last : day.close;
+    if (own == 0) return 100 * w->price <= 105 * base || w->price <= base + 10;
+    return 100 * w->price >= 95 * base || w->price + 10 >= base;
+}
+
+static int lowest_free(void) {
+    for (size_t p = 0; p < place_count; p++)
+        if (!places[p].number) return (int)p;
+    return -1;
+}
+
+static uint64_t order_refusal(const struct wish *w) {
+    int phase = phase_at(day.time);
+    if (w->side > 1 || w->kind > 4) return 2;
+    if (!w->account) return 3;
+    if (phase != 1 && phase != 2 && phase != 4 && phase != 6) return 4;
+    if (w->kind && (phase != 4 || !day.limited)) return 5;
+    if (w->quantity < 100 || w->quantity > 1000000) return 6;
+    if (!is_price(w->price)) return 7;
+    if (day.limited && !in_band(w->price)) return 8;
+    if (!w->kind && phase == 4 && !in_range(w)) return 9;
+    if (lowest_free() < 0) return 10;
+    if (day.issued == 999999) return 11;
+    return 0;
+}
+
+/* The less eager of two prices of a side: the lower for a buy, the higher for a sell. */
+static uint64_t calmer(uint64_t side, uint64_t p, uint64_t q) { return (p < q) == (side == 0) ? p : q; }
+
+/* Trades against the other side's levels, at most so many, up to a limit. Returns what is left. */
+static uint64_t match(const struct wish *w, uint64_t limit, int most_levels, uint64_t *level_total) {
+    int other = 1 - (int)w->side;
+    uint64_t left = w->quantity;
+    *level_total = 0;
+    for (int l = 0; l < level_count[other] && l < most_levels && left; l++) {
+        struct level *at = &levels[other][l];
+        if (w->side == 0 ? at->price > limit : at->price < limit) break;
+        ++*level_total;
+        for (int i = at->first; i < at->first + at->count && left; i++) {
+            int place = queue[other][i];
+            uint64_t number = places[place].number, q = places[place].left < left ? places[place].left : left;
+            trade(at->price, q, w->side == 0 ? day.issued : number, w->side == 0 ? number : day.issued);
+            take_off(place, q);
+            left -= q;
+        }
+    }
+    return left;
+}
+
+/* The price at which an order rests that has traded up to its limit, 0 where what is left is withdrawn. */
+static uint64_t rest_price(const struct wish *w, uint64_t limit, uint64_t own_best) {
+    if (w->kind == 3) return 0;
+    if (w->kind != 4) return limit;
+    if (made_count) return made[made_count - 1].price;
+    return own_best ? calmer(w->side, own_best, w->price) : 0;
+}
+
+uint64_t engine_order(struct lent *m, const uint64_t *asked) {
+    struct wish w = {asked[0], asked[1], asked[2], asked[3], asked[4]};
+    if (!load(m)) return answer(m, 15, NULL, 5);
+    uint64_t refusal = order_refusal(&w);
+    if (refusal) return answer(m, refusal, NULL, 5);
+    uint64_t own_best = best((int)w.side), other_best = best(1 - (int)w.side);
+    uint64_t limit = w.price, left = w.quantity, used = 0, resting = 0;
+    bool goes = true;
+    if (w.kind == 1 || w.kind == 2) {
+        uint64_t aim = w.kind == 1 ? other_best : own_best;
+        goes = aim != 0;
+        if (goes) limit = calmer(w.side, aim, w.price);
+    }
+    day.issued++;
+    if (goes && phase_at(day.time) == 4) left = match(&w, limit, w.kind >= 3 ? 5 : PLACES, &used);
+    if (too_many_trades(m)) return answer(m, 13, NULL, 5);
+    uint64_t price = goes ? rest_price(&w, limit, own_best) : 0;
+    if (left && price) {
+        resting = left;
+        places[lowest_free()] = (struct order){w.side, w.account, left, price, day.issued};
+    }
+    write_numbers(m->day, 0, &day, 8);
+    write_book(m->book);
+    write_trades(m);
+    uint64_t values[] = {day.issued, w.quantity - left, resting, left - resting, used};
+    return answer(m, 0, values, 5);
+}
+
+/* ---- cancels */
+
+uint64_t engine_cancel(struct lent *m, const uint64_t *asked) {
+    if (!load(m)) return answer(m, 15, NULL, 1);
+    int phase = phase_at(day.time);
+    if (phase != 1 && phase != 4) return answer(m, 4, NULL, 1);
+    int *slot = slot_of(asked[1]);
+    if (!*slot || !asked[1] || places[*slot - 1].account != asked[0]) return answer(m, 12, NULL, 1);
+    uint64_t shares = places[*slot - 1].left;
+    memset(&places[*slot - 1], 0, sizeof places[0]);
+    write_book(m->book);
+    return answer(m, 0, &shares, 1);
+}
+
+/* ---- the auction */
+
+/* Neighbouring prices that have the same demand and supply. */
+struct stretch {
+    uint64_t low, high, demand, supply;
+    bool qualifies;
+};
+
+static struct stretch stretches[4 * PLACES + 2];
+static int stretch_count;
+
+static uint64_t shares_where(int side, uint64_t low, uint64_t high) {
+    uint64_t sum = 0;
+    for (int i = 0; i < queue_count[side]; i++) {
+        const struct order *o = &places[queue[side][i]];
+        if (o->price >= low && o->price <= high) sum += o->left;
+    }
+    return sum;
+}
+
+static uint64_t smaller(uint64_t a, uint64_t b) { return a < b ? a : b; }
+
+static int compare_numbers(const void *a, const void *b) {
+    uint64_t x = *(const uint64_t *)a, y = *(const uint64_t *)b;
+    return x < y ? -1 : x > y;
+}
+
+/* Every price on an order is a stretch of its own, and so are the prices between two neighbours: nothing changes there. */
+static void cut_stretches(void) {
+    static uint64_t prices[2 * PLACES];
+    size_t n = 0;
+    for (int s = 0; s < 2; s++)
+        for (int l = 0; l < level_count[s]; l++) prices[n++] = levels[s][l].price;
+    qsort(prices, n, sizeof prices[0], compare_numbers);
+    uint64_t next = 1;
+    stretch_count = 0;
+    for (size_t i = 0; i < n; i++) {
+        if (i && prices[i] == prices[i - 1]) continue;
+        if (next < prices[i]) stretches[stretch_count++] = (struct stretch){next, prices[i] - 1, 0, 0, false};
+        stretches[stretch_count++] = (struct stretch){prices[i], prices[i], 0, 0, false};
+        next = prices[i] + 1;
+    }
+    if (next <= TOP_PRICE) stretches[stretch_count++] = (struct stretch){next, TOP_PRICE, 0, 0, false};
+}
+
+/* Demand falls level by level as the price rises, and supply grows. */
+static void fill_stretches(void) {
+    uint64_t demand = shares_where(0, 1, TOP_PRICE), supply = 0;
+    int buy = level_count[0] - 1, sell = 0;
+    for (int k = 0; k < stretch_count; k++) {
+        struct stretch *t = &stretches[k];
+        while (buy >= 0 && levels[0][buy].price < t->low) {
+            demand -= shares_where(0, levels[0][buy].price, levels[0][buy].price);
+            buy--;
+        }
+        while (sell < level_count[1] && levels[1][sell].price <= t->low) {
+            supply += shares_where(1, levels[1][sell].price, levels[1][sell].price);
+            sell++;
+        }
+        t->demand = demand;
+        t->supply = supply;
+    }
+}
+
+static bool qualifies(uint64_t p, uint64_t most) {
+    uint64_t above = shares_where(0, p + 1, TOP_PRICE), at_buy = shares_where(0, p, p);
+    uint64_t below = p > 1 ? shares_where(1, 1, p - 1) : 0, at_sell = shares_where(1, p, p);
+    uint64_t volume = smaller(above + at_buy, below + at_sell);
+    if (volume < 1 || volume < most) return false;
+    if (above > volume || below > volume) return false;
+    return above + at_buy <= volume || below + at_sell <= volume;
+}
+
+static void try_all_prices(uint64_t most) {
+    bool same = true;
+    int k = 0;
+    for (uint64_t p = 1; p <= TOP_PRICE; p++) {
+        while (stretches[k].high < p) k++;
+        if (smaller(shares_where(0, p, TOP_PRICE), shares_where(1, 1, p)) > most) same = false;
+        if (qualifies(p, most) != stretches[k].qualifies) same = false;
+    }
+    engine_tried_all++;
+    if (!same) engine_tried_differed++;
+}
+
+/* Finds the qualifying stretches. The most volume comes first: only where it is reached are the other conditions looked at. */
+static void survey(void) {
+    uint64_t most = 0;
+    cut_stretches();
+    fill_stretches();
+    for (int k = 0; k < stretch_count; k++) {
+        uint64_t v = smaller(stretches[k].demand, stretches[k].supply);
+        if (v > most) most = v;
+    }
+    for (int k = 0; k < stretch_count; k++) {
+        struct stretch *t = &stretches[k];
+        t->qualifies = most && smaller(t->demand, t->supply) == most && qualifies(t->low, most);
+    }
+    if (queue_count[0] + queue_count[1] <= SMALL && engine_tried_all < 100) try_all_prices(most);
+}
+
+static uint64_t apart(uint64_t a, uint64_t b) { return a > b ? a - b : b - a; }
+
+static uint64_t gap(const struct stretch *t) { return apart(t->demand, t->supply); }
+
+/* The price that the tie rules leave, 0 where none qualifies, and how many they leave. */
+static uint64_t clearing_price(int *left, const struct stretch **at) {
+    uint64_t least = UINT64_MAX, nearest = UINT64_MAX, price = 0, to = day.last ? day.last : day.close;
+    *left = 0;
+    *at = NULL;
+    for (int k = 0; k < stretch_count; k++)
+        if (stretches[k].qualifies && gap(&stretches[k]) < least) least = gap(&stretches[k]);
+    for (int k = 0; k < stretch_count; k++) {
+        const struct stretch *t = &stretches[k];
+        if (!t->qualifies || gap(t) != least) continue;
+        uint64_t p = to < t->low ? t->low : to > t->high ? t->high : to;
+        if (apart(p, to) < nearest) {
+            nearest = apart(p, to);
+            *left = 0;
+            *at = t;
+            price = p;
+        }
+        if (apart(p, to) == nearest) ++*left;
+    }
+    return price;
+}
+
+static bool undecided(int left) { return best(0) && best(1) && best(0) >= best(1) && left != 1; }
+
+/* Both sides in priority, cut to the volume: the two heads trade the smaller remainder. */
+static void pair(uint64_t price, uint64_t volume) {
+    int b = 0, s = 0;
+    while (volume) {
+        int buy = queue[0][b], sell = queue[1][s];
+        uint64_t buyer = places[buy].number, seller = places[sell].number;
+        uint64_t q = smaller(volume, smaller(places[buy].left, places[sell].left));
+        trade(price, q, buyer, seller);
+        if (places[buy].left == q) b++;
+        if (places[sell].left == q) s++;
+        take_off(buy, q);
+        take_off(sell, q);
+        volume -= q;
+    }
+}
+
+/* Holds an auction on the loaded book. False where it is undecided. */
+static bool hold(void) {
+    int left;
+    const struct stretch *at;
+    build_levels();
+    survey();
+    uint64_t price = clearing_price(&left, &at);
+    if (undecided(left)) return false;
+    if (price) pair(price, smaller(at->demand, at->supply));
+    return true;
+}
+
+uint64_t engine_clock(struct lent *m, const uint64_t *asked) {
+    uint64_t time = asked[0];
+    if (!load(m)) return answer(m, 15, NULL, 2);
+    if (time > 86399 || time < day.time) return answer(m, 1, NULL, 2);
+    if (day.time < 33900 && time >= 33900 && !hold()) return answer(m, 18, NULL, 2);
+    if (day.time < 54000 && time >= 54000) {
+        if (!hold()) return answer(m, 18, NULL, 2);
+        memset(places, 0, place_count * sizeof places[0]);
+    }
+    if (too_many_trades(m)) return answer(m, 13, NULL, 2);
+    day.time = time;
+    write_numbers(m->day, 0, &day, 8);
+    write_book(m->book);
+    write_trades(m);
+    uint64_t values[] = {(uint64_t)phase_at(time), made_count};
+    return answer(m, 0, values, 2);
+}
+
+uint64_t engine_report(struct lent *m, const uint64_t *asked) {
+    (void)asked;
+    int left;
+    const struct stretch *at;
+    if (!load(m)) return answer(m, 15, NULL, 3);
+    survey();
+    uint64_t price = clearing_price(&left, &at);
+    if (undecided(left)) return answer(m, 18, NULL, 3);
+    uint64_t values[] = {price, at ? smaller(at->demand, at->supply) : 0, at ? at->demand - at->supply : 0};
+    return answer(m, 0, values, 3);
+}
+
+uint64_t engine_list(struct lent *m, const uint64_t *asked) {
+    if (!load(m)) return answer(m, 15, NULL, 2);
+    survey();
+    uint64_t room = m->list_length / 8, values[] = {0, 0};
+    for (int k = 0; k < stretch_count && !values[1]; k++) {
+        const struct stretch *t = &stretches[k];
+        if (!t->qualifies) continue;
+        for (uint64_t p = t->low < asked[0] ? asked[0] : t->low; p <= t->high; p++) {
+            if (values[0] == room) {
+                values[1] = p;
+                break;
+            }
+            put_number(m->list, values[0]++, p);
+        }
+    }
+    return answer(m, 0, values, 2);
+}

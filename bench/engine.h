@@ -1,0 +1,29 @@
+/* The day of docs/C.md a second time, in plain C, written from the rules and not from the proved code: price levels with queues,
+ * a hash of order numbers, and the auction by trying every price that can matter. The bench compares the two. */
+#ifndef ENGINE_H
+#define ENGINE_H
+
+#include <stddef.h>
+#include <stdint.h>
+
+/* Lent memory: what a call reads and writes. A call that has no use for a slice does not look at it. */
+struct lent {
+    uint8_t *day, *book, *list, *reply; /* list: the trades, or the prices */
+    size_t day_length, book_length, list_length, reply_length;
+};
+
+/* The six calls, each with its numbers in the order in which docs/C.md names them. They return the refusal number. */
+uint64_t engine_open(struct lent *m, const uint64_t *asked);   /* close, mark */
+uint64_t engine_order(struct lent *m, const uint64_t *asked);  /* side, kind, account, quantity, price */
+uint64_t engine_cancel(struct lent *m, const uint64_t *asked); /* account, number */
+uint64_t engine_clock(struct lent *m, const uint64_t *asked);  /* time */
+uint64_t engine_report(struct lent *m, const uint64_t *asked);
+uint64_t engine_list(struct lent *m, const uint64_t *asked); /* price */
+
+/* How often the auction of a small book was also held by trying all 999,999 prices, and how often the two differed. */
+extern uint64_t engine_tried_all, engine_tried_differed;
+
+uint64_t number_at(const uint8_t *b, size_t i);
+void put_number(uint8_t *b, size_t i, uint64_t value);
+
+#endif

@@ -1,0 +1,80 @@
+/* The calls of Flemorix for C. What each promises is proved; docs/C.md says how day, book, trades, prices and replies lie in memory.
+ *
+ * Every slice is a pointer and a length in bytes. Any length is taken, also 0. The slices of one call must not overlap.
+ * Every call returns its refusal number, 0 where it is accepted, and writes its reply to the lent reply buffer as numbers of
+ * 8 bytes, as many whole ones as the buffer holds: the refusal number first, then the values named below, zeros after a
+ * refusal. A refused call leaves day, book, trades and prices as they were. */
+#ifndef FLEMORIX_H
+#define FLEMORIX_H
+
+#include <stddef.h>
+#include <stdint.h>
+
+/* A day. All zeros is no day: flemorix_open makes one. */
+struct flemorix_day {
+    uint64_t close;    /* the previous close, in fen */
+    uint64_t limited;  /* 1 on a day with a price band, else 0 */
+    uint64_t time;     /* seconds after midnight */
+    uint64_t issued;   /* order numbers issued */
+    uint64_t shares;   /* shares traded */
+    uint64_t turnover; /* fen traded */
+    uint64_t first;    /* price of the first trade, 0 while there is none */
+    uint64_t last;     /* price of the last trade, 0 while there is none */
+};
+
+/* A place of the book. A free place is all zeros. */
+struct flemorix_order {
+    uint64_t side; /* 0 buys, 1 sells */
+    uint64_t account;
+    uint64_t left; /* shares that have not traded */
+    uint64_t price;
+    uint64_t number;
+};
+
+/* A trade. Buyer and seller are order numbers. */
+struct flemorix_trade {
+    uint64_t price;
+    uint64_t quantity;
+    uint64_t buyer;
+    uint64_t seller;
+};
+
+enum flemorix_refusal {
+    FLEMORIX_ACCEPTED = 0,
+    FLEMORIX_TIME = 1,       /* time above 86,399 or before the day's time */
+    FLEMORIX_FORM = 2,       /* side not 0, 1, or kind not 0 to 4 */
+    FLEMORIX_ACCOUNT = 3,    /* order account 0 */
+    FLEMORIX_PHASE = 4,      /* the phase takes no order, or no cancel */
+    FLEMORIX_KIND = 5,       /* kind 1 to 4 outside phase 4 or on an unlimited day */
+    FLEMORIX_QUANTITY = 6,   /* quantity not 100 to 1,000,000 */
+    FLEMORIX_PRICE = 7,      /* price not 1 to 999,999 */
+    FLEMORIX_BAND = 8,       /* outside the band */
+    FLEMORIX_RANGE = 9,      /* outside the order range */
+    FLEMORIX_FULL = 10,      /* no free place, even if it would trade */
+    FLEMORIX_NUMBERS = 11,   /* 999,999 numbers issued */
+    FLEMORIX_UNKNOWN = 12,   /* no live order has this number and account */
+    FLEMORIX_ROOM = 13,      /* the event's trades outnumber the lent trade list */
+    FLEMORIX_OPENING = 14,   /* opening: close not 1 to 999,999, mark not 0 or 1, places not 1 to 4,096, or day not 64 bytes */
+    FLEMORIX_UNSOUND = 15,   /* day not sound or not 64 bytes, or places not 1 to 4,096 */
+    FLEMORIX_UNDECIDED = 18, /* buys reach sells, yet not exactly one price is left */
+};
+
+/* Opens a day: every place of the book becomes free, and the day's bytes are the new day. Reply: the refusal alone. 14. */
+uint64_t flemorix_open(uint8_t *day, size_t day_length, uint8_t *book, size_t book_length, uint8_t *reply,
+                       size_t reply_length, uint64_t close, uint64_t mark);
+
+/* Takes out the live order with this number and account. Reply: the shares withdrawn. 15, 4, 12. */
+uint64_t flemorix_cancel(const uint8_t *day, size_t day_length, uint8_t *book, size_t book_length, uint8_t *reply,
+                         size_t reply_length, uint64_t account, uint64_t number);
+
+/* What an auction held now would do. Reply: price, volume, and surplus in two's complement; all 0 where no price qualifies.
+ * 15, 18. */
+uint64_t flemorix_report(const uint8_t *day, size_t day_length, const uint8_t *book, size_t book_length, uint8_t *reply,
+                         size_t reply_length);
+
+/* Writes the qualifying prices from the asked price upward to the front of the lent list, as many as fit. Reply: how many, and
+ * the next one due or 0. 15. */
+uint64_t flemorix_list(const uint8_t *day, size_t day_length, const uint8_t *book, size_t book_length, uint8_t *prices,
+                       size_t prices_length, uint8_t *reply, size_t reply_length, uint64_t asked);
+
+#endif
