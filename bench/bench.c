@@ -19,8 +19,17 @@ static uint64_t proved_open(struct lent *m, const uint64_t *a) {
     return flemorix_open(m->day, m->day_length, m->book, m->book_length, m->reply, m->reply_length, a[0], a[1]);
 }
 
+static uint64_t proved_order(struct lent *m, const uint64_t *a) {
+    return flemorix_order(m->day, m->day_length, m->book, m->book_length, m->list, m->list_length, m->reply, m->reply_length, a[0],
+                          a[1], a[2], a[3], a[4]);
+}
+
 static uint64_t proved_cancel(struct lent *m, const uint64_t *a) {
     return flemorix_cancel(m->day, m->day_length, m->book, m->book_length, m->reply, m->reply_length, a[0], a[1]);
+}
+
+static uint64_t proved_clock(struct lent *m, const uint64_t *a) {
+    return flemorix_clock(m->day, m->day_length, m->book, m->book_length, m->list, m->list_length, m->reply, m->reply_length, a[0]);
 }
 
 static uint64_t proved_report(struct lent *m, const uint64_t *a) {
@@ -34,15 +43,14 @@ static uint64_t proved_list(struct lent *m, const uint64_t *a) {
 
 enum { OPEN, ORDER, CANCEL, CLOCK, REPORT, LIST, CALLS };
 
-/* A call without a proved side is not exported yet: the engine alone carries the day on. */
 static const struct {
     const char *name;
     call *proved, *engine;
 } calls[CALLS] = {
     [OPEN] = {"open", proved_open, engine_open},
-    [ORDER] = {"order", NULL, engine_order},
+    [ORDER] = {"order", proved_order, engine_order},
     [CANCEL] = {"cancel", proved_cancel, engine_cancel},
-    [CLOCK] = {"clock", NULL, engine_clock},
+    [CLOCK] = {"clock", proved_clock, engine_clock},
     [REPORT] = {"report", proved_report, engine_report},
     [LIST] = {"list", proved_list, engine_list},
 };
@@ -81,11 +89,6 @@ static void copy(struct memory *to, const struct memory *from) {
 
 /* The same call on the same memory; everything must come out the same. */
 static uint64_t compare(uint64_t seed, int which, const uint64_t *asked) {
-    if (!calls[which].proved) {
-        uint64_t refusal = calls[which].engine(&theirs.lent, asked);
-        told[which][refusal]++;
-        return refusal;
-    }
     copy(&ours, &theirs);
     uint64_t want = calls[which].engine(&theirs.lent, asked), got = calls[which].proved(&ours.lent, asked);
     told[which][want]++;
@@ -244,7 +247,7 @@ static void run_seed(uint64_t seed) {
            failed == before ? "same" : "DIFFERENT");
 }
 
-/* ---- the engine itself: the whole session of the rules, and their rehearsed situations */
+/* ---- the whole session of the rules, and their rehearsed situations */
 
 static void expect(const char *what, uint64_t got, uint64_t want) {
     if (got == want) {
@@ -356,9 +359,9 @@ static void session(void) {
 }
 
 static void print_told(int which) {
-    printf("%s: %s", calls[which].name, calls[which].proved ? "compared" : "not exported");
+    printf("%s:", calls[which].name);
     for (int r = 0; r < 19; r++)
-        if (told[which][r]) printf(", %llu times %d", (unsigned long long)told[which][r], r);
+        if (told[which][r]) printf(" %llu times %d", (unsigned long long)told[which][r], r);
     printf("\n");
 }
 

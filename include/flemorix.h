@@ -63,9 +63,20 @@ enum flemorix_refusal {
 uint64_t flemorix_open(uint8_t *day, size_t day_length, uint8_t *book, size_t book_length, uint8_t *reply,
                        size_t reply_length, uint64_t close, uint64_t mark);
 
+/* Enters an order: side 0 buys, 1 sells; for kinds 1 to 4 the price is the protection limit. Its trades stand at the front of the
+ * trade list, the rest of which stays. Reply: number, filled, resting, withdrawn, levels. 15, 2 to 11, 13. */
+uint64_t flemorix_order(uint8_t *day, size_t day_length, uint8_t *book, size_t book_length, uint8_t *trades,
+                        size_t trades_length, uint8_t *reply, size_t reply_length, uint64_t side, uint64_t kind,
+                        uint64_t account, uint64_t quantity, uint64_t price);
+
 /* Takes out the live order with this number and account. Reply: the shares withdrawn. 15, 4, 12. */
 uint64_t flemorix_cancel(const uint8_t *day, size_t day_length, uint8_t *book, size_t book_length, uint8_t *reply,
                          size_t reply_length, uint64_t account, uint64_t number);
+
+/* Moves the clock, and holds the auctions that it passes; after the closing one the book is empty. Their trades stand at the
+ * front of the trade list. Reply: the phase of the new time, and how many trades. 15, 1, 18, 13. */
+uint64_t flemorix_clock(uint8_t *day, size_t day_length, uint8_t *book, size_t book_length, uint8_t *trades,
+                        size_t trades_length, uint8_t *reply, size_t reply_length, uint64_t time);
 
 /* What an auction held now would do. Reply: price, volume, and surplus in two's complement; all 0 where no price qualifies.
  * 15, 18. */

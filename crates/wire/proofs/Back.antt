@@ -1,36 +1,18 @@
 -- What is stored is read back, and bytes that are read and stored again are the same bytes. Assumes nothing.
 use Prim.Native.Nat.{ℕ, zero, suc, _+_, _*_, _/_, _^_, _≤_, _<_}
-use mathlib.Core.Path.{_≡_, refl, sym, ap, _∙_}
-use mathlib.Core.List.{List, [], _∷_, _++_, append-assoc, append-nil}
+use mathlib.Core.Path.{_≡_, refl, ap, _∙_}
+use mathlib.Core.List.{List, [], _∷_, _++_, append-assoc}
 use native.Mathlib.Omega.{arith}
 use native.Mathlib.Nat.{mul-suc, mul-zero, add-comm}
-use lib.ListN.{length, getD, take, drop, length-append, length-drop, length-take, take-append-drop}
+use lib.ListN.{length, getD, take, drop, length-append, length-drop, take-append-drop}
 use lib.Seq.{getD-drop, take-at, drop-at, take-add, length-take-le}
 use Rattle.model.specs.declared.Order.{Order}
 use Rattle.model.specs.declared.Day.{Day}
 use Rattle.book.specs.Rows.{orderOf, rowOf}
 use Rattle.book.specs.Standing.{Each}
-use Rattle.wire.specs.Layout.{
-  worth,
-  parts,
-  numberIn,
-  numbers,
-  orderIn,
-  dayOf,
-  dayIn,
-  bookIn,
-  pricesIn,
-  digits,
-  flat,
-  bytes,
-  orderBytes,
-  bookBytes,
-  dayRow,
-  dayBytes,
-  over,
-}
+use Rattle.wire.specs.Layout.{parts, numberIn, numbers, orderIn, dayOf, dayIn, bookIn, pricesIn, digits, flat, bytes, orderBytes, tradeIn, tradeBytes, tradesIn, tradesBytes, bookBytes, dayRow, dayBytes, over}
 use Rattle.wire.proofs.Digits.{length-digits, worth-digits, digits-worth}
-use Rattle.wire.proofs.Sizes.{length-bytes, length-order, length-book, length-day}
+use Rattle.wire.proofs.Sizes.{length-order, length-book}
 
 -- every element is a byte
 abbrev pub AllBytes : List ℕ → Type 0
@@ -84,6 +66,24 @@ unfolding bookBytes bookIn
 book-kept b s =
     let h : 40 * (length b / 40) ≤ length b = omega arith in
     kept _ b (40 * (length b / 40)) (flat-parts orderIn orderBytes 40 order-again (length b / 40) b h s) h
+
+trade-again : (b : List ℕ) → 32 ≤ length b → AllBytes b → tradeBytes (tradeIn b) ≡ take 32 b
+unfolding numbers parts
+trade-again b h s = numbers-again 4 b h s
+
+pub trades-again : (b : List ℕ) → AllBytes b → tradesBytes (tradesIn b) ≡ take (32 * (length b / 32)) b
+unfolding tradesBytes tradesIn
+trades-again b s = flat-parts tradeIn tradeBytes 32 trade-again (length b / 32) b (omega arith) s
+
+pub trades-kept : (b : List ℕ) → AllBytes b → over (tradesBytes (tradesIn b)) b ≡ b
+trades-kept b s = kept _ b (32 * (length b / 32)) (trades-again b s) (omega arith)
+
+day-again : (b : List ℕ) → 64 ≤ length b → AllBytes b → dayBytes (dayIn b) ≡ take 64 b
+unfolding dayBytes dayIn numbers parts
+day-again b h s = numbers-again 8 b h s
+
+pub day-kept : (b : List ℕ) → length b ≡ 64 → AllBytes b → over (dayBytes (dayIn b)) b ≡ b
+day-kept b h s = kept _ b 64 (day-again b (omega arith) s) (omega arith)
 
 pub prices-kept : (b : List ℕ) → AllBytes b → over (bytes (pricesIn b)) b ≡ b
 unfolding pricesIn

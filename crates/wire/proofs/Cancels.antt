@@ -1,6 +1,6 @@
 -- A cancel on bytes: refused for its day's length or its book's, or the call on the rows. Assumes nothing.
 use Prim.Native.Nat.{ℕ, _/_, _<_}
-use mathlib.Core.Path.{_≡_, refl, sym, ap, _∙_}
+use mathlib.Core.Path.{_≡_, refl, ap, _∙_}
 use mathlib.Core.List.{List}
 use lib.ListN.{length}
 use borrow.Author.Tests.{eq-eqb, ne-eqb}

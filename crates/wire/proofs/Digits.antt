@@ -1,22 +1,10 @@
 -- One number as eight bytes: read from the last byte down, written from the first byte up, and the way back from either. Assumes
 -- nothing.
 use Prim.Native.Nat.{ℕ, zero, suc, _+_, _*_, _-_, _/_, _%_, _^_, _≤_, _<_}
-use mathlib.Core.Path.{_≡_, refl, sym, ap, _∙_}
-use mathlib.Core.List.{List, [], _∷_, _++_}
+use mathlib.Core.Path.{_≡_, refl, ap, _∙_}
+use mathlib.Core.List.{List, [], _∷_}
 use native.Mathlib.Omega.{arith}
-use native.Mathlib.Nat.{
-  div-add-mod,
-  mod-lt,
-  mod-eq-of-lt,
-  div-eq-of-lt,
-  div-lt-iff-lt-mul,
-  add-mul-div-left,
-  add-mul-mod-self-left,
-  pow-suc,
-  pow-le-pow-right,
-  zero-add,
-  add-zero,
-}
+use native.Mathlib.Nat.{div-add-mod, mod-eq-of-lt, div-eq-of-lt, div-lt-iff-lt-mul, add-mul-div-left, add-mul-mod-self-left, pow-suc, pow-le-pow-right, zero-add, add-zero}
 use lib.Dec.{lit<}
 use lib.ListN.{length, getD, take, drop, set, length-set}
 use lib.Seq.{sets, drop-cons}

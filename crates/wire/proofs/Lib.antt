@@ -7,7 +7,9 @@ pub mod Stored
 pub mod Back
 pub mod Signs
 pub mod Refused
+pub mod Rooms
 pub mod Cancels
 pub mod Openings
 pub mod Reports
 pub mod PriceList
+pub mod Traded

@@ -1,7 +1,7 @@
 -- An opening on bytes: refused for its day's length or its book's, or the call on the rows and the new day. Assumes nothing.
 use Prim.Native.Nat.{ℕ, _/_, _<_}
 use mathlib.Core.Path.{_≡_, refl, sym, ap, _∙_}
-use mathlib.Core.Bool.{Bool, false, _&&_, and-false}
+use mathlib.Core.Bool.{_&&_, and-false}
 use mathlib.Core.List.{List}
 use lib.ListN.{length}
 use borrow.Author.Tests.{eq-eqb, ne-eqb}

@@ -1,14 +1,13 @@
 -- The price list on bytes: prices put one by one, refused for its day's length or its book's, or what is due. Assumes nothing.
 use Prim.Native.Nat.{ℕ, zero, suc, _+_, _*_, _-_, _/_, _≤_, _<_}
 use mathlib.Core.Path.{_≡_, refl, sym, ap, _∙_}
-use mathlib.Core.Bool.{Bool, true, false, _&&_}
+use mathlib.Core.Bool.{true, false}
 use mathlib.Core.List.{List, [], _∷_, _++_, append-assoc}
 use native.Mathlib.Omega.{arith}
-use native.Mathlib.Nat.{suc-add, zero-add, mul-suc, mul-zero, add-comm}
+use native.Mathlib.Nat.{suc-add, zero-add, mul-zero}
 use lib.ListN.{length, drop, set, length-set}
-use lib.Seq.{sets, sets-eq, drop-at}
+use lib.Seq.{sets}
 use borrow.Author.Tests.{eq-eqb, ne-eqb}
-use Rattle.model.specs.declared.Order.{Order}
 use Rattle.model.specs.declared.Day.{Day}
 use Rattle.model.specs.declared.ListReply as ListReply
 use Rattle.model.specs.Lists.{from}
@@ -17,7 +16,6 @@ use Rattle.model.specs.AuctionCalls.{ListOutcome, listRules, due, listCall}
 use Rattle.model.specs.Replies.{listNumbers}
 use Rattle.book.specs.Rows.{bookOf}
 use Rattle.auction.specs.declared.Listed.{Listed}
-use Rattle.auction.specs.Fitting.{fitted, listed}
 use Rattle.auction.proofs.Writing.{Filled, filled-start, filled-next, filled-full, filled-out, Wrote, wrote-none}
 use Rattle.day.proofs.AuctionLaws.{list-refused, list-accepted}
 use Rattle.wire.specs.Layout.{numberIn, numbers, digits, flat, bytes, dayIn, bookIn, pricesIn, over}

@@ -1,7 +1,7 @@
 -- The auction report on bytes: its reply as words, and refused for its day's length or its book's, or the call on the rows.
 -- Assumes nothing.
 use Prim.Native.Nat.{ℕ, _/_, _<_}
-use mathlib.Core.Path.{_≡_, refl, sym, ap, _∙_}
+use mathlib.Core.Path.{_≡_, _∙_}
 use mathlib.Core.List.{List, [], _∷_}
 use lib.ListN.{length}
 use lib.IntN.{ℤ}

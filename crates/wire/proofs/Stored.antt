@@ -1,17 +1,20 @@
 -- A day, a book and a reply as a call reads and stores them. Assumes nothing.
 use Prim.Native.Nat.{ℕ, _*_, _/_, _≤_, _<_}
-use mathlib.Core.Path.{_≡_, sym, ap, _∙_}
-use mathlib.Core.List.{List}
+use mathlib.Core.Path.{_≡_, _∙_}
+use mathlib.Core.List.{List, [], _∷_}
 use native.Mathlib.Omega.{arith}
-use lib.ListN.{length, take, length-map, length-take}
+use lib.ListN.{length, take, length-map}
 use lib.Seq.{sets, take-all, length-take-le}
-use Rattle.model.specs.declared.Order.{Order}
 use Rattle.model.specs.declared.Day.{Day}
-use Rattle.book.specs.Rows.{orderOf, bookOf}
-use Rattle.wire.specs.Layout.{parts, flat, bytes, dayRow, dayBytes, orderIn, orderBytes, bookIn, bookBytes, over}
+use Rattle.model.specs.declared.Entry.{Entry}
+use Rattle.model.specs.declared.OrderReply.{OrderReply}
+use Rattle.model.specs.declared.OrderReply.the-variants.{Accepted}
+use Rattle.model.specs.Replies.{restingOf, withdrawnOf, entryNumbers, orderNumbers}
+use Rattle.book.specs.Rows.{orderOf, bookOf, tradeOf, tradesOf}
+use Rattle.wire.specs.Layout.{parts, flat, bytes, dayRow, dayBytes, orderIn, orderBytes, bookIn, bookBytes, tradeBytes, tradesBytes, over}
 use Rattle.wire.specs.Exports.{returned, replied}
 use Rattle.wire.proofs.Runs.{sets-over}
-use Rattle.wire.proofs.Sizes.{length-bytes, length-day, length-book}
+use Rattle.wire.proofs.Sizes.{length-bytes, length-day, length-book, length-trades}
 
 pub day-put : (b : List ℕ) (d : Day) (b' : List ℕ) → 64 ≤ length b → b' ≡ sets b 0 (bytes (dayRow d)) → b' ≡ over (dayBytes d) b
 unfolding dayBytes
@@ -31,6 +34,15 @@ pub book-put :
 unfolding bookBytes
 book-put b rows b' h e =
     e ∙ sets-over (bookBytes (bookOf rows)) b (omega (arith, length-book (bookOf rows), length-map rows orderOf))
+
+pub trades-put :
+    (b : List ℕ) (list : List (List ℕ)) (b' : List ℕ)
+    → 32 * length list ≤ length b
+    → b' ≡ sets b 0 (flat tradeBytes (tradesOf list))
+    → b' ≡ over (tradesBytes (tradesOf list)) b
+unfolding tradesBytes
+trades-put b list b' h e =
+    e ∙ sets-over (tradesBytes (tradesOf list)) b (omega (arith, length-trades (tradesOf list), length-map list tradeOf))
 
 -- ---- a reply
 
@@ -52,3 +64,13 @@ pub answered :
     → reply' ≡ replied ns reply
     → (returned ns ≡ returned told) × (reply' ≡ replied told reply)
 answered ns told reply e f = (rw e, rw e f)
+
+-- the numbers of an accepted order
+pub accepted-numbers :
+    (e : Entry) {told : OrderReply} {resting withdrawn : ℕ}
+    → told ≡ Accepted e
+    → resting ≡ restingOf (e .remainder)
+    → withdrawn ≡ withdrawnOf (e .remainder)
+    → orderNumbers told ≡ 0 ∷ e .number ∷ e .filled ∷ resting ∷ withdrawn ∷ e .levels ∷ []
+unfolding orderNumbers entryNumbers
+accepted-numbers e t r w = rw (t, r, w)

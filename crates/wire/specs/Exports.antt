@@ -8,17 +8,24 @@ use lib.ListN.{length, getD, take}
 use lib.IntN.{ℤ, pos, negsuc}
 use lib.Dec.{eqb}
 use Rattle.model.specs.declared.Order.{Order}
+use Rattle.model.specs.declared.Asked.{Asked}
+use Rattle.model.specs.declared.Day.{Day}
+use Rattle.model.specs.declared.OrderReply as OrderReply
+use Rattle.model.specs.declared.OrderAnswer.{OrderAnswer}
+use Rattle.model.specs.declared.ClockReply as ClockReply
+use Rattle.model.specs.declared.ClockAnswer.{ClockAnswer}
 use Rattle.model.specs.declared.OpenReply as OpenReply
 use Rattle.model.specs.declared.CancelReply as CancelReply
 use Rattle.model.specs.declared.ReportReply as ReportReply
 use Rattle.model.specs.declared.ListReply as ListReply
 use Rattle.model.specs.Choice.{if_then_else_}
-use Rattle.model.specs.Calls.{OpenOutcome, openCall, CancelOutcome, cancelCall}
+use Rattle.model.specs.Calls.{Outcome, orderCall, OpenOutcome, openCall, CancelOutcome, cancelCall}
+use Rattle.model.specs.ClockCall.{clockCall}
 use Rattle.model.specs.AuctionCalls.{reportCall, ListOutcome, listCall}
-use Rattle.model.specs.Replies.{openNumbers, cancelNumbers, reportNumbers, listNumbers}
+use Rattle.model.specs.Replies.{openNumbers, orderNumbers, cancelNumbers, clockNumbers, reportNumbers, listNumbers}
 use Rattle.auction.specs.declared.Listed.{Listed}
 use Rattle.auction.specs.Fitting.{fitted, listed}
-use Rattle.wire.specs.Layout.{bytes, dayIn, dayBytes, bookIn, bookBytes, pricesIn, over}
+use Rattle.wire.specs.Layout.{bytes, dayIn, dayBytes, bookIn, bookBytes, tradesIn, tradesBytes, pricesIn, over}
 
 -- a reply in its buffer: as many whole numbers as it holds, the rest of it stays
 unfoldable pub replied : List ℕ → List ℕ → List ℕ
@@ -74,6 +81,48 @@ openLeaves o day book reply =
       book = over (bookBytes (o .book)) book;
       reply = replied (openNumbers (o .reply)) reply;
     }
+
+-- ---- an order, and a move of the clock
+
+-- what a call has answered and left of the bytes of book and trade list, before day and reply are put
+pub record Traded {A : Type 0} (r : A) (left list : List ℕ) (o : Outcome A) (book trades : List ℕ) : Type 0 where
+  pub told : r ≡ o .answer
+  pub places : left ≡ over (bookBytes (o .book)) book
+  pub written : list ≡ over (tradesBytes (o .trades)) trades
+
+pub record TradeLeft : Type 0 where
+  pub returns : ℕ
+  pub day : List ℕ
+  pub book : List ℕ
+  pub trades : List ℕ
+  pub reply : List ℕ
+
+abbrev pub tradeLeft : ℕ → List ℕ → List ℕ → List ℕ → List ℕ → TradeLeft
+tradeLeft r day book trades reply =
+    record { returns = r; day = day; book = book; trades = trades; reply = reply }
+
+-- the numbers of the reply, the day, and the outcome's book and trades
+unfoldable pub tradeLeaves : {A : Type 0} → List ℕ → Day → Outcome A → List ℕ → List ℕ → List ℕ → List ℕ → TradeLeft
+tradeLeaves ns d o day book trades reply =
+    tradeLeft (returned ns) (over (dayBytes d) day) (over (bookBytes (o .book)) book)
+    (over (tradesBytes (o .trades)) trades)
+    (replied ns reply)
+
+unfoldable pub orderLeaves : Asked → List ℕ → List ℕ → List ℕ → List ℕ → TradeLeft
+orderLeaves a day book trades reply =
+    let o : Outcome OrderAnswer = orderCall (dayIn day) a (bookIn book) (tradesIn trades) in
+    let no : List ℕ = orderNumbers (OrderReply.the-variants.Refused 15) in
+    if hasDay day
+    then tradeLeaves (orderNumbers (o .answer .reply)) (o .answer .day) o day book trades reply
+    else tradeLeft (returned no) day book trades (replied no reply)
+
+unfoldable pub clockLeaves : ℕ → List ℕ → List ℕ → List ℕ → List ℕ → TradeLeft
+clockLeaves time day book trades reply =
+    let o : Outcome ClockAnswer = clockCall (dayIn day) time (bookIn book) (tradesIn trades) in
+    let no : List ℕ = clockNumbers (ClockReply.the-variants.Refused 15) in
+    if hasDay day
+    then tradeLeaves (clockNumbers (o .answer .reply)) (o .answer .day) o day book trades reply
+    else tradeLeft (returned no) day book trades (replied no reply)
 
 -- ---- a cancel
 

@@ -6,3 +6,4 @@ pub mod numbers;
 pub mod opening;
 pub mod records;
 pub mod replies;
+pub mod trading;

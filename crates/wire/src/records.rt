@@ -3,19 +3,27 @@ use crate::numbers::put_numbers;
 use crate::numbers::read_numbers;
 use book::order_at;
 use book::put_order;
+use book::trade_at;
 use model::Day;
 use model::Order;
+use model::Trade;
 ghost use mathlib.Core.Path.{_≡_};
 ghost use Prim.Native.Nat.{_+_, _*_, _/_, _≤_};
 ghost use lib.ListN.{length, drop};
 ghost use lib.Seq.{sets};
-ghost use Rattle.book.specs.Rows.{bookOf};
-ghost use Rattle.wire.specs.Layout.{dayIn, dayBytes, orderIn, orderBytes, bookIn, bookBytes, over};
+ghost use Rattle.book.specs.Rows.{bookOf, tradesOf};
+ghost use Rattle.wire.specs.Layout.{dayIn, dayBytes, orderIn, orderBytes, tradeBytes, bookIn, bookBytes, tradesBytes, over};
 
 // Room for the rows of a book: a function of its own, so that no proof looks into 4,096 rows.
 pub fn room() -> [[u64; 5]; 4096] {
     let free = [0u64; 5];
     [free; 4096]
+}
+
+// And for the trades of a call: no event has more.
+pub fn trade_room() -> [[u64; 4]; 4096] {
+    let none = [0u64; 4];
+    [none; 4096]
 }
 
 // The day that 64 bytes hold.
@@ -77,6 +85,14 @@ fn put_order_bytes(b: &mut [u8], at: usize, o: Order)
     put_numbers(b, at, &row[..]);
 }
 
+fn put_trade_bytes(b: &mut [u8], at: usize, t: Trade)
+    requires { ⌜ at + 32 ≤ length (now b) ⌝ }
+    ensures { λ _. ⌜ now (b .exit) ≡ sets (now (b .entry)) at (tradeBytes t) ⌝ }
+{
+    let row = [t.price, t.quantity, t.buyer, t.seller];
+    put_numbers(b, at, &row[..]);
+}
+
 // Fills rows with the book that the bytes hold.
 pub fn load_book(b: &[u8], rows: &mut [[u64; 5]])
     requires { ⌜ length (now rows) ≡ length (now b) / 40 ⌝ }
@@ -97,6 +113,18 @@ pub fn store_book(b: &mut [u8], rows: &[[u64; 5]])
     let mut i: usize = 0;
     while i < rows.len() {
         put_order_bytes(&mut *b, 40 * i, order_at(rows, i));
+        i += 1;
+    }
+}
+
+// Writes the trades of a list to the bytes' front.
+pub fn store_trades(b: &mut [u8], list: &[[u64; 4]])
+    requires { ⌜ 32 * length (now list) ≤ length (now b) ⌝ }
+    ensures { λ _. ⌜ now (b .exit) ≡ over (tradesBytes (tradesOf (now (list .entry)))) (now (b .entry)) ⌝ }
+{
+    let mut i: usize = 0;
+    while i < list.len() {
+        put_trade_bytes(&mut *b, 32 * i, trade_at(list, i));
         i += 1;
     }
 }

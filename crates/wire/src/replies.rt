@@ -1,11 +1,14 @@
 // Replies as bytes: the refusal's number first, then the values, as many whole numbers as the buffer holds.
 use crate::numbers::put_numbers;
 use model::CancelReply;
+use model::ClockReply;
 use model::ListReply;
 use model::OpenReply;
+use model::OrderReply;
+use model::Remainder;
 use model::ReportReply;
 ghost use mathlib.Core.Path.{_≡_};
-ghost use Rattle.model.specs.Replies.{openNumbers, cancelNumbers, listNumbers};
+ghost use Rattle.model.specs.Replies.{restingOf, withdrawnOf, openNumbers, orderNumbers, cancelNumbers, clockNumbers, listNumbers};
 ghost use Rattle.wire.specs.Exports.{returned, replied, word, reportWords};
 
 fn put_reply(reply: &mut [u8], list: &[u64])
@@ -97,6 +100,68 @@ pub fn reply_report(told: ReportReply, reply: &mut [u8]) -> u64
             surplus,
         } => {
             let row = [0, price, volume, word_of(surplus)];
+            put_reply(reply, &row[..]);
+            return 0;
+        }
+    }
+}
+
+fn resting(r: Remainder) -> u64
+    ensures { λ q. ⌜ q ≡ restingOf r ⌝ }
+{
+    match r {
+        Remainder::Nothing => 0,
+        Remainder::Rests(q) => q,
+        Remainder::Withdrawn(_) => 0,
+    }
+}
+
+fn withdrawn(r: Remainder) -> u64
+    ensures { λ q. ⌜ q ≡ withdrawnOf r ⌝ }
+{
+    match r {
+        Remainder::Nothing => 0,
+        Remainder::Rests(_) => 0,
+        Remainder::Withdrawn(q) => q,
+    }
+}
+
+pub fn reply_order(told: OrderReply, reply: &mut [u8]) -> u64
+    ensures { λ r. ⌜ (r ≡ returned (orderNumbers told)) × (now (reply .exit) ≡ replied (orderNumbers told) (now (reply .entry))) ⌝ }
+{
+    match told {
+        OrderReply::Refused(n) => {
+            let row = [n, 0, 0, 0, 0, 0];
+            put_reply(reply, &row[..]);
+            return n;
+        }
+        OrderReply::Accepted(e) => {
+            let rem = e.remainder;
+            let row = [
+                0,
+                e.number,
+                e.filled,
+                resting(rem),
+                withdrawn(rem),
+                e.levels,
+            ];
+            put_reply(reply, &row[..]);
+            return 0;
+        }
+    }
+}
+
+pub fn reply_clock(told: ClockReply, reply: &mut [u8]) -> u64
+    ensures { λ r. ⌜ (r ≡ returned (clockNumbers told)) × (now (reply .exit) ≡ replied (clockNumbers told) (now (reply .entry))) ⌝ }
+{
+    match told {
+        ClockReply::Refused(n) => {
+            let row = [n, 0, 0];
+            put_reply(reply, &row[..]);
+            return n;
+        }
+        ClockReply::Moved { phase, trades } => {
+            let row = [0, phase, trades as u64];
             put_reply(reply, &row[..]);
             return 0;
         }

@@ -1,6 +1,5 @@
 -- `wire::listing::put_run` meets its contract: the invariant is `Listing`. Assumes nothing.
 use Prim.Native.Nat.{_-_, _/_}
-use native.Mathlib.Omega.{arith}
 use borrow.Author.Needs.{needs}
 use lib.ListN.{length}
 use Rattle.wire.proofs.PriceList.{Listing, listing-start, listing-next, listing-full, listing-out}

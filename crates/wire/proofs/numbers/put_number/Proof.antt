@@ -1,7 +1,6 @@
 -- `wire::numbers::put_number` meets its contract: the invariant is `Putting`. Assumes nothing.
 use Prim.Native.Nat.{_-_}
 use borrow.Author.Needs.{needs}
-use native.Mathlib.Omega.{arith}
 use Rattle.wire.proofs.Digits.{Putting, putting-start, putting-next, putting-end}
 use Rattle.wire.proofs.numbers.put_number.Statement.{statement}
 use Rattle.wire.proofs.numbers.put_number.Tie as tie

@@ -1,6 +1,5 @@
 -- `wire::opening::put_opened` meets its contract: the new day is put, or the old one stays. Assumes nothing.
 use mathlib.Core.Path.{sym, ap, _∙_}
-use mathlib.Core.List.{List}
 use borrow.Author.Needs.{needs}
 use Rattle.model.specs.declared.OpenReply.{OpenReply}
 use Rattle.wire.specs.Exports.{dayLeft}

@@ -1,0 +1,257 @@
+-- An order and a move of the clock on bytes: what was made goes to the front of the trades' bytes, the day and the book are
+-- those of the outcome, and a refusal by a length leaves everything as it was. Assumes nothing.
+use Prim.Native.Nat.{ℕ, zero, suc, _+_, _*_, _/_, _≤_, _<_, min}
+use mathlib.Core.Path.{_≡_, refl, sym, ap, _∙_}
+use mathlib.Core.List.{List, [], _∷_, _++_, append-assoc}
+use native.Mathlib.Omega.{arith}
+use lib.ListN.{length, take, drop, length-map, length-append, length-drop, take-append-drop}
+use lib.Seq.{take-at, drop-append-le, length-take-le}
+use borrow.Author.Tests.{eq-eqb, ne-eqb}
+use Rattle.model.specs.declared.Order.{Order}
+use Rattle.model.specs.declared.Asked.{Asked}
+use Rattle.model.specs.declared.Trade.{Trade}
+use Rattle.model.specs.declared.Day.{Day}
+use Rattle.model.specs.declared.OrderReply as OrderReply
+use Rattle.model.specs.declared.OrderAnswer.{OrderAnswer}
+use Rattle.model.specs.declared.ClockReply as ClockReply
+use Rattle.model.specs.declared.ClockAnswer.{ClockAnswer}
+use Rattle.model.specs.Refusals.{_when_, firstOf}
+use Rattle.model.specs.Calls.{Outcome, written, orderRules, orderCall}
+use Rattle.model.specs.ClockCall.{clockRules, clockCall}
+use Rattle.model.specs.Replies.{orderNumbers, clockNumbers}
+use Rattle.book.specs.Rows.{bookOf, tradeOf, tradesOf}
+use Rattle.day.specs.Promises as promises
+use Rattle.wire.specs.Layout.{tradeIn, tradeBytes, dayIn, dayBytes, bookIn, bookBytes, tradesIn, tradesBytes, over}
+use Rattle.wire.specs.Exports.{returned, replied, Traded, tradeLeft, tradeLeaves, orderLeaves, clockLeaves}
+use Rattle.wire.proofs.Runs.{flat-append, flat-drop}
+use Rattle.wire.proofs.Sizes.{length-trade, length-trades}
+use Rattle.wire.proofs.Back.{AllBytes, length-parts, trades-again, trades-kept, day-kept, book-kept}
+use Rattle.wire.proofs.Refused.{too-many-unsound}
+use Rattle.wire.proofs.Rooms.{Alike, order-alike, clock-alike}
+
+-- ---- the trades' bytes
+
+length-trades-in : (b : List ℕ) → length (tradesIn b) ≡ length b / 32
+unfolding tradesIn
+length-trades-in b = length-parts tradeIn 32 (length b / 32) b
+
+trades-take : (n : ℕ) (rows : List (List ℕ)) → tradesOf (take n rows) ≡ take n (tradesOf rows)
+trades-take zero rows = refl
+trades-take (suc n) [] = refl
+trades-take (suc n) (r ∷ rows) = ap (λ (ts : List Trade). tradeOf r ∷ ts) (trades-take n rows)
+
+-- behind the new trades stand the old ones, with their old bytes
+new-bytes :
+    (new : List Trade) (b : List ℕ)
+    → AllBytes b
+    → length new ≤ length b / 32
+    → tradesBytes (written new (tradesIn b)) ≡ tradesBytes new ++ drop (32 * length new) (take (32 * (length b / 32)) b)
+unfolding written tradesBytes
+new-bytes new b s h =
+    let k : length new ≤ length (tradesIn b) = rw length-trades-in h in
+    flat-append tradeBytes new (drop (length new) (tradesIn b))
+    ∙ ap (λ (l : List ℕ). tradesBytes new ++ l)
+    (flat-drop tradeBytes 32 length-trade (length new) (tradesIn b) k ∙ ap (drop (32 * length new)) (trades-again b s))
+
+pub over-written :
+    (new : List Trade) (b : List ℕ)
+    → AllBytes b
+    → length new ≤ length b / 32
+    → over (tradesBytes (written new (tradesIn b))) b ≡ over (tradesBytes new) b
+unfolding over
+over-written new b s h =
+    let t : List ℕ = tradesBytes new in
+    let j : ℕ = 32 * length new in
+    let m : ℕ = 32 * (length b / 32) in
+    let tl : length t ≡ j = length-trades new in
+    let ml : length (take m b) ≡ m = length-take-le m b (omega arith) in
+    let le : j ≤ length (take m b) = omega arith in
+    let x : length (t ++ drop j (take m b)) ≡ m = simp (length-append, length-drop) (omega arith) in
+    let y : drop j (take m b) ++ drop m b ≡ drop j b =
+    sym (drop-append-le j (take m b) (drop m b) le) ∙ ap (drop j) (take-append-drop m b) in
+    rw (new-bytes new b s h, x, tl, append-assoc t (drop j (take m b)) (drop m b), y)
+
+-- ---- the call on rows
+
+module _ {A : Type 0} (made : A → ℕ) (book trades : List ℕ) (list : List (List ℕ)) (k : length list ≡ min 4_096 (length trades / 32)) where
+  rows-made :
+      (rows' list' : List (List ℕ)) {o p : Outcome A} {r : A}
+      → Alike made (tradesOf list) (tradesIn trades) o p
+      → promises.left r rows' list' ≡ o
+      → made r ≤ length list
+  rows-made rows' list' {o} {p} {r} a e =
+      let c : made r ≡ length (a .new) = ap (λ (o : Outcome A). made (o .answer)) e ∙ a .count in
+      omega (arith, a .fits, length-map list tradeOf)
+
+  rows-traded :
+      (rows' list' : List (List ℕ)) {o p : Outcome A} {r : A} {left' trades' : List ℕ}
+      → Alike made (tradesOf list) (tradesIn trades) o p
+      → promises.left r rows' list' ≡ o
+      → left' ≡ over (bookBytes (bookOf rows')) book
+      → trades' ≡ over (tradesBytes (tradesOf (take (made r) list'))) trades
+      → AllBytes trades
+      → Traded r left' trades' p book trades
+  unfolding written
+  rows-traded rows' list' {o} {p} {r} {left'} {trades'} a e w v s =
+      let new : List Trade = a .new in
+      let c : made r ≡ length new = ap (λ (o : Outcome A). made (o .answer)) e ∙ a .count in
+      let f : length new ≤ length trades / 32 = omega (arith, a .fits, length-map list tradeOf) in
+      let l : tradesOf list' ≡ written new (tradesOf list) = ap (λ (o : Outcome A). o .trades) e ∙ a .there in
+      let n : tradesOf (take (made r) list') ≡ new =
+      trades-take (made r) list' ∙ rw (c, l) (take-at new (drop (length new) (tradesOf list)) (length new) refl) in
+      record {
+        told = ap (λ (o : Outcome A). o .answer) e ∙ a .answer;
+        places =
+            w
+            ∙ ap (λ (os : List Order). over (bookBytes os) book) (ap (λ (o : Outcome A). o .book) e ∙ a .book);
+        written =
+            v
+            ∙ ap (λ (ts : List Trade). over (tradesBytes ts) trades) n
+            ∙ sym (over-written new trades s f)
+            ∙ ap (λ (ts : List Trade). over (tradesBytes ts) trades) (sym (a .here));
+      }
+
+module _ (day book trades : List ℕ) (rows list : List (List ℕ)) {d : Day}
+    (b : bookOf rows ≡ bookIn book)
+    (e : d ≡ dayIn day)
+    (k : length list ≡ min 4_096 (length trades / 32)) where
+  short : length (tradesOf list) ≡ min 4_096 (length (tradesIn trades))
+  short = rw (length-map, length-trades-in) k
+
+  order-like :
+      (a : Asked)
+      → Alike (λ (r : OrderAnswer). r .made) (tradesOf list) (tradesIn trades)
+      (orderCall d a (bookOf rows) (tradesOf list))
+      (orderCall (dayIn day) a (bookIn book) (tradesIn trades))
+  order-like a = rw (e, b) (order-alike (bookIn book) (tradesOf list) (tradesIn trades) short (dayIn day) a)
+
+  clock-like :
+      (t : ℕ)
+      → Alike (λ (r : ClockAnswer). r .made) (tradesOf list) (tradesIn trades)
+      (clockCall d t (bookOf rows) (tradesOf list))
+      (clockCall (dayIn day) t (bookIn book) (tradesIn trades))
+  clock-like t = rw (e, b) (clock-alike (bookIn book) (tradesOf list) (tradesIn trades) short (dayIn day) t)
+
+  module _ (rows' list' : List (List ℕ)) where
+    module _ (a : Asked) {r : OrderAnswer} (p : promises.left r rows' list' ≡ orderCall d a (bookOf rows) (tradesOf list)) where
+      pub order-made : r .made ≤ length list
+      order-made = rows-made (λ (r : OrderAnswer). r .made) book trades list k rows' list' (order-like a) p
+
+      pub order-rows :
+          {left' trades' : List ℕ}
+          → left' ≡ over (bookBytes (bookOf rows')) book
+          → trades' ≡ over (tradesBytes (tradesOf (take (r .made) list'))) trades
+          → AllBytes trades
+          → Traded r left' trades' (orderCall (dayIn day) a (bookIn book) (tradesIn trades)) book trades
+      order-rows w v s =
+          rows-traded (λ (r : OrderAnswer). r .made) book trades list k rows' list' (order-like a) p w v s
+
+    module _ (t : ℕ) {r : ClockAnswer} (p : promises.left r rows' list' ≡ clockCall d t (bookOf rows) (tradesOf list)) where
+      pub clock-made : r .made ≤ length list
+      clock-made = rows-made (λ (r : ClockAnswer). r .made) book trades list k rows' list' (clock-like t) p
+
+      pub clock-rows :
+          {left' trades' : List ℕ}
+          → left' ≡ over (bookBytes (bookOf rows')) book
+          → trades' ≡ over (tradesBytes (tradesOf (take (r .made) list'))) trades
+          → AllBytes trades
+          → Traded r left' trades' (clockCall (dayIn day) t (bookIn book) (tradesIn trades)) book trades
+      clock-rows w v s =
+          rows-traded (λ (r : ClockAnswer). r .made) book trades list k rows' list' (clock-like t) p w v s
+
+-- ---- what is left
+
+module _ {A : Type 0} (numbers : A → List ℕ) (dayOf : A → Day) (o : Outcome A) (day book trades reply : List ℕ) where
+  left-by :
+      {answer : A} {day' left' trades' reply' : List ℕ} {r : ℕ}
+      → Traded answer left' trades' o book trades
+      → day' ≡ over (dayBytes (dayOf answer)) day
+      → (r ≡ returned (numbers answer)) × (reply' ≡ replied (numbers answer) reply)
+      → tradeLeft r day' left' trades' reply' ≡ tradeLeaves (numbers (o .answer)) (dayOf (o .answer)) o day book trades reply
+  unfolding tradeLeaves
+  left-by {answer} {day'} {left'} {trades'} {reply'} {r} s y a =
+      let t : answer ≡ o .answer = s .told in
+      let p : left' ≡ over (bookBytes (o .book)) book = s .places in
+      let l : trades' ≡ over (tradesBytes (o .trades)) trades = s .written in
+      let n : r ≡ returned (numbers (o .answer)) = rw t at (a .0) in
+      let w : reply' ≡ replied (numbers (o .answer)) reply = rw t at (a .1) in
+      let z : day' ≡ over (dayBytes (dayOf (o .answer))) day = rw t at y in
+      cc
+
+-- every byte of day, book and trades is as it was
+untouched :
+    {A : Type 0} (ns : List ℕ) (answer : A) (day book trades reply : List ℕ) {reply' : List ℕ} {r : ℕ}
+    → length day ≡ 64
+    → AllBytes day
+    → AllBytes book
+    → AllBytes trades
+    → (r ≡ returned ns) × (reply' ≡ replied ns reply)
+    → tradeLeft r day book trades reply'
+    ≡ tradeLeaves ns (dayIn day) (record { answer = answer; book = bookIn book; trades = tradesIn trades }) day book trades reply
+unfolding tradeLeaves
+untouched ns answer day book trades reply {reply'} {r} h sd sb st a =
+    let d : over (dayBytes (dayIn day)) day ≡ day = day-kept day h sd in
+    let b : over (bookBytes (bookIn book)) book ≡ book = book-kept book sb in
+    let t : over (tradesBytes (tradesIn trades)) trades ≡ trades = trades-kept trades st in
+    cc (a .0, a .1)
+
+module _ (day book trades reply : List ℕ) {r : ℕ} {reply' : List ℕ} where
+  module _ (a : Asked) where
+    module _ (n : (r ≡ returned (orderNumbers (OrderReply.the-variants.Refused 15))) × (reply' ≡ replied (orderNumbers (OrderReply.the-variants.Refused 15)) reply)) where
+      pub order-no-day : (length day ≡ 64 → ⊥) → tradeLeft r day book trades reply' ≡ orderLeaves a day book trades reply
+      unfolding orderLeaves
+      order-no-day h = rw (ne-eqb (length day) 64 h) (cc (n .0, n .1))
+
+      pub order-too-many :
+          length day ≡ 64
+          → 4096 < length book / 40
+          → AllBytes day
+          → AllBytes book
+          → AllBytes trades
+          → tradeLeft r day book trades reply' ≡ orderLeaves a day book trades reply
+      unfolding orderLeaves orderCall orderRules firstOf _when_
+      order-too-many h m sd sb st =
+          rw (eq-eqb (length day) 64 h, too-many-unsound (dayIn day) book m)
+          (untouched (orderNumbers (OrderReply.the-variants.Refused 15)) _ day book trades reply h sd sb st n)
+
+    pub order-answered :
+        {answer : OrderAnswer} {day' left' trades' : List ℕ}
+        → length day ≡ 64
+        → Traded answer left' trades' (orderCall (dayIn day) a (bookIn book) (tradesIn trades)) book trades
+        → day' ≡ over (dayBytes (answer .day)) day
+        → (r ≡ returned (orderNumbers (answer .reply))) × (reply' ≡ replied (orderNumbers (answer .reply)) reply)
+        → tradeLeft r day' left' trades' reply' ≡ orderLeaves a day book trades reply
+    unfolding orderLeaves
+    order-answered h s y n =
+        rw (eq-eqb (length day) 64 h)
+        (left-by (λ (r : OrderAnswer). orderNumbers (r .reply)) (λ (r : OrderAnswer). r .day) _ day book trades reply s y n)
+
+  module _ (t : ℕ) where
+    module _ (n : (r ≡ returned (clockNumbers (ClockReply.the-variants.Refused 15))) × (reply' ≡ replied (clockNumbers (ClockReply.the-variants.Refused 15)) reply)) where
+      pub clock-no-day : (length day ≡ 64 → ⊥) → tradeLeft r day book trades reply' ≡ clockLeaves t day book trades reply
+      unfolding clockLeaves
+      clock-no-day h = rw (ne-eqb (length day) 64 h) (cc (n .0, n .1))
+
+      pub clock-too-many :
+          length day ≡ 64
+          → 4096 < length book / 40
+          → AllBytes day
+          → AllBytes book
+          → AllBytes trades
+          → tradeLeft r day book trades reply' ≡ clockLeaves t day book trades reply
+      unfolding clockLeaves clockCall clockRules firstOf _when_
+      clock-too-many h m sd sb st =
+          rw (eq-eqb (length day) 64 h, too-many-unsound (dayIn day) book m)
+          (untouched (clockNumbers (ClockReply.the-variants.Refused 15)) _ day book trades reply h sd sb st n)
+
+    pub clock-answered :
+        {answer : ClockAnswer} {day' left' trades' : List ℕ}
+        → length day ≡ 64
+        → Traded answer left' trades' (clockCall (dayIn day) t (bookIn book) (tradesIn trades)) book trades
+        → day' ≡ over (dayBytes (answer .day)) day
+        → (r ≡ returned (clockNumbers (answer .reply))) × (reply' ≡ replied (clockNumbers (answer .reply)) reply)
+        → tradeLeft r day' left' trades' reply' ≡ clockLeaves t day book trades reply
+    unfolding clockLeaves
+    clock-answered h s y n =
+        rw (eq-eqb (length day) 64 h)
+        (left-by (λ (r : ClockAnswer). clockNumbers (r .reply)) (λ (r : ClockAnswer). r .day) _ day book trades reply s y n)

@@ -1,0 +1,158 @@
+// An order and a move of the clock on bytes: the two calls that trade.
+use crate::records::day_in;
+use crate::records::load_book;
+use crate::records::put_day;
+use crate::records::room;
+use crate::records::store_book;
+use crate::records::store_trades;
+use crate::records::trade_room;
+use crate::replies::reply_clock;
+use crate::replies::reply_order;
+use day::entering::enter_order;
+use day::moving::move_clock;
+use model::Asked;
+use model::ClockAnswer;
+use model::ClockReply;
+use model::OrderAnswer;
+use model::OrderReply;
+ghost use mathlib.Core.Path.{_≡_};
+ghost use Prim.Native.Nat.{_/_, _≤_, min};
+ghost use lib.ListN.{length};
+ghost use Rattle.model.specs.Calls.{orderCall};
+ghost use Rattle.model.specs.ClockCall.{clockCall};
+ghost use Rattle.wire.specs.Layout.{dayIn, bookIn, tradesIn};
+ghost use Rattle.wire.specs.Exports.{Traded, tradeLeft, orderLeaves, clockLeaves};
+
+// As many trades as a lent list has places, and never more than an event can have.
+fn few(n: usize) -> usize
+    ensures { λ r. ⌜ r ≡ min 4_096 n ⌝ }
+{
+    if 4096 < n { 4096 } else { n }
+}
+
+// The bytes as rows, the call on the rows, and the rows and the trades that were made as bytes again.
+fn order_in(
+    day: &[u8],
+    book: &mut [u8],
+    trades: &mut [u8],
+    rows: &mut [[u64; 5]],
+    list: &mut [[u64; 4]],
+    a: Asked,
+) -> OrderAnswer
+    requires { ⌜ length (now day) ≡ 64 ⌝ }
+    requires { ⌜ length (now rows) ≡ length (now book) / 40 ⌝ }
+    requires { ⌜ length (now list) ≡ min 4_096 (length (now trades) / 32) ⌝ }
+    ensures { λ r. ⌜ Traded r (now (book .exit)) (now (trades .exit)) (orderCall (dayIn (now (day .entry))) a (bookIn (now (book .entry))) (tradesIn (now (trades .entry)))) (now (book .entry)) (now (trades .entry)) ⌝ }
+{
+    load_book(book, &mut *rows);
+    let answer = enter_order(day_in(day), a, &mut *rows, &mut *list);
+    store_book(book, rows);
+    let made = answer.made;
+    store_trades(trades, &list[..made]);
+    answer
+}
+
+fn order_on(day: &[u8], book: &mut [u8], trades: &mut [u8], a: Asked) -> OrderAnswer
+    requires { ⌜ length (now day) ≡ 64 ⌝ }
+    requires { ⌜ length (now book) / 40 ≤ 4_096 ⌝ }
+    ensures { λ r. ⌜ Traded r (now (book .exit)) (now (trades .exit)) (orderCall (dayIn (now (day .entry))) a (bookIn (now (book .entry))) (tradesIn (now (trades .entry)))) (now (book .entry)) (now (trades .entry)) ⌝ }
+{
+    let n = book.len() / 40;
+    let k = few(trades.len() / 32);
+    let mut rows = room();
+    let mut list = trade_room();
+    order_in(day, book, trades, &mut rows[..n], &mut list[..k], a)
+}
+
+// A book of more than 4,096 places is never read.
+#[no_mangle]
+pub extern "C" fn flemorix_order(
+    day: &mut [u8],
+    book: &mut [u8],
+    trades: &mut [u8],
+    reply: &mut [u8],
+    side: u64,
+    kind: u64,
+    account: u64,
+    quantity: u64,
+    price: u64,
+) -> u64
+    ensures { λ r. ⌜ tradeLeft r (now (day .exit)) (now (book .exit)) (now (trades .exit)) (now (reply .exit)) ≡ orderLeaves (record { side = side; kind = kind; account = account; quantity = quantity; price = price }) (now (day .entry)) (now (book .entry)) (now (trades .entry)) (now (reply .entry)) ⌝ }
+{
+    if day.len() != 64 {
+        return reply_order(OrderReply::Refused(15), reply);
+    }
+    if 4096 < book.len() / 40 {
+        return reply_order(OrderReply::Refused(15), reply);
+    }
+    let a = Asked {
+        side,
+        kind,
+        account,
+        quantity,
+        price,
+    };
+    let answer = order_on(day, book, trades, a);
+    let next = answer.day;
+    put_day(day, next);
+    let told = answer.reply;
+    reply_order(told, reply)
+}
+
+// The same for a move of the clock.
+fn clock_in(
+    day: &[u8],
+    book: &mut [u8],
+    trades: &mut [u8],
+    rows: &mut [[u64; 5]],
+    list: &mut [[u64; 4]],
+    time: u64,
+) -> ClockAnswer
+    requires { ⌜ length (now day) ≡ 64 ⌝ }
+    requires { ⌜ length (now rows) ≡ length (now book) / 40 ⌝ }
+    requires { ⌜ length (now list) ≡ min 4_096 (length (now trades) / 32) ⌝ }
+    ensures { λ r. ⌜ Traded r (now (book .exit)) (now (trades .exit)) (clockCall (dayIn (now (day .entry))) time (bookIn (now (book .entry))) (tradesIn (now (trades .entry)))) (now (book .entry)) (now (trades .entry)) ⌝ }
+{
+    load_book(book, &mut *rows);
+    let answer = move_clock(day_in(day), time, &mut *rows, &mut *list);
+    store_book(book, rows);
+    let made = answer.made;
+    store_trades(trades, &list[..made]);
+    answer
+}
+
+fn clock_on(day: &[u8], book: &mut [u8], trades: &mut [u8], time: u64) -> ClockAnswer
+    requires { ⌜ length (now day) ≡ 64 ⌝ }
+    requires { ⌜ length (now book) / 40 ≤ 4_096 ⌝ }
+    ensures { λ r. ⌜ Traded r (now (book .exit)) (now (trades .exit)) (clockCall (dayIn (now (day .entry))) time (bookIn (now (book .entry))) (tradesIn (now (trades .entry)))) (now (book .entry)) (now (trades .entry)) ⌝ }
+{
+    let n = book.len() / 40;
+    let k = few(trades.len() / 32);
+    let mut rows = room();
+    let mut list = trade_room();
+    clock_in(day, book, trades, &mut rows[..n], &mut list[..k], time)
+}
+
+// As for an order.
+#[no_mangle]
+pub extern "C" fn flemorix_clock(
+    day: &mut [u8],
+    book: &mut [u8],
+    trades: &mut [u8],
+    reply: &mut [u8],
+    time: u64,
+) -> u64
+    ensures { λ r. ⌜ tradeLeft r (now (day .exit)) (now (book .exit)) (now (trades .exit)) (now (reply .exit)) ≡ clockLeaves time (now (day .entry)) (now (book .entry)) (now (trades .entry)) (now (reply .entry)) ⌝ }
+{
+    if day.len() != 64 {
+        return reply_clock(ClockReply::Refused(15), reply);
+    }
+    if 4096 < book.len() / 40 {
+        return reply_clock(ClockReply::Refused(15), reply);
+    }
+    let answer = clock_on(day, book, trades, time);
+    let next = answer.day;
+    put_day(day, next);
+    let told = answer.reply;
+    reply_clock(told, reply)
+}
