@@ -1,0 +1,39 @@
+-- `first_calls::main` meets its contract: what the opening promises of its reply, evaluated, is the refusal 14. Assumes nothing.
+use mathlib.Core.Path.{_≡_, refl, ap, _∙_}
+use borrow.Author.Needs.{needs}
+use borrow.Author.Tests.{eq-eqb}
+use Rattle.model.specs.Limits.{isPrice}
+use Rattle.model.specs.Refusals.{_when_, firstOf}
+use Rattle.model.specs.Replies.{openNumbers}
+use Rattle.model.specs.Calls.{OpenOutcome, openRules, openCall}
+use Rattle.first_calls.specs.Refusal.{openRefusal}
+use Rattle.first_calls.proofs.main.Statement.{statement}
+use Rattle.first_calls.proofs.main.Tie as tie
+
+slice-aggregate-open-day : tie.Need-slice-aggregate-open-day
+slice-aggregate-open-day c = search needs
+
+open-day-requires : tie.Need-open-day-requires
+open-day-requires c κs = search needs
+
+open-refusal-requires : tie.Need-open-refusal-requires
+open-refusal-requires c κs = search needs
+
+expect-requires : tie.Need-expect-requires
+unfolding openRefusal openNumbers openCall openRules isPrice firstOf _when_
+expect-requires c κs =
+    eq-eqb (c .open-refusal .result) 14
+    (c .open-refusal .ensures ∙ ap (λ (o : OpenOutcome). openRefusal (o .reply)) (c .before .before .open-day .ensures))
+
+returns : tie.Need-returns
+returns c = search needs
+
+pub main-spec : {M : Type 1} → statement M
+main-spec =
+    tie.close
+    (tie.spec
+    slice-aggregate-open-day
+    open-day-requires
+    open-refusal-requires
+    expect-requires
+    returns)
