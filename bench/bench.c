@@ -181,6 +181,8 @@ static void damage(void) {
     if (once_in(6)) {
         size_t day = once_in(2) ? 64 : chance(130), book = once_in(3) ? LONGEST - chance(100) : chance(m->book_length + 81);
         lend(&theirs, day, book, m->list_length, m->reply_length);
+    } else if (once_in(6)) {
+        put_number(m->day, 3, 999999);
     } else if (once_in(2) || !n) {
         put_number(m->day, chance(8), edge());
     } else if (once_in(2)) {
@@ -224,6 +226,22 @@ static void damaged_call(const struct plan *plan) {
     theirs = kept;
 }
 
+/* A book that is nearly full from the start, at a time that takes orders; its sides meet only where they may. */
+static void fill_book(const struct plan *plan) {
+    static const uint64_t times[] = {33300, 33600, 34200, 46800, 53820};
+    const struct lent *m = &theirs.lent;
+    uint64_t time = times[chance(5)], n = m->book_length / 40;
+    int apart = time == 34200 || time == 46800;
+    put_number(m->day, 2, time);
+    put_number(m->day, 3, n);
+    for (uint64_t p = 0; p < n; p++) {
+        uint64_t side = chance(2), price = plan->close - plan->spread + chance(2 * plan->spread + 1);
+        if (once_in(8) || (apart && (price == plan->close || (price > plan->close) != (side == 1)))) continue;
+        const uint64_t order[5] = {side, 1 + chance(3), 1 + chance(5000), price, n - p};
+        for (size_t i = 0; i < 5; i++) put_number(m->book, 5 * p + i, order[i]);
+    }
+}
+
 static void run_seed(uint64_t seed) {
     static const uint64_t closes[] = {1, 5, 100, 1000, 1001, 25000, 999999};
     static const uint64_t sizes[] = {1, 2, 3, 8, 8, 30, 30, 100, 1024, 4096};
@@ -239,6 +257,7 @@ static void run_seed(uint64_t seed) {
     lend(&theirs, 64, 40 * places + (once_in(2) ? chance(40) : 0), 32, 48);
     uint64_t a[5] = {plan.close, !once_in(4), 0, 0, 0}, before = failed;
     compare(seed, OPEN, a);
+    if (once_in(3)) fill_book(&plan);
     for (uint64_t i = 0; i < plan.calls; i++) {
         one_call(&plan);
         if (once_in(4)) damaged_call(&plan);
