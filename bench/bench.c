@@ -7,7 +7,7 @@
 #include <stdlib.h>
 #include <string.h>
 
-enum { GUARD = 64, LONGEST = 200000, SLICES = 4, SEEDS = 60 };
+enum { GUARD = 64, LONGEST = 200000, SLICES = 4, SEEDS = 800 };
 
 static uint64_t passed, failed;
 
