@@ -8,18 +8,17 @@ use model::CancelReply;
 use model::Day;
 use soundness::is_sound;
 ghost use mathlib.Core.Path.{_≡_};
-ghost use Rattle.model.specs.Refusals.{firstOf};
+ghost use mathlib.Core.Bool.{false};
+ghost use Rattle.model.specs.Refusals.{firstOf, unsound};
 ghost use Rattle.model.specs.Calls.{cancelRules, cancelCall};
 ghost use Rattle.book.specs.Rows.{bookOf};
 ghost use Rattle.day.specs.Promises.{cancelLeft};
 
-// 15: not sound. 4: the phase takes no cancel. 12: no live order has this number and account.
+// 4: the phase takes no cancel. 12: no live order has this number and account.
 fn cancel_refusal(d: Day, rows: &[[u64; 5]], account: u64, number: u64) -> u64
+    requires { ⌜ unsound d (bookOf (now rows)) ≡ false ⌝ }
     ensures { λ r. ⌜ r ≡ firstOf (cancelRules d account number (bookOf (now (rows .entry)))) ⌝ }
 {
-    if !is_sound(d, rows) {
-        return 15;
-    }
     if !takes_cancels(d.time) {
         return 4;
     }
@@ -29,7 +28,9 @@ fn cancel_refusal(d: Day, rows: &[[u64; 5]], account: u64, number: u64) -> u64
     0
 }
 
-pub fn cancel_order(d: Day, rows: &mut [[u64; 5]], account: u64, number: u64) -> CancelReply
+// On a day that its caller has shown to be sound: it is not tested again.
+pub fn cancel_sound(d: Day, rows: &mut [[u64; 5]], account: u64, number: u64) -> CancelReply
+    requires { ⌜ unsound d (bookOf (now rows)) ≡ false ⌝ }
     ensures { λ r. ⌜ cancelLeft r (now (rows .exit)) ≡ cancelCall d account number (bookOf (now (rows .entry))) ⌝ }
 {
     let refusal = cancel_refusal(d, rows, account, number);
@@ -40,4 +41,14 @@ pub fn cancel_order(d: Day, rows: &mut [[u64; 5]], account: u64, number: u64) ->
     let own = order_at(rows, place);
     put_order(&mut *rows, place, free_place());
     CancelReply::Withdrawn(own.left)
+}
+
+// 15: not sound.
+pub fn cancel_order(d: Day, rows: &mut [[u64; 5]], account: u64, number: u64) -> CancelReply
+    ensures { λ r. ⌜ cancelLeft r (now (rows .exit)) ≡ cancelCall d account number (bookOf (now (rows .entry))) ⌝ }
+{
+    if !is_sound(d, rows) {
+        return CancelReply::Refused(15);
+    }
+    cancel_sound(d, &mut *rows, account, number)
 }

@@ -20,23 +20,22 @@ use model::OrderReply;
 use model::Remainder;
 use soundness::is_sound;
 ghost use mathlib.Core.Path.{_≡_};
+ghost use mathlib.Core.Bool.{false};
 ghost use lib.ListN.{length};
 ghost use Rattle.model.specs.Book.{best, other};
-ghost use Rattle.model.specs.Refusals.{firstOf};
+ghost use Rattle.model.specs.Refusals.{firstOf, unsound};
 ghost use Rattle.model.specs.Calls.{orderRules, ended, placed, entered, orderCall};
 ghost use Rattle.book.specs.Rows.{bookOf, tradesOf};
 ghost use Rattle.book.specs.Standing.{Standing};
 ghost use Rattle.matching.specs.Entering.{restAt};
-ghost use Rattle.day.specs.Promises.{left};
+ghost use Rattle.day.specs.Promises.{left, orderRefused};
 ghost use Rattle.day.specs.Ready.{Taken};
 
-// The number of the first rule that holds, or 0. The trade list is only counted into.
+// The number of the first rule that holds on a sound day, or 0. The trade list is only counted into.
 fn order_refusal(rows: &[[u64; 5]], trades: &mut [[u64; 4]], d: Day, a: Asked) -> u64
+    requires { ⌜ unsound d (bookOf (now rows)) ≡ false ⌝ }
     ensures { λ r. ⌜ (r ≡ firstOf (orderRules d a (bookOf (now (rows .entry))) (length (now (trades .entry))))) × (now (trades .exit) ≡ now (trades .entry)) ⌝ }
 {
-    if !is_sound(d, rows) {
-        return 15;
-    }
     let asked = asked_refusal(d, a);
     if asked != 0 {
         return asked;
@@ -114,16 +113,34 @@ fn enter(rows: &mut [[u64; 5]], trades: &mut [[u64; 4]], d: Day, a: Asked) -> Or
     }
 }
 
-pub fn enter_order(d: Day, a: Asked, rows: &mut [[u64; 5]], trades: &mut [[u64; 4]]) -> OrderAnswer
+fn refused(d: Day, n: u64) -> OrderAnswer
+    ensures { λ r. ⌜ r ≡ orderRefused d n ⌝ }
+{
+    OrderAnswer {
+        reply: OrderReply::Refused(n),
+        made: 0,
+        day: d,
+    }
+}
+
+// On a day that its caller has shown to be sound: it is not tested again.
+pub fn enter_sound(d: Day, a: Asked, rows: &mut [[u64; 5]], trades: &mut [[u64; 4]]) -> OrderAnswer
+    requires { ⌜ unsound d (bookOf (now rows)) ≡ false ⌝ }
     ensures { λ r. ⌜ left r (now (rows .exit)) (now (trades .exit)) ≡ orderCall d a (bookOf (now (rows .entry))) (tradesOf (now (trades .entry))) ⌝ }
 {
     let refusal = order_refusal(rows, &mut *trades, d, a);
     if refusal != 0 {
-        return OrderAnswer {
-            reply: OrderReply::Refused(refusal),
-            made: 0,
-            day: d,
-        };
+        return refused(d, refusal);
     }
     enter(&mut *rows, &mut *trades, d, a)
+}
+
+// 15: not sound.
+pub fn enter_order(d: Day, a: Asked, rows: &mut [[u64; 5]], trades: &mut [[u64; 4]]) -> OrderAnswer
+    ensures { λ r. ⌜ left r (now (rows .exit)) (now (trades .exit)) ≡ orderCall d a (bookOf (now (rows .entry))) (tradesOf (now (trades .entry))) ⌝ }
+{
+    if !is_sound(d, rows) {
+        return refused(d, 15);
+    }
+    enter_sound(d, a, &mut *rows, &mut *trades)
 }

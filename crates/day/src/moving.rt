@@ -21,13 +21,13 @@ ghost use Prim.Native.Nat.{_≤_};
 ghost use lib.ListN.{length};
 ghost use Rattle.model.specs.Clock.{boundaries};
 ghost use Rattle.model.specs.Clock as clock;
-ghost use Rattle.model.specs.Refusals.{firstOf};
+ghost use Rattle.model.specs.Refusals.{firstOf, unsound};
 ghost use Rattle.model.specs.ClockCall.{auctionTrades, start, moved, clockRules, clockCall};
 ghost use Rattle.book.specs.Rows.{bookOf, tradesOf, tradeRows};
 ghost use Rattle.book.specs.Standing.{Standing};
 ghost use Rattle.book.specs.Writing.{front};
 ghost use Rattle.day.specs.declared.Passed.the-variants.{Nothing};
-ghost use Rattle.day.specs.Promises.{left};
+ghost use Rattle.day.specs.Promises.{left, clockRefused};
 ghost use Rattle.day.specs.Ready.{Ready};
 ghost use Rattle.day.specs.Moving.{passedBy, auctioned, auctionRules, reached};
 ghost use Rattle.day.specs.Moving as moving;
@@ -110,14 +110,12 @@ fn auction_refusal(d: Day, rows: &[[u64; 5]], trades: &mut [[u64; 4]]) -> u64
     0
 }
 
-// 15: not sound. 1: the time. 18 and 13: by the first auction on the way. No other has trades: after an auction no buy reaches
-// a sell.
+// On a sound day, 1: the time. 18 and 13: by the first auction on the way. No other has trades: after an auction no buy
+// reaches a sell.
 fn clock_refusal(d: Day, time: u64, rows: &[[u64; 5]], trades: &mut [[u64; 4]]) -> u64
+    requires { ⌜ unsound d (bookOf (now rows)) ≡ false ⌝ }
     ensures { λ r. ⌜ (r ≡ firstOf (clockRules d time (bookOf (now (rows .entry))) (length (now (trades .entry))))) × (now (trades .exit) ≡ now (trades .entry)) ⌝ }
 {
-    if !is_sound(d, rows) {
-        return 15;
-    }
     if 86_399 < time {
         return 1;
     }
@@ -164,16 +162,24 @@ fn pass_boundaries(d: Day, time: u64, rows: &mut [[u64; 5]], trades: &mut [[u64;
     }
 }
 
-pub fn move_clock(d: Day, time: u64, rows: &mut [[u64; 5]], trades: &mut [[u64; 4]]) -> ClockAnswer
+fn refused(d: Day, n: u64) -> ClockAnswer
+    ensures { λ r. ⌜ r ≡ clockRefused d n ⌝ }
+{
+    ClockAnswer {
+        reply: ClockReply::Refused(n),
+        made: 0,
+        day: d,
+    }
+}
+
+// On a day that its caller has shown to be sound: it is not tested again.
+pub fn move_sound(d: Day, time: u64, rows: &mut [[u64; 5]], trades: &mut [[u64; 4]]) -> ClockAnswer
+    requires { ⌜ unsound d (bookOf (now rows)) ≡ false ⌝ }
     ensures { λ r. ⌜ left r (now (rows .exit)) (now (trades .exit)) ≡ clockCall d time (bookOf (now (rows .entry))) (tradesOf (now (trades .entry))) ⌝ }
 {
     let refusal = clock_refusal(d, time, rows, &mut *trades);
     if refusal != 0 {
-        return ClockAnswer {
-            reply: ClockReply::Refused(refusal),
-            made: 0,
-            day: d,
-        };
+        return refused(d, refusal);
     }
     let passage = pass_boundaries(d, time, &mut *rows, &mut *trades);
     let made = passage.made;
@@ -185,4 +191,14 @@ pub fn move_clock(d: Day, time: u64, rows: &mut [[u64; 5]], trades: &mut [[u64; 
         made,
         day: day_at(time, passage.day),
     }
+}
+
+// 15: not sound.
+pub fn move_clock(d: Day, time: u64, rows: &mut [[u64; 5]], trades: &mut [[u64; 4]]) -> ClockAnswer
+    ensures { λ r. ⌜ left r (now (rows .exit)) (now (trades .exit)) ≡ clockCall d time (bookOf (now (rows .entry))) (tradesOf (now (trades .entry))) ⌝ }
+{
+    if !is_sound(d, rows) {
+        return refused(d, 15);
+    }
+    move_sound(d, time, &mut *rows, &mut *trades)
 }

@@ -19,11 +19,12 @@ use Rattle.text.proofs.Blocks.{taken, all-taken}
 use Rattle.desk.specs.declared.Answered.{Answered}
 use Rattle.desk.specs.declared.Progress.{Progress}
 use Rattle.desk.specs.Desks.{deskOf, Leaves}
+use Rattle.desk.proofs.SoundDesks.{stays-sound}
 use Rattle.desk.specs.Blocks.{Point, pointOf, asksFrom, Onward, Answers, Through, Serves}
 
 module _ (block : List ℕ) where
   pub onward-none : (p : Point) → p .at ≤ length block → Onward block p p
-  onward-none p h = record { inside = h; desk = refl; tail = refl; still = refl }
+  onward-none p h = record { inside = h; desk = refl; tail = refl; still = refl; sound = λ s. s }
 
   pub onward-more : {p q s : Point} → Onward block p q → Onward block q s → Onward block p s
   onward-more a b = record {
@@ -31,6 +32,7 @@ module _ (block : List ℕ) where
     desk = a .desk ∙ b .desk;
     tail = a .tail ∙ b .tail;
     still = a .still ∙ b .still;
+    sound = λ s. b .sound (a .sound s);
   }
 
   -- where no line is left, the desk is the one behind all lines
@@ -75,6 +77,7 @@ module _ (block : List ℕ) where
               desk = ap (λ (cs : List Command). deskAfter cs (q .desk)) (t .asks);
               tail = t .tail;
               still = t .still;
+              sound = stays-sound command (q .desk);
             };
         replies = ap (λ (cs : List Command). repliesTo cs (q .desk)) (t .asks);
       }

@@ -12,7 +12,7 @@ use Rattle.text.specs.Blocks.{asksOf, tailOf, tailLong}
 use Rattle.text.specs.Answers.{repliesTo, deskAfter}
 use Rattle.text.specs.Printing.{Wrote}
 use Rattle.desk.specs.declared.Progress.{Progress}
-use Rattle.desk.specs.Desks.{deskOf}
+use Rattle.desk.specs.Desks.{deskOf, SoundDesk}
 
 -- the desk, the place of the next line, and whether that line began before the block and is too long
 pub record Point : Type 0 where
@@ -27,12 +27,14 @@ pointOf p rows = record { desk = deskOf (p .begun) (p .day) rows; at = p .at; lo
 abbrev pub asksFrom : List ℕ → Point → List Command
 asksFrom block p = asksOf (p .long) (linesOf (drop (p .at) block))
 
--- from point to point: the desk behind the last line, the block's tail and whether that is too long are the same from both
+-- from point to point: the desk behind the last line, the block's tail and whether that is too long are the same from both,
+-- and a sound desk stays sound
 pub record Onward (block : List ℕ) (p q : Point) : Type 0 where
   pub inside : q .at ≤ length block
   pub desk : deskAfter (asksFrom block p) (p .desk) ≡ deskAfter (asksFrom block q) (q .desk)
   pub tail : tailOf (linesOf (drop (p .at) block)) ≡ tailOf (linesOf (drop (q .at) block))
   pub still : tailLong (p .long) (linesOf (drop (p .at) block)) ≡ tailLong (q .long) (linesOf (drop (q .at) block))
+  pub sound : SoundDesk (p .desk) → SoundDesk (q .desk)
 
 -- and a text, with the replies to the lines that are left behind it, is the replies to all lines from the first point on
 pub record Answers (block : List ℕ) (p : Point) (text : List ℕ) (q : Point) : Type 0 where

@@ -10,11 +10,17 @@ use Rattle.model.specs.declared.Day.{Day}
 use Rattle.model.specs.Session as Session
 use Rattle.book.specs.Rows.{bookOf}
 use Rattle.text.specs.Printing.{Wrote}
+use Rattle.demands.specs.Pricing.{Sound}
 use Rattle.desk.specs.declared.Answered.{Answered}
 
 abbrev pub deskOf : Bool → Day → List (List ℕ) → Option Session.Desk
 deskOf true d rows = some (record { day = d; book = bookOf rows })
 deskOf false d rows = none
+
+-- no day is open, or the open one is sound
+abbrev pub SoundDesk : Option Session.Desk → Type 0
+SoundDesk none = Unit {0}
+SoundDesk (some s) = Sound (s .day) (s .book)
 
 -- the definitions' answer, put into a buffer at a place: its text stands there, all of it, and its desk is what the answer leaves
 pub record Leaves (a : Session.Answered) (before : List ℕ) (at : ℕ) (rows : List (List ℕ)) (after : List ℕ) (r : Answered) : Type 0 where

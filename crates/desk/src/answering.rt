@@ -1,8 +1,9 @@
 // What a line is answered with: the call that it asks for is made, and its trades and its reply are put into the lent buffer.
+// The desk's day is sound, and every answer keeps it so: no call tests it again.
 use crate::Answered;
-use day::cancelling::cancel_order;
-use day::entering::enter_order;
-use day::moving::move_clock;
+use day::cancelling::cancel_sound;
+use day::entering::enter_sound;
+use day::moving::move_sound;
 use day::opening::open_day;
 use model::Asked;
 use model::Command;
@@ -20,7 +21,7 @@ ghost use lib.ListN.{length};
 ghost use Rattle.model.specs.Lines.{refusalLine};
 ghost use Rattle.model.specs.Session.{openAnswer, clockAnswer, orderAnswer, cancelAnswer, onDesk, answer};
 ghost use Rattle.text.specs.Printing.{Wrote};
-ghost use Rattle.desk.specs.Desks.{deskOf, Leaves};
+ghost use Rattle.desk.specs.Desks.{deskOf, SoundDesk, Leaves};
 
 // A refusal that no call gives: the desk stays.
 fn refuse(begun: bool, d: Day, n: u64, out: &mut [u8], at: usize) -> Answered
@@ -74,13 +75,13 @@ fn answer_move(
     out: &mut [u8],
     at: usize,
 ) -> Answered
-    requires { ⌜ (length (now trades) ≡ 2048) × (at + 176238 ≤ length (now out)) ⌝ }
+    requires { ⌜ (length (now trades) ≡ 2048) × (at + 176238 ≤ length (now out)) × SoundDesk (deskOf begun d (now rows)) ⌝ }
     ensures { λ r. ⌜ Leaves (onDesk (clockAnswer time) (deskOf begun d (now (rows .entry)))) (now (out .entry)) at (now (rows .exit)) (now (out .exit)) r ⌝ }
 {
     if !begun {
         return refuse(begun, d, 17, out, at);
     }
-    let answer = move_clock(d, time, &mut *rows, &mut *trades);
+    let answer = move_sound(d, time, &mut *rows, &mut *trades);
     let reply = answer.reply;
     let behind = put_trades(out, at, trades, answer.made);
     let next = put_clock(out, behind, reply);
@@ -101,13 +102,13 @@ fn answer_order(
     out: &mut [u8],
     at: usize,
 ) -> Answered
-    requires { ⌜ (length (now trades) ≡ 2048) × (at + 176238 ≤ length (now out)) ⌝ }
+    requires { ⌜ (length (now trades) ≡ 2048) × (at + 176238 ≤ length (now out)) × SoundDesk (deskOf begun d (now rows)) ⌝ }
     ensures { λ r. ⌜ Leaves (onDesk (orderAnswer a) (deskOf begun d (now (rows .entry)))) (now (out .entry)) at (now (rows .exit)) (now (out .exit)) r ⌝ }
 {
     if !begun {
         return refuse(begun, d, 17, out, at);
     }
-    let answer = enter_order(d, a, &mut *rows, &mut *trades);
+    let answer = enter_sound(d, a, &mut *rows, &mut *trades);
     let reply = answer.reply;
     let behind = put_trades(out, at, trades, answer.made);
     let next = put_order(out, behind, reply);
@@ -128,13 +129,13 @@ fn answer_cancel(
     out: &mut [u8],
     at: usize,
 ) -> Answered
-    requires { ⌜ at + 110 ≤ length (now out) ⌝ }
+    requires { ⌜ (at + 110 ≤ length (now out)) × SoundDesk (deskOf begun d (now rows)) ⌝ }
     ensures { λ r. ⌜ Leaves (onDesk (cancelAnswer account number) (deskOf begun d (now (rows .entry)))) (now (out .entry)) at (now (rows .exit)) (now (out .exit)) r ⌝ }
 {
     if !begun {
         return refuse(begun, d, 17, out, at);
     }
-    let reply = cancel_order(d, &mut *rows, account, number);
+    let reply = cancel_sound(d, &mut *rows, account, number);
     let next = put_cancel(out, at, number, reply);
     Answered {
         begun: true,
@@ -153,7 +154,7 @@ pub fn answer_command(
     out: &mut [u8],
     at: usize,
 ) -> Answered
-    requires { ⌜ (length (now rows) ≡ 1024) × (length (now trades) ≡ 2048) × (at + 176238 ≤ length (now out)) ⌝ }
+    requires { ⌜ (length (now rows) ≡ 1024) × (length (now trades) ≡ 2048) × (at + 176238 ≤ length (now out)) × SoundDesk (deskOf begun d (now rows)) ⌝ }
     ensures { λ r. ⌜ Leaves (answer c (deskOf begun d (now (rows .entry)))) (now (out .entry)) at (now (rows .exit)) (now (out .exit)) r ⌝ }
 {
     match c {

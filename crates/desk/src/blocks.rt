@@ -6,6 +6,7 @@ use text::reading::next_command;
 ghost use mathlib.Core.Path.{_≡_};
 ghost use Prim.Native.Nat.{_≤_};
 ghost use lib.ListN.{length};
+ghost use Rattle.desk.specs.Desks.{deskOf, SoundDesk};
 ghost use Rattle.desk.specs.Blocks.{pointOf, Serves};
 
 // Goes on from a place of the block until no line is left, or the output might not hold another reply: 2,048 trades and a
@@ -17,7 +18,7 @@ pub fn answer_lines(
     block: &[u8],
     out: &mut [u8],
 ) -> Progress
-    requires { ⌜ (length (now rows) ≡ 1024) × (length (now trades) ≡ 2048) × (176238 ≤ length (now out)) × (from .at ≤ length (now block)) ⌝ }
+    requires { ⌜ (length (now rows) ≡ 1024) × (length (now trades) ≡ 2048) × (176238 ≤ length (now out)) × (from .at ≤ length (now block)) × SoundDesk (deskOf (from .begun) (from .day) (now rows)) ⌝ }
     ensures { λ r. ⌜ Serves (now (block .entry)) (pointOf from (now (rows .entry))) (now (out .entry)) (now (rows .exit)) (now (out .exit)) r ⌝ }
 {
     let room = out.len() - 176238;

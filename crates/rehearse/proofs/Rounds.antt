@@ -7,17 +7,19 @@ use mathlib.Core.Option.{Option}
 use native.Mathlib.Omega.{arith}
 use lib.ListN.{length, take, drop, length-take}
 use Rattle.model.specs.declared.Day.{Day}
+use Rattle.model.specs.Lines.{linesOf}
 use Rattle.model.specs.Session.{Desk}
 use Rattle.text.specs.declared.Carry.{Carry}
-use Rattle.text.specs.Blocks.{CarriedOver}
+use Rattle.text.specs.Blocks.{CarriedOver, asksOf}
 use Rattle.text.specs.Answers.{carryAfter, keptAfter}
 use Rattle.text.specs.Printing.{Wrote}
 use Rattle.text.proofs.Carrying.{drop-take}
 use Rattle.text.proofs.Sessions.{carried-after, carry-few}
-use Rattle.desk.specs.Desks.{deskOf}
+use Rattle.desk.specs.Desks.{deskOf, SoundDesk}
 use Rattle.desk.specs.declared.Progress.{Progress}
 use Rattle.desk.specs.Blocks.{pointOf, Onward, Through}
 use Rattle.desk.proofs.LineByLine.{through-desk}
+use Rattle.desk.proofs.SoundDesks.{sound-after}
 use Rattle.rehearse.specs.declared.Held.{Held}
 use Rattle.rehearse.specs.declared.Input.{Input}
 use Rattle.rehearse.specs.declared.Input.the-variants.{Bytes}
@@ -55,7 +57,14 @@ module _
     kept = carried .1;
   }
 
--- a block that was served keeps 79 bytes at most
+-- a block that was served leaves a sound desk, and keeps 79 bytes at most
+pub steps-sound :
+    {block : List ℕ} {long : Bool} {old : Option Desk} {rows : List (List ℕ)} {buf : List ℕ} {r : Held}
+    → Steps block long old rows buf r
+    → SoundDesk old
+    → SoundDesk (deskOf (r .begun) (r .day) rows)
+steps-sound {block} {long} {old} s k = subst SoundDesk (sym (s .desk)) (sound-after (asksOf long (linesOf block)) old k)
+
 pub steps-few :
     {block : List ℕ} {long : Bool} {old : Option Desk} {rows : List (List ℕ)} {buf : List ℕ} {r : Held}
     → Steps block long old rows buf r

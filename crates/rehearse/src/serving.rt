@@ -16,7 +16,7 @@ ghost use mathlib.Core.Path.{_≡_};
 ghost use mathlib.Core.Bool.{true, false};
 ghost use Prim.Native.Nat.{_≤_};
 ghost use lib.ListN.{length, take};
-ghost use Rattle.desk.specs.Desks.{deskOf};
+ghost use Rattle.desk.specs.Desks.{deskOf, SoundDesk};
 ghost use Rattle.desk.specs.Blocks.{pointOf, Onward, Through};
 ghost use Rattle.rehearse.specs.Serving.{Steps, filled};
 
@@ -48,7 +48,7 @@ fn answer_block(
     block: &[u8],
     out: &mut [u8],
 ) -> Progress
-    requires { ⌜ (length (now rows) ≡ 1024) × (length (now trades) ≡ 2048) × (176238 ≤ length (now out)) × (from .at ≤ length (now block)) ⌝ }
+    requires { ⌜ (length (now rows) ≡ 1024) × (length (now trades) ≡ 2048) × (176238 ≤ length (now out)) × (from .at ≤ length (now block)) × SoundDesk (deskOf (from .begun) (from .day) (now rows)) ⌝ }
     ensures { λ r. ⌜ (r .done ≡ true → Onward (now (block .entry)) (pointOf from (now (rows .entry))) (pointOf r (now (rows .exit))) × Through (now (block .entry)) (pointOf r (now (rows .exit)))) ⌝ }
 {
     let mut p = from;
@@ -74,7 +74,7 @@ fn serve(
     buf: &mut [u8],
     out: &mut [u8],
 ) -> Held
-    requires { ⌜ (length (now rows) ≡ 1024) × (length (now trades) ≡ 2048) × (176238 ≤ length (now out)) × (n ≤ length (now buf)) ⌝ }
+    requires { ⌜ (length (now rows) ≡ 1024) × (length (now trades) ≡ 2048) × (176238 ≤ length (now out)) × (n ≤ length (now buf)) × SoundDesk (deskOf (h .begun) (h .day) (now rows)) ⌝ }
     ensures { λ r. ⌜ (r .stops ≡ false → Steps (take n (now (buf .entry))) (h .long) (deskOf (h .begun) (h .day) (now (rows .entry))) (now (rows .exit)) (now (buf .exit)) r) ⌝ }
 {
     let day = h.day;
@@ -143,8 +143,8 @@ fn turn(
     buf: &mut [u8],
     out: &mut [u8],
 ) -> Held
-    requires { ⌜ (length (now rows) ≡ 1024) × (length (now trades) ≡ 2048) × (176238 ≤ length (now out)) × (h .kept ≤ 79) × (80 ≤ length (now buf)) ⌝ }
-    ensures { λ r. ⌜ (r .stops ≡ false → r .kept ≤ 79) ⌝ }
+    requires { ⌜ (length (now rows) ≡ 1024) × (length (now trades) ≡ 2048) × (176238 ≤ length (now out)) × (h .kept ≤ 79) × (80 ≤ length (now buf)) × SoundDesk (deskOf (h .begun) (h .day) (now rows)) ⌝ }
+    ensures { λ r. ⌜ (r .stops ≡ false → (r .kept ≤ 79) × SoundDesk (deskOf (r .begun) (r .day) (now (rows .exit)))) ⌝ }
 {
     let kept = h.kept;
     let input = fill(buf, kept);

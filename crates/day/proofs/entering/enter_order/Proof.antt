@@ -1,52 +1,55 @@
--- `day::entering::enter_order` meets its contract: refused, or entered. Assumes nothing.
+-- `day::entering::enter_order` meets its contract: 15, or what an order gives on a sound day. Assumes nothing.
+use mathlib.Core.Path.{refl, ap, _∙_}
 use borrow.Author.Needs.{needs}
-use Rattle.day.proofs.OrderLaws.{order-refused, order-taken, order-accepted}
+use borrow.Author.Tests.{eqb-false, not-true, not-false}
+use lib.ListN.{length}
+use Rattle.model.specs.declared.OrderAnswer.{OrderAnswer}
+use Rattle.book.specs.Rows.{bookOf}
+use Rattle.day.specs.Promises.{left}
+use Rattle.day.proofs.Readiness.{is-unsound, not-unsound}
+use Rattle.day.proofs.OrderLaws.{order-unsound, order-refused}
 use Rattle.day.proofs.entering.enter_order.Statement.{statement}
 use Rattle.day.proofs.entering.enter_order.Tie as tie
 
-order-refusal-requires : tie.Need-order-refusal-requires
-order-refusal-requires c κs = search needs
+is-sound-requires : tie.Need-is-sound-requires
+is-sound-requires c κs = search needs
+
+refused-requires : tie.Need-refused-requires
+refused-requires c κs = search needs
 
 same-length : tie.Need-same-length
 same-length c = search needs
 
-same-length-2 : tie.Need-same-length-2
-same-length-2 c = search needs
-
 returns : tie.Need-returns
 returns c =
-    let s = c .before .before .before .before .before .args in
-    let e = c .before .before .order-refusal .ensures in
-    order-refused (s .d) (s .a) (s .rows .now) (s .trades .now) (e .0) (e .1) (c .if1 .taken)
+    let i = c .before .before in
+    let s = i .before .before .args in
+    let u = is-unsound _ _ (i .is-sound .ensures) (not-true _ (c .before .if1 .taken)) in
+    ap (λ (r : OrderAnswer). left r (s .rows .now) (s .trades .now)) (c .refused .ensures)
+    ∙ order-refused (s .d) (s .a) (s .rows .now) (s .trades .now) (order-unsound (s .d) (s .a) (bookOf (s .rows .now)) (length (s .trades .now)) u) refl
+    (eqb-false 15 0 refl)
 
-enter-requires : tie.Need-enter-requires
-enter-requires c κs =
-    let s = c .before .before .before .before .before .before .before .args in
-    let e = c .before .before .before .before .order-refusal .ensures in
-    order-taken (s .d) (s .a) (s .rows .now) (s .trades .now) (e .0) (e .1) (c .before .before .if1 .left)
+enter-sound-requires : tie.Need-enter-sound-requires
+enter-sound-requires c κs = not-unsound _ _ (c .before .before .before .is-sound .ensures) (not-false _ (c .before .before .if1 .left))
+
+same-length-2 : tie.Need-same-length-2
+same-length-2 c = search needs
 
 same-length-3 : tie.Need-same-length-3
 same-length-3 c = search needs
 
-same-length-4 : tie.Need-same-length-4
-same-length-4 c = search needs
-
 returns-2 : tie.Need-returns-2
-returns-2 c =
-    let s = c .before .before .before .before .before .before .before .before .before .before .args in
-    let e = c .before .before .before .before .before .before .before .order-refusal .ensures in
-    order-accepted (s .d) (s .a) (s .rows .now) (s .trades .now) (e .0) (e .1) (c .before .before .before .before .before .if1 .left)
-    (c .before .before .enter .ensures)
+returns-2 c = search needs
 
 pub enter-order-spec : {M : Type 1} → statement M
 enter-order-spec =
     tie.close
     (tie.spec
-    order-refusal-requires
+    is-sound-requires
+    refused-requires
     same-length
-    same-length-2
     returns
-    enter-requires
+    enter-sound-requires
+    same-length-2
     same-length-3
-    same-length-4
     returns-2)

@@ -1,72 +1,56 @@
--- `day::moving::move_clock` meets its contract: refused, or the boundaries on the way, the new time and its phase. Assumes nothing.
-use lib.ListN.{length}
-use Rattle.book.specs.Rows.{bookOf}
-use Rattle.day.proofs.ClockLaws.{move-ready, move-fits, clock-refused, clock-accepted}
+-- `day::moving::move_clock` meets its contract: 15, or what a move gives on a sound day. Assumes nothing.
+use mathlib.Core.Path.{refl, ap, _∙_}
 use borrow.Author.Needs.{needs}
+use borrow.Author.Tests.{eqb-false, not-true, not-false}
+use lib.ListN.{length}
+use Rattle.model.specs.declared.ClockAnswer.{ClockAnswer}
+use Rattle.book.specs.Rows.{bookOf}
+use Rattle.day.specs.Promises.{left}
+use Rattle.day.proofs.Readiness.{is-unsound, not-unsound}
+use Rattle.day.proofs.ClockLaws.{clock-unsound, clock-refused}
 use Rattle.day.proofs.moving.move_clock.Statement.{statement}
 use Rattle.day.proofs.moving.move_clock.Tie as tie
 
-clock-refusal-requires : tie.Need-clock-refusal-requires
-clock-refusal-requires c κs = search needs
+is-sound-requires : tie.Need-is-sound-requires
+is-sound-requires c κs = search needs
+
+refused-requires : tie.Need-refused-requires
+refused-requires c κs = search needs
 
 same-length : tie.Need-same-length
 same-length c = search needs
 
-same-length-2 : tie.Need-same-length-2
-same-length-2 c = search needs
-
 returns : tie.Need-returns
 returns c =
-    let e = c .before .before in
-    let a = e .before .before .before .args in
-    clock-refused (a .d) (a .time) (a .rows .now) (a .trades .now) (e .clock-refusal .ensures .0) _ (c .if1 .taken) (e .clock-refusal .ensures .1)
-
-pass-boundaries-requires : tie.Need-pass-boundaries-requires
-pass-boundaries-requires c κs =
     let i = c .before .before in
-    let e = i .before .before in
-    let a = e .before .before .before .args in
-    let k = e .clock-refusal .ensures in (
-      move-ready (a .d) (a .time) (bookOf (a .rows .now)) (length (a .trades .now)) (k .0) (i .if1 .left),
-      rw (k .1) (move-fits (a .d) (a .time) (bookOf (a .rows .now)) (length (a .trades .now)) (k .0) (i .if1 .left)),
-    )
+    let s = i .before .before .args in
+    let u = is-unsound _ _ (i .is-sound .ensures) (not-true _ (c .before .if1 .taken)) in
+    ap (λ (r : ClockAnswer). left r (s .rows .now) (s .trades .now)) (c .refused .ensures)
+    ∙ clock-refused (s .d) (s .time) (s .rows .now) (s .trades .now) (clock-unsound (s .d) (s .time) (bookOf (s .rows .now)) (length (s .trades .now)) u) (s .trades .now)
+    (eqb-false 15 0 refl)
+    refl
 
-phase-at-requires : tie.Need-phase-at-requires
-phase-at-requires c κs = search needs
+move-sound-requires : tie.Need-move-sound-requires
+move-sound-requires c κs = not-unsound _ _ (c .before .before .before .is-sound .ensures) (not-false _ (c .before .before .if1 .left))
 
-day-at-requires : tie.Need-day-at-requires
-day-at-requires c κs = search needs
+same-length-2 : tie.Need-same-length-2
+same-length-2 c = search needs
 
 same-length-3 : tie.Need-same-length-3
 same-length-3 c = search needs
 
-same-length-4 : tie.Need-same-length-4
-same-length-4 c = search needs
-
 returns-2 : tie.Need-returns-2
-returns-2 c =
-    let b = c .before .before .before .before in
-    let i = b .before .before .before in
-    let e = i .before .before in
-    let a = e .before .before .before .args in
-    let k = e .clock-refusal .ensures in
-    clock-accepted (a .d) (a .time) (a .rows .now) (a .trades .now) (k .0) _ (b .pass-boundaries .last .1 .1 .0)
-    (b .pass-boundaries .last .1 .1 .1 .0) (i .if1 .left)
-    (rw (k .1) at (b .pass-boundaries .ensures))
-    (c .before .phase-at .ensures)
-    (c .day-at .ensures)
+returns-2 c = search needs
 
 pub move-clock-spec : {M : Type 1} → statement M
 move-clock-spec =
     tie.close
     (tie.spec
-    clock-refusal-requires
+    is-sound-requires
+    refused-requires
     same-length
-    same-length-2
     returns
-    pass-boundaries-requires
-    phase-at-requires
-    day-at-requires
+    move-sound-requires
+    same-length-2
     same-length-3
-    same-length-4
     returns-2)

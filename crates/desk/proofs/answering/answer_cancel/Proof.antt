@@ -2,6 +2,7 @@
 use native.Mathlib.Omega.{arith}
 use borrow.Author.Tests.{not-true, not-false}
 use Rattle.model.specs.Session.{cancelAnswer}
+use Rattle.desk.proofs.SoundDesks.{on-day}
 use Rattle.desk.proofs.Answers.{no-day, cancel-answered}
 use borrow.Author.Needs.{needs}
 use Rattle.desk.proofs.answering.answer_cancel.Statement.{statement}
@@ -19,8 +20,10 @@ returns c =
     let r = c .before .before .refuse in
     no-day (s .begun) (s .d) (s .rows .now) (cancelAnswer (s .account) (s .number)) _ (omega arith) (not-true _ (c .before .before .before .before .if1 .taken)) (r .ensures .0) (r .ensures .2)
 
-cancel-order-requires : tie.Need-cancel-order-requires
-cancel-order-requires c κs = search needs
+cancel-sound-requires : tie.Need-cancel-sound-requires
+cancel-sound-requires c κs =
+    let s = c .before .before .before in
+    on-day (s .args .begun) (s .args .d) (s .args .rows .now) (not-false _ (c .before .if1 .left)) (s .pre .1)
 
 put-cancel-requires : tie.Need-put-cancel-requires
 put-cancel-requires c κs = search needs
@@ -35,7 +38,7 @@ returns-2 : tie.Need-returns-2
 returns-2 c =
     let s = c .before .before .before .before .before .before .before .before .before .args in
     cancel-answered (s .begun) (s .d) (s .rows .now) _ _ (s .account) (s .number) _ (omega arith) (not-false _ (c .before .before .before .before .before .before .before .if1 .left))
-    (c .before .before .before .before .before .cancel-order .ensures) (c .before .before .put-cancel .ensures)
+    (c .before .before .before .before .before .cancel-sound .ensures) (c .before .before .put-cancel .ensures)
 
 pub answer-cancel-spec : {M : Type 1} → statement M
 answer-cancel-spec =
@@ -44,7 +47,7 @@ answer-cancel-spec =
     refuse-requires
     same-length
     returns
-    cancel-order-requires
+    cancel-sound-requires
     put-cancel-requires
     same-length-2
     same-length-3

@@ -3,6 +3,7 @@ use native.Mathlib.Omega.{arith}
 use borrow.Author.Tests.{not-true, not-false}
 use Rattle.model.specs.Session.{clockAnswer}
 use Rattle.text.proofs.Printed.{put-long}
+use Rattle.desk.proofs.SoundDesks.{on-day}
 use Rattle.desk.proofs.Answers.{clock-made, behind-trades, no-day, clock-answered}
 use borrow.Author.Needs.{needs}
 use Rattle.desk.proofs.answering.answer_move.Statement.{statement}
@@ -20,20 +21,22 @@ returns c =
     let r = c .before .before .refuse in
     no-day (s .begun) (s .d) (s .rows .now) (clockAnswer (s .time)) _ (omega arith) (not-true _ (c .before .before .before .before .if1 .taken)) (r .ensures .0) (r .ensures .2)
 
-move-clock-requires : tie.Need-move-clock-requires
-move-clock-requires c κs = search needs
+move-sound-requires : tie.Need-move-sound-requires
+move-sound-requires c κs =
+    let s = c .before .before .before .before in
+    on-day (s .args .begun) (s .args .d) (s .args .rows .now) (not-false _ (c .before .before .if1 .left)) (s .pre .2)
 
 put-trades-requires : tie.Need-put-trades-requires
 put-trades-requires c κs =
     let s = c .before .before .before .before .before .before .before .before .before in
-    let k = c .before .before .before .before .move-clock in
+    let k = c .before .before .before .before .move-sound in
     let m = clock-made (s .args .d) (s .args .rows .now) (s .args .trades .now) (k .last .1 .1 .0) (k .last .1 .1 .1 .0) (s .args .time) (k .ensures) in
     (m, omega (arith, s .pre, k .kept .1 .1 .1 .0))
 
 put-clock-requires : tie.Need-put-clock-requires
 put-clock-requires c κs =
     let s = c .before .before .before .before .before .before .before .before .before .before .before .before .before in
-    let k = c .before .before .before .before .before .before .before .before .move-clock in
+    let k = c .before .before .before .before .before .before .before .before .move-sound in
     let w = c .before .before .before .put-trades .ensures in
     let m = clock-made (s .args .d) (s .args .rows .now) (s .args .trades .now) (k .last .1 .1 .0) (k .last .1 .1 .1 .0) (s .args .time) (k .ensures) in
     omega (arith, s .pre, k .kept .1 .1 .1 .0, behind-trades (k .last .1 .1 .1 .0) (k .result .made) m w, put-long w)
@@ -50,7 +53,7 @@ same-length-4 c = search needs
 returns-2 : tie.Need-returns-2
 returns-2 c =
     let s = c .before .before .before .before .before .before .before .before .before .before .before .before .before .before .before .before .before in
-    let k = c .before .before .before .before .before .before .before .before .before .before .before .before .move-clock in
+    let k = c .before .before .before .before .before .before .before .before .before .before .before .before .move-sound in
     let w = c .before .before .before .before .before .before .before .put-trades .ensures in
     let m = clock-made (s .args .d) (s .args .rows .now) (s .args .trades .now) (k .last .1 .1 .0) (k .last .1 .1 .1 .0) (s .args .time) (k .ensures) in
     clock-answered (s .args .begun) (s .args .d) (s .args .rows .now) (k .last .1 .1 .0) _ (s .args .trades .now) (k .last .1 .1 .1 .0) (s .pre .0)
@@ -65,7 +68,7 @@ answer-move-spec =
     refuse-requires
     same-length
     returns
-    move-clock-requires
+    move-sound-requires
     put-trades-requires
     put-clock-requires
     same-length-2

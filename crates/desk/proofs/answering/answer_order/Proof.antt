@@ -3,6 +3,7 @@ use native.Mathlib.Omega.{arith}
 use borrow.Author.Tests.{not-true, not-false}
 use Rattle.model.specs.Session.{orderAnswer}
 use Rattle.text.proofs.Printed.{put-long}
+use Rattle.desk.proofs.SoundDesks.{on-day}
 use Rattle.desk.proofs.Answers.{order-made, behind-trades, no-day, order-answered}
 use borrow.Author.Needs.{needs}
 use Rattle.desk.proofs.answering.answer_order.Statement.{statement}
@@ -20,20 +21,22 @@ returns c =
     let r = c .before .before .refuse in
     no-day (s .begun) (s .d) (s .rows .now) (orderAnswer (s .a)) _ (omega arith) (not-true _ (c .before .before .before .before .if1 .taken)) (r .ensures .0) (r .ensures .2)
 
-enter-order-requires : tie.Need-enter-order-requires
-enter-order-requires c κs = search needs
+enter-sound-requires : tie.Need-enter-sound-requires
+enter-sound-requires c κs =
+    let s = c .before .before .before .before in
+    on-day (s .args .begun) (s .args .d) (s .args .rows .now) (not-false _ (c .before .before .if1 .left)) (s .pre .2)
 
 put-trades-requires : tie.Need-put-trades-requires
 put-trades-requires c κs =
     let s = c .before .before .before .before .before .before .before .before .before in
-    let k = c .before .before .before .before .enter-order in
+    let k = c .before .before .before .before .enter-sound in
     let m = order-made (s .args .d) (s .args .rows .now) (s .args .trades .now) (k .last .1 .1 .0) (k .last .1 .1 .1 .0) (s .args .a) (k .ensures) in
     (m, omega (arith, s .pre, k .kept .1 .1 .1 .0))
 
 put-order-requires : tie.Need-put-order-requires
 put-order-requires c κs =
     let s = c .before .before .before .before .before .before .before .before .before .before .before .before .before in
-    let k = c .before .before .before .before .before .before .before .before .enter-order in
+    let k = c .before .before .before .before .before .before .before .before .enter-sound in
     let w = c .before .before .before .put-trades .ensures in
     let m = order-made (s .args .d) (s .args .rows .now) (s .args .trades .now) (k .last .1 .1 .0) (k .last .1 .1 .1 .0) (s .args .a) (k .ensures) in
     omega (arith, s .pre, k .kept .1 .1 .1 .0, behind-trades (k .last .1 .1 .1 .0) (k .result .made) m w, put-long w)
@@ -50,7 +53,7 @@ same-length-4 c = search needs
 returns-2 : tie.Need-returns-2
 returns-2 c =
     let s = c .before .before .before .before .before .before .before .before .before .before .before .before .before .before .before .before .before in
-    let k = c .before .before .before .before .before .before .before .before .before .before .before .before .enter-order in
+    let k = c .before .before .before .before .before .before .before .before .before .before .before .before .enter-sound in
     let w = c .before .before .before .before .before .before .before .put-trades .ensures in
     let m = order-made (s .args .d) (s .args .rows .now) (s .args .trades .now) (k .last .1 .1 .0) (k .last .1 .1 .1 .0) (s .args .a) (k .ensures) in
     order-answered (s .args .begun) (s .args .d) (s .args .rows .now) (k .last .1 .1 .0) _ (s .args .trades .now) (k .last .1 .1 .1 .0) (s .pre .0)
@@ -65,7 +68,7 @@ answer-order-spec =
     refuse-requires
     same-length
     returns
-    enter-order-requires
+    enter-sound-requires
     put-trades-requires
     put-order-requires
     same-length-2

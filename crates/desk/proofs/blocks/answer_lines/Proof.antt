@@ -54,8 +54,12 @@ returns c =
 answer-command-requires : tie.Need-answer-command-requires Inv-loop μ-loop
 answer-command-requires c κs =
     let i = c .before .before .before .before .before .before .before .before .before .before .loop .inv in
-    let s = c .before .before .before .before .before .before .before .before .before .before .before .before .before .before .pre in
-    (i .0 ∙ s .0, i .1 ∙ s .1, omega (arith, i .2, s .2, c .before .before .before .before .before .before .before .before .if1 .taken))
+    let s = c .before .before .before .before .before .before .before .before .before .before .before .before .before .before .pre in (
+      i .0 ∙ s .0,
+      i .1 ∙ s .1,
+      omega (arith, i .2, s .2, c .before .before .before .before .before .before .before .before .if1 .taken),
+      i .3 .answers .onward .sound (s .4),
+    )
 
 loop-less : tie.Need-loop-less Inv-loop μ-loop
 loop-less c =

@@ -26,7 +26,7 @@ answer-lines-requires : tie.Need-answer-lines-requires Inv-loop μ-loop
 answer-lines-requires c κs =
     let i = c .before .before .before .loop .inv in
     let s = c .before .before .before .before .before .before .pre in
-    (i .0 ∙ s .0, i .1 ∙ s .1, omega (arith, i .2, s .2), i .3 .inside)
+    (i .0 ∙ s .0, i .1 ∙ s .1, omega (arith, i .2, s .2), i .3 .inside, i .3 .sound (s .4))
 
 slice-reshare-prefix-reply : tie.Need-slice-reshare-prefix-reply Inv-loop μ-loop
 slice-reshare-prefix-reply c = put-within (c .before .before .before .before .answer-lines .ensures .text)

@@ -2,13 +2,14 @@
 use Prim.Native.Nat.{_≤_}
 use mathlib.Core.Path.{_≡_}
 use lib.ListN.{length}
+use Rattle.desk.specs.Desks.{deskOf, SoundDesk}
 use borrow.Author.Needs.{needs}
 use Rattle.rehearse.proofs.serving.run.Statement.{statement}
 use Rattle.rehearse.proofs.serving.run.Tie as tie
 
 abbrev Inv-loop : tie.InvT-loop
 Inv-loop rows₀ trades₀ buf₀ out₀ h₀ turns₀ rows trades buf out h turns =
-    (length rows ≡ 1024) × (length trades ≡ 2048) × (length buf ≡ 65536) × (length out ≡ 262144) × (h .kept ≤ 79)
+    (length rows ≡ 1024) × (length trades ≡ 2048) × (length buf ≡ 65536) × (length out ≡ 262144) × (h .kept ≤ 79) × SoundDesk (deskOf (h .begun) (h .day) rows)
 
 abbrev μ-loop : tie.MeasureT-loop
 μ-loop rows₀ trades₀ buf₀ out₀ h₀ turns₀ rows trades buf out h turns = turns
@@ -57,7 +58,8 @@ loop-less c = search needs
 
 loop-again : tie.Need-loop-again Inv-loop μ-loop
 loop-again c =
-    (search needs, search needs, search needs, search needs, c .before .before .before .before .before .turn .ensures (c .if1 .left))
+    let t = c .before .before .before .before .before .turn .ensures (c .if1 .left) in
+    (search needs, search needs, search needs, search needs, t .0, t .1)
 
 returns-2 : tie.Need-returns-2 Inv-loop μ-loop
 returns-2 c = search needs

@@ -1,5 +1,5 @@
 -- A read that failed or ended stops the program; else the block is served. Assumes nothing.
-use Rattle.rehearse.proofs.Rounds.{not-both, filled-with, steps-few}
+use Rattle.rehearse.proofs.Rounds.{not-both, filled-with, steps-few, steps-sound}
 use borrow.Author.Needs.{needs}
 use Rattle.rehearse.proofs.serving.turn.Statement.{statement}
 use Rattle.rehearse.proofs.serving.turn.Tie as tie
@@ -31,7 +31,7 @@ enum-known-input c = search needs
 serve-requires : tie.Need-serve-requires
 serve-requires c κs =
     let f = c .before .before .before .before .before .before .before .before .before .fill in
-    (search needs, search needs, search needs, filled-with _ (c .before .before .before .before .before .input .given .1) (f .ensures))
+    (search needs, search needs, search needs, filled-with _ (c .before .before .before .before .before .input .given .1) (f .ensures), search needs)
 
 same-length : tie.Need-same-length
 same-length c = search needs
@@ -61,7 +61,10 @@ same-length-7 : tie.Need-same-length-7
 same-length-7 c = search needs
 
 returns-3 : tie.Need-returns-3
-returns-3 c = λ e. steps-few (c .before .before .before .before .before .before .serve .ensures e)
+returns-3 c =
+    let k = c .before .before .before .before .before .before in
+    let s = k .before .before .before .before .before .before .before .before .before .before .before .before .before .before in
+    λ e. (steps-few (k .serve .ensures e), steps-sound (k .serve .ensures e) (s .pre .5))
 
 pub turn-spec : {M : Type 1} → statement M
 turn-spec =
