@@ -13,7 +13,7 @@ use Rattle.model.specs.declared.Asked.{Asked}
 use Rattle.model.specs.declared.Trade.{Trade}
 use Rattle.model.specs.declared.Day.{Day}
 use Rattle.model.specs.declared.Command.{Command}
-use Rattle.model.specs.declared.Command.the-variants.{Malformed}
+use Rattle.model.specs.declared.Command.the-variants.{Malformed, Opens, Moves, Enters, Cancels}
 use Rattle.model.specs.declared.OpenReply as OpenReply
 use Rattle.model.specs.declared.OrderAnswer.{OrderAnswer}
 use Rattle.model.specs.declared.ClockAnswer.{ClockAnswer}
@@ -27,12 +27,13 @@ use Rattle.model.specs.Session as Session
 use Rattle.model.specs.Session.{Desk, opened, openAnswer, clockAnswer, orderAnswer, cancelAnswer, onDesk, answer}
 use Rattle.book.specs.Rows.{orderOf, bookOf, tradeOf, tradesOf}
 use Rattle.day.specs.Promises.{openLeft, left, cancelLeft}
+use Rattle.model.proofs.Bools.{not-both}
 use Rattle.text.specs.Printing.{Wrote}
 use Rattle.text.proofs.Printed.{and-then, put-long}
 use Rattle.text.proofs.Replied.{trades-fit, refusal-fits, open-fits, clock-fits, order-fits, cancel-fits}
 use Rattle.text.proofs.Lent.{answered, orderText, clockText, open-answer, order-answer, clock-answer}
 use Rattle.desk.specs.declared.Answered.{Answered}
-use Rattle.desk.specs.Desks.{deskOf, Leaves}
+use Rattle.desk.specs.Desks.{deskOf, tradesLeft, Leaves, Answering}
 
 -- ---- the trades that were made stand in the list
 
@@ -95,7 +96,7 @@ behind-trades trades made h w =
     omega (arith, w .place, trades-fit (take made (tradesOf trades)))
 
 -- where there is room for a line, the text ends in the buffer
-within :
+pub within :
     {before text after : List ℕ} {p q : ℕ}
     → Wrote before p text after q
     → length text ≤ 110
@@ -122,15 +123,30 @@ open-stays close mark book n = go (eqb (firstOf (openRules close mark book)) 0)
     go true e = let z : _≡_ {A = ℕ} 0 1 = cc in absurd (omega arith)
     go false e = refl
 
+-- a day is open
+pub not-begun : {A : Type 0} → true ≡ false → A
+not-begun e = absurd (not-both refl e)
+
 -- the desk depends on the rows by the book alone
 same-desk :
     (begun : Bool) (d : Day) (rows rows′ : List (List ℕ)) → bookOf rows′ ≡ bookOf rows → deskOf begun d rows′ ≡ deskOf begun d rows
 same-desk true d rows rows′ e = ap (λ (b : List Order). some (record { day = d; book = b })) e
 same-desk false d rows rows′ e = refl
 
+-- where no day is open, no line touches the trade list
+pub no-trades :
+    (begun : Bool) (d : Day) (rows : List (List ℕ)) (c : Command) (lent : List Trade)
+    → begun ≡ false
+    → lent ≡ tradesLeft c (deskOf begun d rows) lent
+no-trades begun d rows Malformed lent e = refl
+no-trades begun d rows (Opens close mark) lent e = refl
+no-trades begun d rows (Moves t) lent e = rw e
+no-trades begun d rows (Enters a) lent e = rw e
+no-trades begun d rows (Cancels account number) lent e = refl
+
 module _ {before after : List ℕ} {at : ℕ} where
   -- an answer's text and desk, as they are known
-  leaves :
+  pub leaves :
       {a : Session.Answered} {text : List ℕ} {desk : Option Desk} {rows : List (List ℕ)} {r : Answered}
       → a ≡ answered text desk
       → Wrote before at text after (r .next)
@@ -142,11 +158,12 @@ module _ {before after : List ℕ} {at : ℕ} where
 
   -- the line asks for what it was taken to ask for
   pub as-asked :
-      {c k : Command} (desk : Option Desk) {rows : List (List ℕ)} {r : Answered}
+      {c k : Command} {begun : Bool} {d : Day} {rows trades rows′ trades′ : List (List ℕ)} {r : Answered}
       → c ≡ k
-      → Leaves (answer k desk) before at rows after r
-      → Leaves (answer c desk) before at rows after r
-  as-asked desk {rows} {r} e l = subst (λ (x : Command). Leaves (answer x desk) before at rows after r) (sym e) l
+      → Answering k begun d before at rows trades rows′ trades′ after r
+      → Answering c begun d before at rows trades rows′ trades′ after r
+  as-asked {begun = begun} {d} {rows} {trades} {rows′} {trades′} {r} e l =
+      subst (λ (x : Command). Answering x begun d before at rows trades rows′ trades′ after r) (sym e) l
 
   module _ (begun : Bool) (d : Day) (rows : List (List ℕ)) where
     -- 17: no day opened yet
@@ -185,18 +202,20 @@ module _ {before after : List ℕ} {at : ℕ} where
             (fresh : Day)
             → reply ≡ OpenReply.the-variants.Opened fresh
             → Leaves (openAnswer close mark (deskOf begun d rows)) before at rows′ after (record { begun = true; day = fresh; next = next })
+            × (true ≡ false → (fresh ≡ d) × (bookOf rows′ ≡ bookOf rows))
         unfolding opened
-        opening-made fresh f = leaves opening w (within w (open-fits reply) h) (rw f)
+        opening-made fresh f = (leaves opening w (within w (open-fits reply) h) (rw f), not-begun)
 
         pub opening-refused :
             (m : ℕ)
             → reply ≡ OpenReply.the-variants.Refused m
             → Leaves (openAnswer close mark (deskOf begun d rows)) before at rows′ after (record { begun = begun; day = d; next = next })
+            × (begun ≡ false → (d ≡ d) × (bookOf rows′ ≡ bookOf rows))
         unfolding opened
         opening-refused m f =
             let g : openCall close mark (bookOf rows) .reply ≡ OpenReply.the-variants.Refused m = sym (ap (λ (o : OpenOutcome). o .reply) e) ∙ f in
             let k : bookOf rows′ ≡ bookOf rows = ap (λ (o : OpenOutcome). o .book) e ∙ open-stays close mark (bookOf rows) m g in
-            leaves opening w (within w (open-fits reply) h) (rw f (same-desk begun d rows rows′ k))
+            (leaves opening w (within w (open-fits reply) h) (rw f (same-desk begun d rows rows′ k)), λ b. (refl, k))
 
       pub cancel-answered :
           (account number : ℕ) (reply : CancelReply)
@@ -205,8 +224,9 @@ module _ {before after : List ℕ} {at : ℕ} where
           → cancelLeft reply rows′ ≡ cancelCall d account number (bookOf rows)
           → Wrote before at (cancelLine number reply) after next
           → Leaves (onDesk (cancelAnswer account number) (deskOf begun d rows)) before at rows′ after (record { begun = true; day = d; next = next })
+          × (true ≡ false → (d ≡ d) × (bookOf rows′ ≡ bookOf rows))
       unfolding onDesk cancelAnswer
-      cancel-answered account number reply h o e w = leaves (rw (o, ← e)) w (within w (cancel-fits number reply) h) refl
+      cancel-answered account number reply h o e w = (leaves (rw (o, ← e)) w (within w (cancel-fits number reply) h) refl, not-begun)
 
       module _
           (trades trades′ : List (List ℕ)) (n : length trades ≡ 2_048) (o : begun ≡ true)
@@ -216,23 +236,31 @@ module _ {before after : List ℕ} {at : ℕ} where
             → left r rows′ trades′ ≡ orderCall d a (bookOf rows) (tradesOf trades)
             → Wrote before at (tradeLines (take (r .made) (tradesOf trades′))) middle p
             → Wrote middle p (orderLine (r .reply)) after next
-            → Leaves (onDesk (orderAnswer a) (deskOf begun d rows)) before at rows′ after (record { begun = true; day = r .day; next = next })
-        unfolding onDesk
-        order-answered a r e v w =
-            leaves
-            (rw o (order-answer (tradesOf trades) (length-map trades tradeOf ∙ n) (record { day = d; book = bookOf rows }) a
-            ∙ sym (ap (λ (x : Outcome OrderAnswer). orderText (take (x .answer .made) (x .trades)) (x .answer) (x .book)) e)))
-            (and-then v w) (within w (order-fits (r .reply)) h) refl
+            → Answering (Enters a) begun d before at rows trades rows′ trades′ after (record { begun = true; day = r .day; next = next })
+        unfolding answer onDesk
+        order-answered a r e v w = record {
+          leaves =
+              leaves
+              (rw o (order-answer (tradesOf trades) (length-map trades tradeOf ∙ n) (record { day = d; book = bookOf rows }) a
+              ∙ sym (ap (λ (x : Outcome OrderAnswer). orderText (take (x .answer .made) (x .trades)) (x .answer) (x .book)) e)))
+              (and-then v w) (within w (order-fits (r .reply)) h) refl;
+          idle = not-begun;
+          list = rw o (ap (λ (x : Outcome OrderAnswer). x .trades) e);
+        }
 
         pub clock-answered :
             (t : ℕ) (r : ClockAnswer)
             → left r rows′ trades′ ≡ clockCall d t (bookOf rows) (tradesOf trades)
             → Wrote before at (tradeLines (take (r .made) (tradesOf trades′))) middle p
             → Wrote middle p (clockLine (r .reply)) after next
-            → Leaves (onDesk (clockAnswer t) (deskOf begun d rows)) before at rows′ after (record { begun = true; day = r .day; next = next })
-        unfolding onDesk
-        clock-answered t r e v w =
-            leaves
-            (rw o (clock-answer (tradesOf trades) (length-map trades tradeOf ∙ n) (record { day = d; book = bookOf rows }) t
-            ∙ sym (ap (λ (x : Outcome ClockAnswer). clockText (take (x .answer .made) (x .trades)) (x .answer) (x .book)) e)))
-            (and-then v w) (within w (clock-fits (r .reply)) h) refl
+            → Answering (Moves t) begun d before at rows trades rows′ trades′ after (record { begun = true; day = r .day; next = next })
+        unfolding answer onDesk
+        clock-answered t r e v w = record {
+          leaves =
+              leaves
+              (rw o (clock-answer (tradesOf trades) (length-map trades tradeOf ∙ n) (record { day = d; book = bookOf rows }) t
+              ∙ sym (ap (λ (x : Outcome ClockAnswer). clockText (take (x .answer .made) (x .trades)) (x .answer) (x .book)) e)))
+              (and-then v w) (within w (clock-fits (r .reply)) h) refl;
+          idle = not-begun;
+          list = rw o (ap (λ (x : Outcome ClockAnswer). x .trades) e);
+        }

@@ -1,7 +1,7 @@
 -- A sound desk stays sound, whatever a line asks for: a new day is sound, and every call keeps it so. Assumes nothing.
 use Prim.Native.Nat.{ℕ}
-use mathlib.Core.Path.{_≡_, refl}
-use mathlib.Core.Bool.{Bool, true, false}
+use mathlib.Core.Path.{_≡_, refl, subst}
+use mathlib.Core.Bool.{Bool, true, false, _&&_}
 use mathlib.Core.List.{List, [], _∷_}
 use mathlib.Core.Option.{Option, none, some}
 use native.Mathlib.Omega.{arith}
@@ -17,16 +17,29 @@ use Rattle.book.specs.Rows.{bookOf}
 use Rattle.text.specs.Answers.{deskAfter}
 use Rattle.demands.specs.Pricing.{Sound}
 use Rattle.demands.proofs.Demands.{keeping}
-use Rattle.desk.specs.Desks.{deskOf, SoundDesk}
+use Rattle.desk.specs.Desks.{deskOf, SoundDesk, notSound, asksDay, asksUnsound}
 
--- a day that is known to be sound would pass the test
-pub tested : (d : Day) (book : List Order) → Sound d book → unsound d book ≡ false
+and-none : (b : Bool) → (b && false) ≡ false
+and-none true = refl
+and-none false = refl
+
+-- a desk that is known to be sound would pass the test, whatever is asked of it
+tested : (k : Option Desk) → SoundDesk k → notSound k ≡ false
 unfolding unsound
-tested d book s = rw (s .0, s .1)
+tested none s = refl
+tested (some k) s = rw (s .0, s .1)
+
+pub never-15 : (c : Command) (k : Option Desk) → SoundDesk k → asksUnsound c k ≡ false
+unfolding asksUnsound
+never-15 c k s = rw (tested k s) (and-none (asksDay c))
+
+-- what is asked of the day, where 15 is not due
+pub asked-sound : (k : Option Desk) {c x : Command} → c ≡ x → asksUnsound c k ≡ false → asksUnsound x k ≡ false
+asked-sound k e s = subst (λ (y : Command). asksUnsound y k ≡ false) e s
 
 -- where a day is open
-pub on-day : (begun : Bool) (d : Day) (rows : List (List ℕ)) → begun ≡ true → SoundDesk (deskOf begun d rows) → unsound d (bookOf rows) ≡ false
-on-day true d rows e s = tested d (bookOf rows) s
+pub on-day : (begun : Bool) (d : Day) (rows : List (List ℕ)) → begun ≡ true → notSound (deskOf begun d rows) ≡ false → unsound d (bookOf rows) ≡ false
+on-day true d rows e s = s
 on-day false d rows e s = let z : _≡_ {A = ℕ} 0 1 = cc in absurd (omega arith)
 
 opened-sound :

@@ -1,5 +1,5 @@
 // What a line is answered with: the call that it asks for is made, and its trades and its reply are put into the lent buffer.
-// The desk's day is sound, and every answer keeps it so: no call tests it again.
+// No call tests the day again: it is for the caller to show that 15 is not due.
 use crate::Answered;
 use day::cancelling::cancel_sound;
 use day::entering::enter_sound;
@@ -16,15 +16,18 @@ use text::printing::put_order;
 use text::printing::put_refusal;
 use text::printing::put_trades;
 ghost use mathlib.Core.Path.{_≡_};
+ghost use mathlib.Core.Bool.{false};
 ghost use Prim.Native.Nat.{_+_, _≤_};
 ghost use lib.ListN.{length};
 ghost use Rattle.model.specs.Lines.{refusalLine};
-ghost use Rattle.model.specs.Session.{openAnswer, clockAnswer, orderAnswer, cancelAnswer, onDesk, answer};
+ghost use Rattle.model.specs.declared.Command.the-variants.{Moves, Enters};
+ghost use Rattle.model.specs.Session.{openAnswer, cancelAnswer, onDesk};
+ghost use Rattle.book.specs.Rows.{bookOf};
 ghost use Rattle.text.specs.Printing.{Wrote};
-ghost use Rattle.desk.specs.Desks.{deskOf, SoundDesk, Leaves};
+ghost use Rattle.desk.specs.Desks.{deskOf, notSound, asksUnsound, Leaves, Answering};
 
 // A refusal that no call gives: the desk stays.
-fn refuse(begun: bool, d: Day, n: u64, out: &mut [u8], at: usize) -> Answered
+pub fn refuse(begun: bool, d: Day, n: u64, out: &mut [u8], at: usize) -> Answered
     requires { ⌜ at + 110 ≤ length (now out) ⌝ }
     ensures { λ r. ⌜ (r .begun ≡ begun) × (r .day ≡ d) × Wrote (now (out .entry)) at (refusalLine n) (now (out .exit)) (r .next) ⌝ }
 {
@@ -47,7 +50,7 @@ fn answer_opening(
     at: usize,
 ) -> Answered
     requires { ⌜ (length (now rows) ≡ 1024) × (at + 110 ≤ length (now out)) ⌝ }
-    ensures { λ r. ⌜ Leaves (openAnswer close mark (deskOf begun d (now (rows .entry)))) (now (out .entry)) at (now (rows .exit)) (now (out .exit)) r ⌝ }
+    ensures { λ r. ⌜ Leaves (openAnswer close mark (deskOf begun d (now (rows .entry)))) (now (out .entry)) at (now (rows .exit)) (now (out .exit)) r × (r .begun ≡ false → (r .day ≡ d) × (bookOf (now (rows .exit)) ≡ bookOf (now (rows .entry)))) ⌝ }
 {
     let reply = open_day(close, mark, &mut *rows);
     let next = put_open(out, at, reply);
@@ -75,8 +78,8 @@ fn answer_move(
     out: &mut [u8],
     at: usize,
 ) -> Answered
-    requires { ⌜ (length (now trades) ≡ 2048) × (at + 176238 ≤ length (now out)) × SoundDesk (deskOf begun d (now rows)) ⌝ }
-    ensures { λ r. ⌜ Leaves (onDesk (clockAnswer time) (deskOf begun d (now (rows .entry)))) (now (out .entry)) at (now (rows .exit)) (now (out .exit)) r ⌝ }
+    requires { ⌜ (length (now trades) ≡ 2048) × (at + 176238 ≤ length (now out)) × (notSound (deskOf begun d (now rows)) ≡ false) ⌝ }
+    ensures { λ r. ⌜ Answering (Moves time) begun d (now (out .entry)) at (now (rows .entry)) (now (trades .entry)) (now (rows .exit)) (now (trades .exit)) (now (out .exit)) r ⌝ }
 {
     if !begun {
         return refuse(begun, d, 17, out, at);
@@ -102,8 +105,8 @@ fn answer_order(
     out: &mut [u8],
     at: usize,
 ) -> Answered
-    requires { ⌜ (length (now trades) ≡ 2048) × (at + 176238 ≤ length (now out)) × SoundDesk (deskOf begun d (now rows)) ⌝ }
-    ensures { λ r. ⌜ Leaves (onDesk (orderAnswer a) (deskOf begun d (now (rows .entry)))) (now (out .entry)) at (now (rows .exit)) (now (out .exit)) r ⌝ }
+    requires { ⌜ (length (now trades) ≡ 2048) × (at + 176238 ≤ length (now out)) × (notSound (deskOf begun d (now rows)) ≡ false) ⌝ }
+    ensures { λ r. ⌜ Answering (Enters a) begun d (now (out .entry)) at (now (rows .entry)) (now (trades .entry)) (now (rows .exit)) (now (trades .exit)) (now (out .exit)) r ⌝ }
 {
     if !begun {
         return refuse(begun, d, 17, out, at);
@@ -129,8 +132,8 @@ fn answer_cancel(
     out: &mut [u8],
     at: usize,
 ) -> Answered
-    requires { ⌜ (at + 110 ≤ length (now out)) × SoundDesk (deskOf begun d (now rows)) ⌝ }
-    ensures { λ r. ⌜ Leaves (onDesk (cancelAnswer account number) (deskOf begun d (now (rows .entry)))) (now (out .entry)) at (now (rows .exit)) (now (out .exit)) r ⌝ }
+    requires { ⌜ (at + 110 ≤ length (now out)) × (notSound (deskOf begun d (now rows)) ≡ false) ⌝ }
+    ensures { λ r. ⌜ Leaves (onDesk (cancelAnswer account number) (deskOf begun d (now (rows .entry)))) (now (out .entry)) at (now (rows .exit)) (now (out .exit)) r × (r .begun ≡ false → (r .day ≡ d) × (bookOf (now (rows .exit)) ≡ bookOf (now (rows .entry)))) ⌝ }
 {
     if !begun {
         return refuse(begun, d, 17, out, at);
@@ -154,8 +157,8 @@ pub fn answer_command(
     out: &mut [u8],
     at: usize,
 ) -> Answered
-    requires { ⌜ (length (now rows) ≡ 1024) × (length (now trades) ≡ 2048) × (at + 176238 ≤ length (now out)) × SoundDesk (deskOf begun d (now rows)) ⌝ }
-    ensures { λ r. ⌜ Leaves (answer c (deskOf begun d (now (rows .entry)))) (now (out .entry)) at (now (rows .exit)) (now (out .exit)) r ⌝ }
+    requires { ⌜ (length (now rows) ≡ 1024) × (length (now trades) ≡ 2048) × (at + 176238 ≤ length (now out)) × (asksUnsound c (deskOf begun d (now rows)) ≡ false) ⌝ }
+    ensures { λ r. ⌜ Answering c begun d (now (out .entry)) at (now (rows .entry)) (now (trades .entry)) (now (rows .exit)) (now (trades .exit)) (now (out .exit)) r ⌝ }
 {
     match c {
         Command::Malformed => refuse(begun, d, 16, out, at),

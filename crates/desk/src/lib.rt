@@ -1,6 +1,7 @@
 // The desk of the rehearsal program: the day and its book, once a day is open, and what a line is answered with.
 pub mod answering;
 pub mod blocks;
+pub mod lines;
 
 use model::Day;
 
@@ -9,6 +10,12 @@ pub struct Answered {
     pub begun: bool,
     pub day: Day,
     pub next: usize,
+}
+
+// The answer to one line in any memory: given where the memory is as long as the program's, else none.
+pub enum LineAnswer {
+    Unfit,
+    Given(Answered),
 }
 
 // How far a block is answered: the desk's mark and day, the place of the next line, whether that line began before the block

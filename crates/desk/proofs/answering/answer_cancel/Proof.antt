@@ -1,4 +1,5 @@
 -- No day is 17; else the reply as a line, and the same day. Assumes nothing.
+use mathlib.Core.Path.{refl}
 use native.Mathlib.Omega.{arith}
 use borrow.Author.Tests.{not-true, not-false}
 use Rattle.model.specs.Session.{cancelAnswer}
@@ -17,8 +18,10 @@ same-length c = search needs
 returns : tie.Need-returns
 returns c =
     let s = c .before .before .before .before .before .before .args in
-    let r = c .before .before .refuse in
-    no-day (s .begun) (s .d) (s .rows .now) (cancelAnswer (s .account) (s .number)) _ (omega arith) (not-true _ (c .before .before .before .before .if1 .taken)) (r .ensures .0) (r .ensures .2)
+    let r = c .before .before .refuse in (
+      no-day (s .begun) (s .d) (s .rows .now) (cancelAnswer (s .account) (s .number)) _ (omega arith) (not-true _ (c .before .before .before .before .if1 .taken)) (r .ensures .0) (r .ensures .2),
+      λ b. (r .ensures .1, refl),
+    )
 
 cancel-sound-requires : tie.Need-cancel-sound-requires
 cancel-sound-requires c κs =

@@ -1,7 +1,9 @@
 -- Each arm answers as the definitions do for what the line asks for. Assumes nothing.
+use mathlib.Core.Path.{refl}
 use native.Mathlib.Omega.{arith}
 use Rattle.model.specs.Session.{answer}
-use Rattle.desk.specs.Desks.{deskOf}
+use Rattle.desk.specs.Desks.{deskOf, asksDay, asksUnsound}
+use Rattle.desk.proofs.SoundDesks.{asked-sound}
 use Rattle.desk.proofs.Answers.{no-line, as-asked}
 use borrow.Author.Needs.{needs}
 use Rattle.desk.proofs.answering.answer_command.Statement.{statement}
@@ -23,19 +25,31 @@ enum-known-c-2 : tie.Need-enum-known-c-2
 enum-known-c-2 c = search needs
 
 answer-move-requires : tie.Need-answer-move-requires
-answer-move-requires c κs = search needs
+unfolding asksUnsound asksDay
+answer-move-requires c κs =
+    let s = c .before .before .before .before .before .before .before in
+    let k = asked-sound (deskOf (s .args .begun) (s .args .d) (s .args .rows .now)) (c .before .before .before .before .c2 .given .1) (s .pre .3) in
+    (search needs, search needs, k)
 
 enum-known-c-3 : tie.Need-enum-known-c-3
 enum-known-c-3 c = search needs
 
 answer-order-requires : tie.Need-answer-order-requires
-answer-order-requires c κs = search needs
+unfolding asksUnsound asksDay
+answer-order-requires c κs =
+    let s = c .before .before .before .before .before .before .before in
+    let k = asked-sound (deskOf (s .args .begun) (s .args .d) (s .args .rows .now)) (c .before .before .before .before .c3 .given .1) (s .pre .3) in
+    (search needs, search needs, k)
 
 enum-known-c-4 : tie.Need-enum-known-c-4
 enum-known-c-4 c = search needs
 
 answer-cancel-requires : tie.Need-answer-cancel-requires
-answer-cancel-requires c κs = search needs
+unfolding asksUnsound asksDay
+answer-cancel-requires c κs =
+    let s = c .before .before .before .before .before .before in
+    let k = asked-sound (deskOf (s .args .begun) (s .args .d) (s .args .rows .now)) (c .before .before .before .c4 .given .1) (s .pre .3) in
+    (search needs, k)
 
 same-length : tie.Need-same-length
 same-length c = search needs
@@ -44,8 +58,12 @@ returns : tie.Need-returns
 returns c =
     let s = c .before .before .before .before .before .before .before .args in
     let r = c .before .before .refuse in
-    as-asked (deskOf (s .begun) (s .d) (s .rows .now)) (c .before .before .before .before .enum-told .given .1)
-    (no-line (s .begun) (s .d) (s .rows .now) _ (omega arith) (r .ensures .0) (r .ensures .1) (r .ensures .2))
+    as-asked (c .before .before .before .before .enum-told .given .1)
+    (record {
+      leaves = no-line (s .begun) (s .d) (s .rows .now) _ (omega arith) (r .ensures .0) (r .ensures .1) (r .ensures .2);
+      idle = λ b. (r .ensures .1, refl);
+      list = refl;
+    })
 
 same-length-2 : tie.Need-same-length-2
 same-length-2 c = search needs
@@ -56,8 +74,11 @@ same-length-3 c = search needs
 returns-2 : tie.Need-returns-2
 unfolding answer
 returns-2 c =
-    let s = c .before .before .before .before .before .before .before .before .before .before .args in
-    as-asked (deskOf (s .begun) (s .d) (s .rows .now)) (c .before .before .before .before .before .before .before .c .given .1) (c .before .before .before .answer-opening .ensures)
+    as-asked (c .before .before .before .before .before .before .before .c .given .1) (record {
+      leaves = c .before .before .before .answer-opening .ensures .0;
+      idle = c .before .before .before .answer-opening .ensures .1;
+      list = refl;
+    })
 
 same-length-4 : tie.Need-same-length-4
 same-length-4 c = search needs
@@ -71,8 +92,7 @@ same-length-6 c = search needs
 returns-3 : tie.Need-returns-3
 unfolding answer
 returns-3 c =
-    let s = c .before .before .before .before .before .before .before .before .before .before .before .before .args in
-    as-asked (deskOf (s .begun) (s .d) (s .rows .now)) (c .before .before .before .before .before .before .before .before .before .c2 .given .1) (c .before .before .before .before .answer-move .ensures)
+    as-asked (c .before .before .before .before .before .before .before .before .before .c2 .given .1) (c .before .before .before .before .answer-move .ensures)
 
 same-length-7 : tie.Need-same-length-7
 same-length-7 c = search needs
@@ -86,8 +106,7 @@ same-length-9 c = search needs
 returns-4 : tie.Need-returns-4
 unfolding answer
 returns-4 c =
-    let s = c .before .before .before .before .before .before .before .before .before .before .before .before .args in
-    as-asked (deskOf (s .begun) (s .d) (s .rows .now)) (c .before .before .before .before .before .before .before .before .before .c3 .given .1) (c .before .before .before .before .answer-order .ensures)
+    as-asked (c .before .before .before .before .before .before .before .before .before .c3 .given .1) (c .before .before .before .before .answer-order .ensures)
 
 same-length-10 : tie.Need-same-length-10
 same-length-10 c = search needs
@@ -98,8 +117,11 @@ same-length-11 c = search needs
 returns-5 : tie.Need-returns-5
 unfolding answer
 returns-5 c =
-    let s = c .before .before .before .before .before .before .before .before .before .before .args in
-    as-asked (deskOf (s .begun) (s .d) (s .rows .now)) (c .before .before .before .before .before .before .before .c4 .given .1) (c .before .before .before .answer-cancel .ensures)
+    as-asked (c .before .before .before .before .before .before .before .c4 .given .1) (record {
+      leaves = c .before .before .before .answer-cancel .ensures .0;
+      idle = c .before .before .before .answer-cancel .ensures .1;
+      list = refl;
+    })
 
 pub answer-command-spec : {M : Type 1} → statement M
 answer-command-spec =

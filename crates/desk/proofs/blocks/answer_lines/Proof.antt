@@ -5,6 +5,7 @@ use native.Mathlib.Omega.{arith}
 use lib.ListN.{length}
 use Rattle.desk.specs.Blocks.{pointOf}
 use Rattle.desk.proofs.LineByLine.{Going, going-start, going-on, going-less, going-through, going-full}
+use Rattle.desk.proofs.SoundDesks.{never-15}
 use borrow.Author.Needs.{needs}
 use Rattle.desk.proofs.blocks.answer_lines.Statement.{statement}
 use Rattle.desk.proofs.blocks.answer_lines.Tie as tie
@@ -58,13 +59,13 @@ answer-command-requires c κs =
       i .0 ∙ s .0,
       i .1 ∙ s .1,
       omega (arith, i .2, s .2, c .before .before .before .before .before .before .before .before .if1 .taken),
-      i .3 .answers .onward .sound (s .4),
+      never-15 _ _ (i .3 .answers .onward .sound (s .4)),
     )
 
 loop-less : tie.Need-loop-less Inv-loop μ-loop
 loop-less c =
     let s = c .before .before .before .before .before .before .before .before .before .before .before .before .before .before .before .before .before .before .before .before .args in
-    let n = going-less (s .block .now) _ (s .out .now) (c .before .before .before .before .before .before .before .before .before .before .before .before .before .before .before .before .loop .inv .3) _ _ (sym (c .before .before .before .before .before .before .before .before .before .before .before .before .before .next-command .ensures) ∙ c .before .before .before .before .before .before .before .before .before .before .before .command .given .1) _ (c .before .before .before .before .before .answer-command .ensures) in
+    let n = going-less (s .block .now) _ (s .out .now) (c .before .before .before .before .before .before .before .before .before .before .before .before .before .before .before .before .loop .inv .3) _ _ (sym (c .before .before .before .before .before .before .before .before .before .before .before .before .before .next-command .ensures) ∙ c .before .before .before .before .before .before .before .before .before .before .before .command .given .1) _ (c .before .before .before .before .before .answer-command .ensures .leaves) in
     omega arith
 
 loop-again : tie.Need-loop-again Inv-loop μ-loop
@@ -75,7 +76,7 @@ loop-again c =
       k .kept .1 .1 .0 ∙ i .0,
       k .kept .1 .1 .1 .0 ∙ i .1,
       k .kept .1 .1 .1 .1 .1 .0 ∙ i .2,
-      going-on (s .block .now) _ (s .out .now) (i .3) _ _ (sym (c .before .before .before .before .before .before .before .before .before .before .before .before .before .next-command .ensures) ∙ c .before .before .before .before .before .before .before .before .before .before .before .command .given .1) _ (k .ensures),
+      going-on (s .block .now) _ (s .out .now) (i .3) _ _ (sym (c .before .before .before .before .before .before .before .before .before .before .before .before .before .next-command .ensures) ∙ c .before .before .before .before .before .before .before .before .before .before .before .command .given .1) _ (k .ensures .leaves),
     )
 
 same-length-4 : tie.Need-same-length-4 Inv-loop μ-loop
