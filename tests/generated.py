@@ -1,8 +1,8 @@
 #!/usr/bin/env python3
 """Made sessions through the program and through the desk of the tests (desk.py): the replies must be the same.
 
-    tests/generated.py                 random days, a full book, the longest auctions and sweeps, every byte at every position of
-                                       a line, lines about as long as a block; ends with 'N passed, M failed'
+    tests/generated.py                 random days, long and short, a full book, the longest auctions and sweeps, every byte at
+                                       every position of a line, lines about as long as a block; ends with 'N passed, M failed'
     tests/generated.py SEED COUNT      COUNT random sessions from SEED on
     tests/generated.py --last-number   all 999,999 numbers of a day: a million lines
 """
@@ -14,7 +14,8 @@ import made
 from program import Counts
 
 SEED = 1_300_000
-COUNT = 250
+COUNT = 200
+LONG_COUNT = 8
 
 
 def random_days(counts, seed, count):
@@ -27,6 +28,14 @@ def random_days(counts, seed, count):
         if each % 5 == 0:
             counts.same("random session %d, the desk at every price" % each, expected, desk.replies(session, every_price=True))
             counts.answers("random session %d, in pieces" % each, session, expected, itertools.repeat(13))
+
+
+def long_days(counts, seed, count):
+    """Days of 2,500 lines, with some hundred orders in the book."""
+    print("generated: long days with seeds %d to %d" % (seed, seed + count - 1))
+    for each in range(seed, seed + count):
+        session = made.RandomDays(each, days=1, lines=2500).session()
+        counts.answers("long day %d" % each, session, desk.replies(session))
 
 
 def bounds(counts):
@@ -61,6 +70,7 @@ def main():
         sys.exit("usage: generated.py [SEED COUNT | --last-number]")
     else:
         random_days(counts, SEED, COUNT)
+        long_days(counts, SEED, LONG_COUNT)
         bounds(counts)
     counts.finish()
 

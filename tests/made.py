@@ -30,7 +30,7 @@ class RandomDays:
         self.spread = pick.choice([1, 3, 10, 10, max(10, self.close // 15), max(10, self.close // 3)])
         self.most = pick.choice([200, 400, 5_000, 1_000_000])
         self.accounts = pick.choice([2, 5])
-        self.steps = pick.choice([0.02, 0.05])
+        self.steps = pick.choice([3, 8]) / self.lines
         lines = ["D %d %d" % (self.close, pick.random() < 0.8), "T %d" % pick.choice([33_300, 34_200])]
         self.desk.answer(lines[0].encode())
         self.desk.answer(lines[1].encode())
@@ -40,13 +40,15 @@ class RandomDays:
         return lines + ["T 54000"] * (pick.random() < 0.8)
 
     def line(self):
-        draw = self.source.random()
         _, _, takes_orders, takes_cancels = self.desk.day.row(self.desk.day.time)
-        if draw < (self.steps if takes_orders else 0.8):
+        if self.source.random() < (self.steps if takes_orders else 0.7):
             return self.move()
+        draw = self.source.random()
         if draw < (0.2 if takes_cancels else 0.06):
             return self.cancel()
-        return self.order() if draw < 0.96 else self.fault()
+        if draw < 0.92:
+            return self.order()
+        return self.fault() if draw < 0.96 else self.range_edge()
 
     def move(self):
         """Mostly to the next phase or the one after, or a second beside one."""
@@ -70,8 +72,18 @@ class RandomDays:
         if kind != 0 and pick.random() < 0.5:
             price = pick.choice([self.close * 7 // 10 + 1, self.close * 13 // 10])
         quantity = pick.choice([100, 200, pick.randint(100, self.most), self.most])
+        if kind in (3, 4):
+            quantity = min(quantity * pick.choice([1, 6]), 1_000_000)
         numbers = (pick.randint(0, 1), kind, pick.randint(1, self.accounts), quantity, min(max(price, 1), 999_999))
         return "O %d %d %d %d %d" % numbers
+
+    def range_edge(self):
+        """A limit order at an edge of its range, or just beyond, whatever its base is."""
+        day, side = self.desk.day, self.source.randint(0, 1)
+        bases = [price for price in (day.best(0), day.best(1), day.last, day.close) if price is not None]
+        base = self.source.choice(bases)
+        edge = self.source.choice([base * 105 // 100, base + 10] if side == 0 else [base * 95 // 100, base - 10])
+        return "O %d 0 1 100 %d" % (side, max(edge + self.source.choice([-1, 0, 1]), 0))
 
     def fault(self):
         """A line that is refused, most of the time."""

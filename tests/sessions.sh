@@ -1,7 +1,7 @@
 #!/bin/bash
 # Whole sessions through the built program: each example whole and one byte at a time, the edges of a line, what the program
 # does when its input or output fails, the stored sessions (pairs.py), made sessions (generated.py) and random bytes
-# (random_bytes.py). The last three need python3. Ends with a line 'N passed, M failed'.
+# (random_bytes.py). The last three need python3, 3.9 or newer. Ends with a line 'N passed, M failed'.
 set -u
 cd "$(dirname "$0")/.." || exit 2
 program=target/bin/rehearse
@@ -88,10 +88,10 @@ same "an output that is full" "$work/out" "$work/said"
 printf 'rehearse: standard input cannot be read\n' > "$work/out"
 same "an input that is a folder" "$work/out" "$work/said"
 
-# A script whose last line counts its comparisons. One that stops before that line is a failure.
+# A script whose last line counts its comparisons. One that stops before that line, or hangs, is a failure.
 script() { # COMMAND..
     local last
-    "$@" > "$work/said"
+    timeout 300 "$@" > "$work/said"
     cat "$work/said"
     last=$(tail -n 1 "$work/said")
     if [[ $last =~ ^([0-9]+)\ passed,\ ([0-9]+)\ failed$ ]]; then
@@ -102,14 +102,14 @@ script() { # COMMAND..
     fi
 }
 
-if python3 --version > /dev/null 2>&1; then
+if python3 -c 'import sys; sys.exit(sys.version_info < (3, 9))' 2> /dev/null; then
     export PYTHONDONTWRITEBYTECODE=1
     script tests/pairs.py
     script tests/generated.py
     script tests/random_bytes.py
 else
     failed=$((failed + 1))
-    echo "sessions: python3 is missing; the stored and made sessions and the random bytes were not run"
+    echo "sessions: no python3 of 3.9 or newer; the stored and made sessions and the random bytes were not run"
 fi
 
 echo "$passed passed, $failed failed"
