@@ -49,7 +49,12 @@ def bounds(counts):
         "lines about as long as a block": made.long_lines(),
     }
     for what, session in sessions.items():
-        counts.answers(what, session, desk.replies(session))
+        expected = desk.replies(session)
+        counts.answers(what, session, expected)
+        counts.answers(what + ", in pieces of 1,021 bytes", session, expected, itertools.repeat(1021))
+    for empty_lines in range(500, 40_000, 1997):
+        session = made.longest_auction(closing=False, empty_lines=empty_lines)
+        counts.answers("the longest auction behind %d empty lines" % empty_lines, session, desk.replies(session))
 
 
 def last_number(counts):

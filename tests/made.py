@@ -118,12 +118,13 @@ def full_book():
     return text(lines + ["O 1 0 8 100 1000", "T 54000", "D 1000 1", "T 34200", "O 0 0 7 100 1000"])
 
 
-def longest_auction(closing):
-    """512 buys and 512 sells that shift against each other: 1,023 trades in one auction, the most that 1,024 orders have."""
+def longest_auction(closing, empty_lines=0):
+    """512 buys and 512 sells that shift against each other: 1,023 trades in one auction, the most that 1,024 orders have. The
+    empty lines before it are answered too, so that its replies come at any place of the program's output."""
     lines = ["D 1000 1", "T %d" % (53_820 if closing else 33_300)]
     for n in range(512):
         lines += ["O 0 0 1 200 1000", "O 1 0 2 %d 1000" % (100 if n == 0 else 200)]
-    return text(lines + ["T 54000"])
+    return text(lines + [""] * empty_lines + ["T 54000", "T 54001"])
 
 
 def longest_sweep(side):
