@@ -3,7 +3,7 @@ import random
 
 import desk
 
-PHASES = [33_300, 33_600, 33_900, 34_200, 41_400, 46_800, 53_820, 54_000]
+PHASES = [second for second, _, _, _ in desk.CLOCK if second > 0]
 
 
 def text(lines):
