@@ -1,6 +1,7 @@
 #!/bin/bash
-# Whole sessions through the built program: each example whole and one byte at a time, the edges of a line, and what the
-# program does when its input or output fails. Ends with a line 'N passed, M failed'.
+# Whole sessions through the built program: each example whole and one byte at a time, the edges of a line, what the program
+# does when its input or output fails, the stored sessions (pairs.py), made sessions (generated.py) and random bytes
+# (random_bytes.py). The last three need python3, 3.9 or newer. Ends with a line 'N passed, M failed'.
 set -u
 cd "$(dirname "$0")/.." || exit 2
 program=target/bin/rehearse
@@ -43,7 +44,6 @@ edge() { # NAME INPUT EXPECTED: texts for printf
 for input in examples/*.txt; do
     session "$input" "$input" "${input%.txt}.out"
 done
-session "the paper's session" crates/rehearse/stdin crates/rehearse/stdout
 
 digits=$(printf '9%.0s' {1..77})
 letters=$(printf 'T%.0s' {1..70000})
@@ -87,6 +87,30 @@ same "an output that is full" "$work/out" "$work/said"
 "$program" < . > "$work/in" 2> "$work/said"
 printf 'rehearse: standard input cannot be read\n' > "$work/out"
 same "an input that is a folder" "$work/out" "$work/said"
+
+# A script whose last line counts its comparisons. One that stops before that line, or hangs, is a failure.
+script() { # COMMAND..
+    local last
+    timeout 300 "$@" > "$work/said"
+    cat "$work/said"
+    last=$(tail -n 1 "$work/said")
+    if [[ $last =~ ^([0-9]+)\ passed,\ ([0-9]+)\ failed$ ]]; then
+        passed=$((passed + BASH_REMATCH[1])) failed=$((failed + BASH_REMATCH[2]))
+    else
+        failed=$((failed + 1))
+        echo "sessions: $* did not finish"
+    fi
+}
+
+if python3 -c 'import sys; sys.exit(sys.version_info < (3, 9))' 2> /dev/null; then
+    export PYTHONDONTWRITEBYTECODE=1
+    script tests/pairs.py
+    script tests/generated.py
+    script tests/random_bytes.py
+else
+    failed=$((failed + 1))
+    echo "sessions: no python3 of 3.9 or newer; the stored and made sessions and the random bytes were not run"
+fi
 
 echo "$passed passed, $failed failed"
 [ "$failed" -eq 0 ]

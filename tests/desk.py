@@ -1,0 +1,349 @@
+#!/usr/bin/env python3
+"""The desk of the tests: a session of the rehearsal program answered a second time, for comparing.
+
+    tests/desk.py < SESSION          the replies
+    tests/desk.py --every-price ..   the same, but an auction whose orders lie within 2,000 fen tries every price between the
+                                     lowest and the highest, not only those that can matter
+
+Written from document 01 and its readings in docs/DECISIONS.md alone, without the program's code or its definitions. It is
+slow and plain on purpose: one list of live orders, searched from end to end.
+"""
+import re
+import sys
+
+PLACES = 1024
+TRADES = 2048
+LARGEST_PRICE = 999_999
+LARGEST_NUMBER = 999_999  # the last order number of a day
+LARGEST_WORD = 4_294_967_295  # the largest number of a line
+LONGEST_LINE = 80  # bytes, with the newline
+
+BUY, SELL = 0, 1
+
+# First second, phase, takes orders, takes cancels.
+CLOCK = [
+    (0, 0, False, False),
+    (33_300, 1, True, True),
+    (33_600, 2, True, False),
+    (33_900, 3, False, False),
+    (34_200, 4, True, True),
+    (41_400, 5, False, False),
+    (46_800, 4, True, True),
+    (53_820, 6, True, False),
+    (54_000, 0, False, False),
+]
+OPENING_AUCTION = 33_900
+CLOSING_AUCTION = 54_000
+
+
+class Refused(Exception):
+    """The number of the refusal is its only argument."""
+
+
+class Order:
+    def __init__(self, number, side, account, left, price):
+        self.number = number
+        self.side = side
+        self.account = account
+        self.left = left
+        self.price = price
+
+
+def rank(order):
+    """Better price first, then lower number."""
+    return (-order.price if order.side == BUY else order.price, order.number)
+
+
+def meets(side, limit, price):
+    """Whether an order of this side and limit may trade at this price."""
+    return price <= limit if side == BUY else price >= limit
+
+
+def within(side, limit, price):
+    """The price, or the limit where the price lies beyond it."""
+    return price if meets(side, limit, price) else limit
+
+
+class Auction:
+    """The price conditions of an auction over a list of orders."""
+
+    def __init__(self, orders):
+        self.buys = [o for o in orders if o.side == BUY]
+        self.sells = [o for o in orders if o.side == SELL]
+
+    def demand(self, p):
+        return sum(o.left for o in self.buys if o.price >= p)
+
+    def supply(self, p):
+        return sum(o.left for o in self.sells if o.price <= p)
+
+    def volume(self, p):
+        return min(self.demand(p), self.supply(p))
+
+    def qualifies(self, p, most):
+        volume = self.volume(p)
+        buys_above = sum(o.left for o in self.buys if o.price > p)
+        sells_below = sum(o.left for o in self.sells if o.price < p)
+        buys_at = sum(o.left for o in self.buys if o.price == p)
+        sells_at = sum(o.left for o in self.sells if o.price == p)
+        return (
+            volume >= 1
+            and volume == most
+            and buys_above <= volume
+            and sells_below <= volume
+            and (buys_above + buys_at <= volume or sells_below + sells_at <= volume)
+        )
+
+    def candidates(self, last, every_price):
+        """Demand and supply change at order prices only, so between two of them all prices qualify alike: the ends of that
+        stretch and the price that nearness is measured from stand for it. Outside all order prices the volume is 0."""
+        prices = {o.price for o in self.buys + self.sells}
+        if not prices:
+            return []
+        if every_price and max(prices) - min(prices) <= 2000:
+            return range(min(prices), max(prices) + 1)
+        matter = {last} | {p + step for p in prices for step in (-1, 0, 1)}
+        return sorted(p for p in matter if 1 <= p <= LARGEST_PRICE)
+
+    def price(self, last, every_price):
+        """The price, or None."""
+        candidates = self.candidates(last, every_price)
+        most = max((self.volume(p) for p in candidates), default=0)
+        left = [p for p in candidates if self.qualifies(p, most)]
+        for badness in (lambda p: abs(self.demand(p) - self.supply(p)), lambda p: abs(p - last)):
+            least = min((badness(p) for p in left), default=0)
+            left = [p for p in left if badness(p) == least]
+        reach = any(b.price >= s.price for b in self.buys for s in self.sells)
+        if reach and len(left) != 1:
+            raise Refused(18)
+        return left[0] if left else None
+
+    def pairs(self, p):
+        """Buyer, seller and shares of each trade at this price: both queues cut to the volume, head against head."""
+        volume = self.volume(p)
+
+        def queue(orders):
+            cut, room = [], volume
+            for o in sorted(orders, key=rank):
+                if meets(o.side, o.price, p) and room > 0:
+                    cut.append([o, min(o.left, room)])
+                    room -= cut[-1][1]
+            return cut
+
+        buys, sells = queue(self.buys), queue(self.sells)
+        made = []
+        while buys and sells:
+            shares = min(buys[0][1], sells[0][1])
+            made.append((buys[0][0], sells[0][0], shares))
+            for side in (buys, sells):
+                side[0][1] -= shares
+                if side[0][1] == 0:
+                    side.pop(0)
+        return made
+
+
+class Day:
+    def __init__(self, close, mark, every_price):
+        if not 1 <= close <= LARGEST_PRICE or mark not in (0, 1):
+            raise Refused(14)
+        self.close = close
+        self.limited = mark == 1
+        self.every_price = every_price
+        self.time = 0
+        self.issued = 0
+        self.last = None
+        self.live = []
+
+    # The clock
+
+    def row(self, time):
+        return [row for row in CLOCK if row[0] <= time][-1]
+
+    def move_clock(self, time):
+        if time > 86_399 or time < self.time:
+            raise Refused(1)
+        # Both auctions are worked out on copies, since a refused move changes nothing.
+        live = [Order(o.number, o.side, o.account, o.left, o.price) for o in self.live]
+        last, trades = self.last, []
+        for second in (OPENING_AUCTION, CLOSING_AUCTION):
+            if self.time < second <= time:
+                auction = Auction(live)
+                price = auction.price(self.close if last is None else last, self.every_price)
+                if price is not None:
+                    for buyer, seller, shares in auction.pairs(price):
+                        trades.append((price, shares, buyer.number, seller.number))
+                        buyer.left -= shares
+                        seller.left -= shares
+                    last = price
+                live = [o for o in live if o.left > 0]
+                if second == CLOSING_AUCTION:
+                    live = []
+        if len(trades) > TRADES:
+            raise Refused(13)
+        self.time, self.live, self.last = time, live, last
+        return trades, "K %d %d" % (self.row(time)[1], len(trades))
+
+    # Orders
+
+    def queue(self, side):
+        return sorted((o for o in self.live if o.side == side), key=rank)
+
+    def best(self, side):
+        prices = [o.price for o in self.live if o.side == side]
+        if not prices:
+            return None
+        return max(prices) if side == BUY else min(prices)
+
+    def in_band(self, price):
+        return self.close * 70 <= price * 100 <= self.close * 130
+
+    def in_range(self, side, price):
+        bases = [self.best(1 - side), self.best(side), self.last, self.close]
+        base = [b for b in bases if b is not None][0]
+        if side == BUY:
+            return price * 100 <= base * 105 or price <= base + 10
+        return price * 100 >= base * 95 or price >= base - 10
+
+    def refuse_order(self, side, kind, account, quantity, price):
+        _, phase, takes_orders, _ = self.row(self.time)
+        if side not in (BUY, SELL) or kind > 4:
+            raise Refused(2)
+        if account == 0:
+            raise Refused(3)
+        if not takes_orders:
+            raise Refused(4)
+        if kind != 0 and (phase != 4 or not self.limited):
+            raise Refused(5)
+        if not 100 <= quantity <= 1_000_000:
+            raise Refused(6)
+        if not 1 <= price <= LARGEST_PRICE:
+            raise Refused(7)
+        if self.limited and not self.in_band(price):
+            raise Refused(8)
+        if kind == 0 and phase == 4 and not self.in_range(side, price):
+            raise Refused(9)
+        if len(self.live) == PLACES:
+            raise Refused(10)
+        if self.issued == LARGEST_NUMBER:
+            raise Refused(11)
+
+    def partners(self, side, kind, limit):
+        """The resting orders that an order may trade with, in priority order, and the price that kinds 0 to 2 take (None where
+        there is none)."""
+        queue = self.queue(1 - side) if self.row(self.time)[1] == 4 else []
+        if kind in (3, 4):
+            five = sorted({o.price for o in queue}, reverse=side == SELL)[:5]
+            return [o for o in queue if o.price in five and meets(side, limit, o.price)], None
+        price = {0: limit, 1: self.best(1 - side), 2: self.best(side)}[kind]
+        if price is None:
+            return [], None
+        price = within(side, limit, price)
+        return [o for o in queue if meets(side, price, o.price)], price
+
+    def enter_order(self, side, kind, account, quantity, limit):
+        self.refuse_order(side, kind, account, quantity, limit)
+        own = self.best(side)
+        partners, rests_at = self.partners(side, kind, limit)
+        deals, left = [], quantity
+        for partner in partners:
+            shares = min(left, partner.left)
+            if shares > 0:
+                deals.append((partner, shares))
+                left -= shares
+        if len(deals) > TRADES:
+            raise Refused(13)
+        if kind == 4 and deals:
+            rests_at = deals[-1][0].price
+        elif kind == 4 and own is not None:
+            rests_at = within(side, limit, own)
+
+        self.issued += 1
+        trades = [self.settle(side, partner, shares) for partner, shares in deals]
+        resting = left if rests_at is not None else 0
+        if resting > 0:
+            self.live.append(Order(self.issued, side, account, resting, rests_at))
+        levels = len({price for price, _, _, _ in trades})
+        return trades, "A %d %d %d %d %d" % (self.issued, quantity - left, resting, left - resting, levels)
+
+    def settle(self, side, partner, shares):
+        """One trade of the newest order with a resting one, at the resting one's price."""
+        partner.left -= shares
+        if partner.left == 0:
+            self.live.remove(partner)
+        self.last = partner.price
+        buyer, seller = (self.issued, partner.number) if side == BUY else (partner.number, self.issued)
+        return partner.price, shares, buyer, seller
+
+    def cancel_order(self, account, number):
+        if not self.row(self.time)[3]:
+            raise Refused(4)
+        for o in self.live:
+            if o.number == number and o.account == account:
+                self.live.remove(o)
+                return [], "W %d %d" % (number, o.left)
+        raise Refused(12)
+
+
+HOW_MANY_NUMBERS = {b"D": 2, b"T": 1, b"O": 5, b"C": 2}
+FORMS = {letter: re.compile(letter + rb" (0|[1-9][0-9]*)" * count) for letter, count in HOW_MANY_NUMBERS.items()}
+
+
+def read_line(line):
+    """Letter and numbers of a line without its newline; refused where it is not of the form."""
+    form = FORMS.get(line[:1])
+    found = form.fullmatch(line) if form and len(line) + 1 <= LONGEST_LINE else None
+    numbers = [int(text) for text in found.groups()] if found else []
+    if not found or max(numbers) > LARGEST_WORD:
+        raise Refused(16)
+    return line[:1], numbers
+
+
+class Desk:
+    """Answers line after line; its day is None before the first accepted opening."""
+
+    def __init__(self, every_price=False):
+        self.every_price = every_price
+        self.day = None
+
+    def obey(self, line):
+        """Trades and answer; or refused."""
+        letter, numbers = read_line(line)
+        if letter == b"D":
+            self.day = Day(*numbers, self.every_price)
+            return [], "D"
+        if self.day is None:
+            raise Refused(17)
+        if letter == b"T":
+            return self.day.move_clock(*numbers)
+        if letter == b"O":
+            return self.day.enter_order(*numbers)
+        return self.day.cancel_order(*numbers)
+
+    def answer(self, line):
+        """The replies to a line without its newline: trades first, then the one answer."""
+        try:
+            trades, answer = self.obey(line)
+        except Refused as refused:
+            trades, answer = [], "X %d" % refused.args[0]
+        return ["M %d %d %d %d\n" % trade for trade in trades] + [answer + "\n"]
+
+
+def replies(session, every_price=False):
+    """The replies to all bytes of a session, as bytes."""
+    desk = Desk(every_price)
+    *lines, tail = session.split(b"\n")
+    said = [reply for line in lines for reply in desk.answer(line)]
+    if tail:
+        said.append("X 16\n")
+    return "".join(said).encode()
+
+
+def main():
+    every_price = sys.argv[1:] == ["--every-price"]
+    if sys.argv[1:] and not every_price:
+        sys.exit("usage: desk.py [--every-price] < SESSION")
+    sys.stdout.buffer.write(replies(sys.stdin.buffer.read(), every_price))
+
+
+if __name__ == "__main__":
+    main()
