@@ -3,6 +3,7 @@ use Prim.Native.Nat.{ℕ, _+_, _-_, _≤_, _<_}
 use mathlib.Core.Path.{_≡_, refl, sym, ap, _∙_}
 use mathlib.Core.Bool.{Bool, true, false, cond}
 use mathlib.Core.List.{List, [], _∷_, _++_, map}
+use native.Mathlib.Decide.{ℕ-discrete}
 use native.Mathlib.Omega.{arith}
 use native.Mathlib.Numerals.{add-one}
 use lib.ListN.{length, take, getD}
@@ -13,6 +14,7 @@ use Rattle.model.specs.declared.Trade.{Trade}
 use Rattle.model.specs.Lists.{keep, total}
 use Rattle.model.specs.Book.{free}
 use Rattle.model.specs.Matching.{isIn, filled, filledOf, lessBy, settle}
+use Rattle.book.specs.Standing.{Each, Fair}
 use Rattle.book.specs.Rows.{tradeOf, tradesOf, rowsOf, bookOf}
 
 -- ---- what trades fill of an order number
@@ -123,3 +125,26 @@ pub settle-map :
     → rowsOf (map (λ (o : Order). lessBy (filledOf (o .number) ts) o) (bookOf rows)) ≡ rowsOf (settle ts (bookOf rows))
 unfolding settle
 settle-map ts rows = refl
+
+-- ---- no trades change nothing
+
+pub less-nothing : (o : Order) → Fair o → lessBy 0 o ≡ o
+less-nothing o f = elim (ℕ-discrete (o .left) 0) [
+  | yes z ↦ sym (less-gone 0 (o .left) o o (omega arith) z (f .none (gone z)))
+  | no n ↦ sym (less-some 0 (o .left) o (omega arith) n)
+]
+  where
+    gone : o .left ≡ 0 → o .number ≡ 0
+    gone z = elim (ℕ-discrete (o .number) 0) [
+      | yes y ↦ y
+      | no y ↦ absurd (omega (arith, f .some y))
+    ]
+
+pub settle-none : (book : List Order) → Each Fair book → settle [] book ≡ book
+unfolding settle
+settle-none [] f = refl
+settle-none (o ∷ os) f =
+    let h : lessBy (filledOf (o .number) []) o ≡ o =
+    ap (λ (q : ℕ). lessBy q o) (filled-none (o .number)) ∙ less-nothing o (f .0) in
+    let t : settle [] os ≡ os = settle-none os (f .1) in
+    cc

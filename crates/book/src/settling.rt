@@ -6,6 +6,7 @@ ghost use lib.ListN.{length, take};
 ghost use Rattle.model.specs.Matching.{isIn, filledOf, lessBy, settle};
 ghost use Rattle.model.specs.Calls.{cleared};
 ghost use Rattle.book.specs.Rows.{bookOf, rowsOf, tradesOf};
+ghost use Rattle.book.specs.Standing.{Each, Fair};
 ghost use Rattle.book.specs.Writing.{put};
 use crate::order_at;
 use crate::places::free_place;
@@ -83,8 +84,8 @@ fn settled(o: Order, trades: &[[u64; 4]], n: usize) -> Order
     }
 }
 
-// The book after the first n trades of the list.
-pub fn settle_rows(rows: &mut [[u64; 5]], trades: &[[u64; 4]], n: usize)
+// Every place after the first n trades of the list.
+fn settle_places(rows: &mut [[u64; 5]], trades: &[[u64; 4]], n: usize)
     requires { ⌜ n ≤ length (now trades) ⌝ }
     ensures { λ _. ⌜ now (rows .exit) ≡ rowsOf (settle (tradesOf (take n (now (trades .entry)))) (bookOf (now (rows .entry)))) ⌝ }
 {
@@ -94,6 +95,18 @@ pub fn settle_rows(rows: &mut [[u64; 5]], trades: &[[u64; 4]], n: usize)
         put_order(&mut *rows, i, o);
         i += 1;
     }
+}
+
+// The book after the first n trades of the list; where there are none, no place is looked at.
+pub fn settle_rows(rows: &mut [[u64; 5]], trades: &[[u64; 4]], n: usize)
+    requires { ⌜ n ≤ length (now trades) ⌝ }
+    requires { ⌜ Each Fair (bookOf (now rows)) ⌝ }
+    ensures { λ _. ⌜ bookOf (now (rows .exit)) ≡ settle (tradesOf (take n (now (trades .entry)))) (bookOf (now (rows .entry))) ⌝ }
+{
+    if n == 0 {
+        return;
+    }
+    settle_places(&mut *rows, trades, n);
 }
 
 // Every place free.

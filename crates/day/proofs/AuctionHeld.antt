@@ -1,10 +1,10 @@
 -- One auction, as the code holds it: its trades, what it is refused for, that the day's figures have room for it, and what it
 -- comes to. Assumes nothing.
 use Prim.Native.Nat.{ℕ, _+_, _*_, _^_, _≤_, _<_}
-use mathlib.Core.Path.{_≡_, sym, ap, _∙_}
+use mathlib.Core.Path.{_≡_, refl, sym, ap, _∙_}
 use mathlib.Core.Logic.{⊎-elim}
-use mathlib.Core.Bool.{true, false}
-use mathlib.Core.List.{List}
+use mathlib.Core.Bool.{Bool, true, false}
+use mathlib.Core.List.{List, []}
 use native.Mathlib.Nat.{mul-le-mul-right}
 use native.Mathlib.Omega.{arith}
 use lib.ListN.{length, take, getD}
@@ -15,27 +15,36 @@ use Rattle.model.specs.declared.Day.{Day}
 use Rattle.model.specs.Matching.{filled, settle}
 use Rattle.model.specs.Figures.{money, tally, reference}
 use Rattle.model.specs.Auction.{leftBy}
+use Rattle.model.specs.Sound.{crosses}
 use Rattle.model.specs.Pairing.{tradesAt}
 use Rattle.model.specs.Refusals.{_when_, firstOf}
 use Rattle.model.specs.Calls.{written}
 use Rattle.model.specs.ClockCall.{auctionPrice, auctionTrades, undecided, hold, start}
 use Rattle.model.proofs.Rules.{hit, skip}
-use Rattle.book.specs.Rows.{bookOf, rowsOf, tradesOf, tradeRows}
+use Rattle.book.specs.Rows.{bookOf, tradesOf, tradeRows}
 use Rattle.book.specs.Standing.{Standing}
 use Rattle.book.specs.Writing.{front}
-use Rattle.book.proofs.Memory.{book-rows}
-use Rattle.book.proofs.Written.{front-trades, front-written}
+use Rattle.book.proofs.Written.{front-nil, front-trades, front-written}
 use Rattle.pairing.proofs.Auctions.{auction-trades-are, auction-money, auction-shares, auction-cases}
 use Rattle.day.specs.Promises.{left}
 use Rattle.day.specs.Ready.{Ready}
 use Rattle.day.specs.Moving.{auctioned, auctionRules, reached}
 use Rattle.day.proofs.AuctionLaws.{price-found}
+use Rattle.day.proofs.Boundaries.{no-trades}
 
 -- ---- its trades
 
 module _ (d : Day) (book : List Order) (s : Standing book) {r p : ℕ} (er : r ≡ reference d) (ep : p ≡ getD (leftBy book r) 0 0) where
   pub trades-found : tradesAt p book ≡ auctionTrades d book
   trades-found = ap (λ (q : ℕ). tradesAt q book) (price-found d book er ep) ∙ sym (auction-trades-are book s d)
+
+module _ (d : Day) (book : List Order) (s : Standing book) {c : Bool} (e : c ≡ crosses book) (n : c ≡ false) where
+  none : auctionTrades d book ≡ []
+  none = no-trades d book s (sym e ∙ n)
+
+  -- none are made, and none are written
+  pub none-made : (room : ℕ) (lent : List (List ℕ)) → (0 ≡ length (auctionTrades d book)) × (lent ≡ front room (tradeRows (auctionTrades d book)) lent)
+  none-made room lent = rw none (refl, sym (front-nil room lent))
 
 -- ---- what it is refused for
 
@@ -94,14 +103,13 @@ module _ (d : Day) (rows lent : List (List ℕ)) where
     held-fits r = rw back (figures-fit d book r)
 
     pub auction-held :
-        {rows₂ : List (List ℕ)} {day : Day}
-        → rows₂ ≡ rowsOf (settle (tradesOf (take n after)) book)
+        (rows₂ : List (List ℕ)) {day : Day}
+        → bookOf rows₂ ≡ settle (tradesOf (take n after)) book
         → day ≡ tally (tradesOf (take n after)) d
         → left (record { day = day; made = n }) rows₂ after ≡ reached (auctioned false (start d book)) (tradesOf lent)
     unfolding reached auctioned hold start
-    auction-held {rows₂} {day} er ed =
-        let b : bookOf rows₂ ≡ settle ts book =
-        ap bookOf er ∙ book-rows _ ∙ ap (λ (l : List Trade). settle l book) back in
+    auction-held rows₂ {day} er ed =
+        let b : bookOf rows₂ ≡ settle ts book = er ∙ ap (λ (l : List Trade). settle l book) back in
         let t : tradesOf after ≡ written ts (tradesOf lent) = ap tradesOf ea ∙ front-written (length lent) ts lent fits in
         let f : day ≡ tally ts d = ed ∙ ap (λ (l : List Trade). tally l d) back in
         rw (b, t, f, en)

@@ -8,7 +8,6 @@ use lib.ListN.{length, drop, getD, drop-of-length-le}
 use lib.Seq.{drop-cons}
 use lib.Dec.{leb}
 use borrow.Author.Tests.{le-ltb, lt-ltb}
-use native.Mathlib.Decide.{ℕ-discrete}
 use native.Mathlib.Numerals.{add-one}
 use native.Mathlib.Omega.{arith}
 use Rattle.model.specs.declared.Order.{Order}
@@ -17,16 +16,16 @@ use Rattle.model.specs.declared.Day.{Day}
 use Rattle.model.specs.declared.Boundary.{Boundary}
 use Rattle.model.specs.Clock.{passes, boundaries}
 use Rattle.model.specs.Book.{free, standsOn}
-use Rattle.model.specs.Matching.{filledOf, lessBy, settle}
+use Rattle.model.specs.Matching.{settle}
 use Rattle.model.specs.Figures.{tally, reference}
 use Rattle.model.specs.Sound.{crosses}
 use Rattle.model.specs.Calls.{cleared}
 use Rattle.model.specs.ClockCall.{auctionPrice, auctionTrades, Held, hold, pass, through, stuck, start, moved}
-use Rattle.book.specs.Standing.{Each, Fair, Standing}
+use Rattle.book.specs.Standing.{Each, Standing}
 use Rattle.book.proofs.Lists.{each}
 use Rattle.book.proofs.Kept.{free-number, standing-settle, standing-cleared}
 use Rattle.book.proofs.Queues.{on-live}
-use Rattle.book.proofs.Settlements.{filled-none, less-gone, less-some}
+use Rattle.book.proofs.Settlements.{settle-none}
 use Rattle.book.proofs.Crossing.{SellsAbove, not-crossed}
 use Rattle.auction.proofs.Rules.{never-undecided, none-left-over}
 use Rattle.pairing.proofs.Auctions.{auction-uncrosses}
@@ -34,29 +33,6 @@ use Rattle.day.specs.declared.Passed.{Passed}
 use Rattle.day.specs.declared.Passed.the-variants.{Nothing, Auction, Lapse}
 use Rattle.day.specs.Moving.{andThen, passedBy, passed, auctioned, past}
 use Rattle.day.proofs.Tallies.{tally-zero}
-
--- ---- no trades change nothing
-
-less-nothing : (o : Order) → Fair o → lessBy 0 o ≡ o
-less-nothing o f = elim (ℕ-discrete (o .left) 0) [
-  | yes z ↦ sym (less-gone 0 (o .left) o o (omega arith) z (f .none (gone z)))
-  | no n ↦ sym (less-some 0 (o .left) o (omega arith) n)
-]
-  where
-    gone : o .left ≡ 0 → o .number ≡ 0
-    gone z = elim (ℕ-discrete (o .number) 0) [
-      | yes y ↦ y
-      | no y ↦ absurd (omega (arith, f .some y))
-    ]
-
-settle-none : (book : List Order) → Each Fair book → settle [] book ≡ book
-unfolding settle
-settle-none [] f = refl
-settle-none (o ∷ os) f =
-    let h : lessBy (filledOf (o .number) []) o ≡ o =
-    ap (λ (q : ℕ). lessBy q o) (filled-none (o .number)) ∙ less-nothing o (f .0) in
-    let t : settle [] os ≡ os = settle-none os (f .1) in
-    cc
 
 -- ---- a book that is cleared
 
@@ -86,7 +62,7 @@ record Quiet (h : Held) : Type 0 where
   stands : Standing (h .book)
   apart : crosses (h .book) ≡ false
 
-no-trades : (d : Day) (book : List Order) → Standing book → crosses book ≡ false → auctionTrades d book ≡ []
+pub no-trades : (d : Day) (book : List Order) → Standing book → crosses book ≡ false → auctionTrades d book ≡ []
 unfolding auctionTrades auctionPrice
 no-trades d book s c = rw (none-left-over book s c (reference d))
 

@@ -27,10 +27,9 @@ use Rattle.model.specs.declared.OrderAnswer.{OrderAnswer}
 use Rattle.model.specs.Calls.{Outcome, written, orderRules, ended, placed, entered, orderCall}
 use Rattle.model.proofs.Bools.{and-right, true-or-false}
 use Rattle.model.proofs.Rules.{hit, skip, Numbered, NoneHolds, none-holds, given-by, passed-by}
-use Rattle.book.specs.Rows.{bookOf, rowsOf, tradeOf, tradesOf, tradeRows}
+use Rattle.book.specs.Rows.{bookOf, tradeOf, tradesOf, tradeRows}
 use Rattle.book.specs.Standing.{Price, Each}
 use Rattle.book.specs.Writing.{front}
-use Rattle.book.proofs.Memory.{book-rows}
 use Rattle.book.proofs.Written.{front-trades, front-written}
 use Rattle.soundness.specs.SoundDay.{SoundDay}
 use Rattle.soundness.proofs.Clauses.{says-price}
@@ -233,9 +232,9 @@ module _ (d : Day) (a : Asked) (rows lent : List (List ℕ)) where
             omega (arith, few, t .ready .sound .shares, t .ready .sound .issued, t .ready .sound .most)
 
     pub entered-is :
-        (rows₂ : List (List ℕ)) {p : ℕ} {rows₁ : List (List ℕ)} {rem : Remainder} {i day : Day}
+        (rows₁ rows₂ : List (List ℕ)) {p : ℕ} {rem : Remainder} {i day : Day}
         → p ≡ restAt a (best (a .side) book) (best (other (a .side)) book) (s .filled) (s .last)
-        → rows₁ ≡ rowsOf (settle (tradesOf (take (s .trades) trades)) book)
+        → bookOf rows₁ ≡ settle (tradesOf (take (s .trades) trades)) book
         → bookOf rows₂ ≡ placed a (d .issued + 1) (a .quantity - s .filled) p (bookOf rows₁)
         → rem ≡ ended (a .quantity - s .filled) p
         → i ≡ issue d
@@ -251,15 +250,14 @@ module _ (d : Day) (a : Asked) (rows lent : List (List ℕ)) where
         trades
         ≡ entered d a book (tradesOf lent)
     unfolding entered nextNumber
-    entered-is rows₂ {p} {rows₁} {rem} {i} {day} ep er eb em ei ed =
+    entered-is rows₁ rows₂ {p} {rem} {i} {day} ep er eb em ei ed =
         let n = add-one (d .issued) in
         let p' : p ≡ restPrice a ts book =
         ep
         ∙ ap (λ (f : ℕ). restAt a (best (a .side) book) (best (other (a .side)) book) f (s .last)) sold
         ∙ ap (λ (l : ℕ). restAt a (best (a .side) book) (best (other (a .side)) book) (filled ts) l) last
         ∙ sym (rest-price a book ts) in
-        let b' : bookOf rows₁ ≡ settle ts book =
-        ap bookOf er ∙ book-rows _ ∙ ap (λ (l : List Trade). settle l book) back in
+        let b' : bookOf rows₁ ≡ settle ts book = er ∙ ap (λ (l : List Trade). settle l book) back in
         let t' : tradesOf trades ≡ written ts (tradesOf lent) = ap tradesOf w ∙ front-written (length lent) ts lent fits in
         let d' : day ≡ tally ts (issue d) = ed ∙ ap (λ (l : List Trade). tally l i) back ∙ ap (tally ts) ei in
         cc (made, sold, at-prices)

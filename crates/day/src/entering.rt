@@ -3,14 +3,11 @@ use crate::book_checks::book_refusal;
 use crate::checks::asked_refusal;
 use crate::figures::issued_one;
 use crate::figures::tally_trades;
-use book::priority::best_price;
 use book::settling::settle_rows;
 use clock::phase_at;
-use matching::Swept;
 use matching::entering::enter_trades;
+use matching::entering::price_of_rest;
 use matching::entering::rest_order;
-use matching::entering::rest_price;
-use matching::sweeping::other_side;
 use model::Asked;
 use model::Day;
 use model::Entry;
@@ -22,12 +19,9 @@ use soundness::is_sound;
 ghost use mathlib.Core.Path.{_≡_};
 ghost use mathlib.Core.Bool.{false};
 ghost use lib.ListN.{length};
-ghost use Rattle.model.specs.Book.{best, other};
 ghost use Rattle.model.specs.Refusals.{firstOf, unsound};
 ghost use Rattle.model.specs.Calls.{orderRules, ended, placed, entered, orderCall};
 ghost use Rattle.book.specs.Rows.{bookOf, tradesOf};
-ghost use Rattle.book.specs.Standing.{Standing};
-ghost use Rattle.matching.specs.Entering.{restAt};
 ghost use Rattle.day.specs.Promises.{left, orderRefused};
 ghost use Rattle.day.specs.Ready.{Taken};
 
@@ -42,16 +36,6 @@ fn order_refusal(rows: &[[u64; 5]], trades: &mut [[u64; 4]], d: Day, a: Asked) -
     }
     let phase = phase_at(d.time);
     book_refusal(rows, &mut *trades, d, phase, a)
-}
-
-// The price at which what is left rests, 0 where it is withdrawn, from the best prices on entry.
-fn price_of_rest(rows: &[[u64; 5]], a: Asked, s: Swept) -> u64
-    requires { ⌜ Standing (bookOf (now rows)) ⌝ }
-    ensures { λ r. ⌜ r ≡ restAt a (best (a .side) (bookOf (now (rows .entry)))) (best (other (a .side)) (bookOf (now (rows .entry)))) (s .filled) (s .last) ⌝ }
-{
-    let own = best_price(rows, a.side);
-    let opposite = best_price(rows, other_side(a.side));
-    rest_price(a, own, opposite, s)
 }
 
 // How q shares that are left end, where p is the price at which they rest, or 0.

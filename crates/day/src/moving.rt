@@ -15,6 +15,7 @@ use model::ClockReply;
 use model::Day;
 use pairing::pair_at;
 use soundness::is_sound;
+use soundness::places::buys_reach_sells;
 ghost use mathlib.Core.Path.{_≡_};
 ghost use mathlib.Core.Bool.{false};
 ghost use Prim.Native.Nat.{_≤_};
@@ -85,12 +86,16 @@ fn passed(old: u64, new: u64) -> Passed
     p
 }
 
-// The trades of an auction held now: all are counted, and written while there is room.
+// The trades of an auction held now: all are counted, and written while there is room. No price is looked for where no buy
+// reaches a sell.
 fn auction_trades(d: Day, rows: &[[u64; 5]], trades: &mut [[u64; 4]], room: usize) -> usize
     requires { ⌜ Standing (bookOf (now rows)) ⌝ }
     requires { ⌜ room ≤ length (now trades) ⌝ }
     ensures { λ r. ⌜ (r ≡ length (auctionTrades d (bookOf (now (rows .entry))))) × (now (trades .exit) ≡ front room (tradeRows (auctionTrades d (bookOf (now (rows .entry))))) (now (trades .entry))) ⌝ }
 {
+    if !buys_reach_sells(rows) {
+        return 0;
+    }
     let price = auction_price(rows, reference_of(d));
     pair_at(rows, &mut *trades, room, price)
 }

@@ -27,6 +27,7 @@ use Rattle.book.specs.Standing.{Each, Fair, Standing}
 use Rattle.book.specs.Places.{lowestFree}
 use Rattle.book.proofs.Lists.{keep-none}
 use Rattle.book.proofs.Queues.{number-live}
+use Rattle.book.proofs.Settlements.{less-nothing}
 use Rattle.book.proofs.Finding.{rest-set}
 use Rattle.demands.specs.Owning.{Stays}
 use Rattle.demands.proofs.Cases.{order-cases, clock-cases}
@@ -40,10 +41,6 @@ use Rattle.demands.proofs.Owns.{first-passes}
 filled-none : (n : ℕ) (ts : List Trade) → Each (λ (t : Trade). isIn n t ≡ false) ts → filledOf n ts ≡ 0
 unfolding filledOf filled total
 filled-none n ts h = rw (keep-none (isIn n) ts h)
-
-less-none : (o : Order) → 1 ≤ o .left → lessBy 0 o ≡ o
-unfolding lessBy
-less-none o l = let z : o .left - 0 ≡ o .left = omega arith in rw (lt-ltb 0 (o .left) l, z)
 
 settle-at :
     (ts : List Trade) (book : List Order) (i : ℕ)
@@ -60,7 +57,7 @@ module _ (book : List Order) (s : Standing book) where
       let o = getD book i free in
       settle-at ts book i l
       ∙ ap (λ (q : ℕ). lessBy q o) (filled-none (o .number) ts h)
-      ∙ less-none o (each-at Fair book free (s .fair) i l .some n)
+      ∙ less-nothing o (each-at Fair book free (s .fair) i l)
 
   -- a new rest goes to a free place, so not to this one
   rest-stays : (ts : List Trade) (x : Order) → Stays ts book (rest x (settle ts book))

@@ -27,6 +27,39 @@ use Rattle.matching.proofs.Cuts.{five-best, unbounded}
 
 -- ---- the prices
 
+-- a kind's price depends on the best price that the kind takes, and on no other
+module _ (a : Asked) where
+  pub entry-opposite : a .kind ≡ 1 → (own own′ opposite : ℕ) → entryAt a own opposite ≡ entryAt a own′ opposite
+  unfolding entryAt
+  entry-opposite e own own′ opposite = rw (eq-eqb (a .kind) 1 e)
+
+  pub entry-own : a .kind ≡ 2 → (own opposite opposite′ : ℕ) → entryAt a own opposite ≡ entryAt a own opposite′
+  unfolding entryAt
+  entry-own e own opposite opposite′ = rw e
+
+  pub entry-asked : (a .kind ≡ 1 → ⊥) → (a .kind ≡ 2 → ⊥) → (own own′ opposite opposite′ : ℕ) → entryAt a own opposite ≡ entryAt a own′ opposite′
+  unfolding entryAt
+  entry-asked m n own own′ opposite opposite′ = rw (ne-eqb (a .kind) 1 m, ne-eqb (a .kind) 2 n)
+
+  module _ (filled last : ℕ) where
+    pub rest-opposite : a .kind ≡ 1 → (own own′ opposite : ℕ) → restAt a own opposite filled last ≡ restAt a own′ opposite filled last
+    unfolding restAt entryAt
+    rest-opposite e own own′ opposite = rw e
+
+    pub rest-own :
+        (a .kind ≡ 1 → ⊥) → (own opposite opposite′ : ℕ) → restAt a own opposite filled last ≡ restAt a own opposite′ filled last
+    unfolding restAt entryAt
+    rest-own n own opposite opposite′ = rw (ne-eqb (a .kind) 1 n)
+
+    pub rest-asked :
+        (a .kind ≡ 1 → ⊥)
+        → (a .kind ≡ 2 → ⊥)
+        → (a .kind ≡ 4 → ⊥)
+        → (own own′ opposite opposite′ : ℕ)
+        → restAt a own opposite filled last ≡ restAt a own′ opposite′ filled last
+    unfolding restAt entryAt
+    rest-asked m n o own own′ opposite opposite′ = rw (ne-eqb (a .kind) 1 m, ne-eqb (a .kind) 2 n, ne-eqb (a .kind) 4 o)
+
 module _ (a : Asked) (book : List Order) where
   pub entry-price : entryPrice a book ≡ entryAt a (best (a .side) book) (best (other (a .side)) book)
   unfolding entryPrice bestWithin entryAt bestFor
@@ -92,16 +125,9 @@ module _ (d : Day) (a : Asked) (book : List Order) (phase : ℕ) (now : phase �
   pub outside : (room : ℕ) (s : Swept) (l : List (List ℕ)) → (phase ≡ 4 → ⊥) → s ≡ comesTo [] → Entered room s l l
   outside room s l n = none-entered room s l (other-phase n)
 
-  module _
-      (own others price side : ℕ)
-      (o : own ≡ best (a .side) book) (w : others ≡ best side book)
-      (v : side ≡ other (a .side)) (p : price ≡ entryAt a own others) where
+  module _ (price : ℕ) (p : price ≡ entryAt a (best (a .side) book) (best (other (a .side)) book)) where
     priced : price ≡ entryPrice a book
-    priced =
-        p
-        ∙ ap (λ (x : ℕ). entryAt a x others) o
-        ∙ ap (entryAt a (best (a .side) book)) (w ∙ ap (λ (x : ℕ). best x book) v)
-        ∙ sym (entry-price a book)
+    priced = p ∙ sym (entry-price a book)
 
     pub unpriced : (room : ℕ) (s : Swept) (l : List (List ℕ)) → price ≡ 0 → s ≡ comesTo [] → Entered room s l l
     unpriced room s l z = none-entered room s l (no-price (sym priced ∙ z))

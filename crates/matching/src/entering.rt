@@ -4,6 +4,7 @@ ghost use Prim.Native.Nat.{_≤_};
 ghost use mathlib.Core.List.{[]};
 ghost use lib.ListN.{length, set};
 ghost use Rattle.model.specs.Clock.{phaseAt};
+ghost use Rattle.model.specs.Book.{best, other};
 ghost use Rattle.model.specs.Matching as matching;
 ghost use Rattle.model.specs.Entry.{entryTrades};
 ghost use Rattle.book.specs.Rows.{bookOf, rowOf, tradeRows};
@@ -45,7 +46,7 @@ pub fn best_for(a: Asked, best: u64) -> u64
 }
 
 // The price at which an order enters, 0 where it has none: from the best prices of its own side and of the other side.
-pub fn entry_price(a: Asked, own: u64, opposite: u64) -> u64
+fn entry_price(a: Asked, own: u64, opposite: u64) -> u64
     ensures { λ r. ⌜ r ≡ entryAt a own opposite ⌝ }
 {
     if a.kind == 1 {
@@ -58,7 +59,7 @@ pub fn entry_price(a: Asked, own: u64, opposite: u64) -> u64
 }
 
 // The price at which what is left of it rests, 0 where it is withdrawn. The best prices are those on entry.
-pub fn rest_price(a: Asked, own: u64, opposite: u64, s: Swept) -> u64
+fn rest_price(a: Asked, own: u64, opposite: u64, s: Swept) -> u64
     ensures { λ r. ⌜ r ≡ restAt a own opposite (s .filled) (s .last) ⌝ }
 {
     if a.kind == 3 {
@@ -91,6 +92,42 @@ fn nothing_yet() -> Swept
     }
 }
 
+// That price in the book: no best price is looked for that the kind does not take.
+fn price_on_entry(rows: &[[u64; 5]], a: Asked) -> u64
+    requires { ⌜ Standing (bookOf (now rows)) ⌝ }
+    ensures { λ r. ⌜ r ≡ entryAt a (best (a .side) (bookOf (now (rows .entry)))) (best (other (a .side)) (bookOf (now (rows .entry)))) ⌝ }
+{
+    if a.kind == 1 {
+        let opposite = best_price(rows, other_side(a.side));
+        return entry_price(a, 0, opposite);
+    }
+    if a.kind == 2 {
+        let own = best_price(rows, a.side);
+        return entry_price(a, own, 0);
+    }
+    entry_price(a, 0, 0)
+}
+
+// And the price of the rest, from the book on entry.
+pub fn price_of_rest(rows: &[[u64; 5]], a: Asked, s: Swept) -> u64
+    requires { ⌜ Standing (bookOf (now rows)) ⌝ }
+    ensures { λ r. ⌜ r ≡ restAt a (best (a .side) (bookOf (now (rows .entry)))) (best (other (a .side)) (bookOf (now (rows .entry)))) (s .filled) (s .last) ⌝ }
+{
+    if a.kind == 1 {
+        let opposite = best_price(rows, other_side(a.side));
+        return rest_price(a, 0, opposite, s);
+    }
+    if a.kind == 2 {
+        let own = best_price(rows, a.side);
+        return rest_price(a, own, 0, s);
+    }
+    if a.kind == 4 {
+        let own = best_price(rows, a.side);
+        return rest_price(a, own, 0, s);
+    }
+    rest_price(a, 0, 0, s)
+}
+
 // The trades of an order on entry: none outside continuous trading, none without a price. All are counted, and written
 // while there is room.
 pub fn enter_trades(
@@ -111,9 +148,7 @@ pub fn enter_trades(
     if phase != 4 {
         return nothing_yet();
     }
-    let own = best_price(rows, a.side);
-    let opposite = best_price(rows, other_side(a.side));
-    let price = entry_price(a, own, opposite);
+    let price = price_on_entry(rows, a);
     if price == 0 {
         return nothing_yet();
     }

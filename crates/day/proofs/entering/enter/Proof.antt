@@ -25,8 +25,10 @@ price-of-rest-requires c κs = c .before .before .before .before .before .before
 settle-rows-requires : tie.Need-settle-rows-requires
 settle-rows-requires c κs =
     let s = c .before .before .before .before .before .before .before .before .before .before .before in
-    let e = c .before .before .before .before .before .before .before .enter-trades in
-    count-fits (s .args .d) (s .args .a) (s .args .rows .now) (s .args .trades .now) (s .pre .fits) (e .ensures .0) (e .ensures .1) (s .pre) (e .kept .1 .0)
+    let e = c .before .before .before .before .before .before .before .enter-trades in (
+      count-fits (s .args .d) (s .args .a) (s .args .rows .now) (s .args .trades .now) (s .pre .fits) (e .ensures .0) (e .ensures .1) (s .pre) (e .kept .1 .0),
+      s .pre .ready .stands .fair,
+    )
 
 add-place-rest : tie.Need-add-place-rest
 add-place-rest c =
@@ -65,7 +67,8 @@ returns : tie.Need-returns
 returns c =
     let s = c .before .before .before .before .before .before .before .before .before .before .before .before .before .before .before .before .before .before .before .before .before .before in
     let e = c .before .before .before .before .before .before .before .before .before .before .before .before .before .before .before .before .before .before .enter-trades in
-    entered-is (s .args .d) (s .args .a) (s .args .rows .now) (s .args .trades .now) (s .pre .fits) (e .ensures .0) (e .ensures .1) (c .before .before .before .before .before .before .place-rest .last .0)
+    entered-is (s .args .d) (s .args .a) (s .args .rows .now) (s .args .trades .now) (s .pre .fits) (e .ensures .0) (e .ensures .1) (c .before .before .before .before .before .before .before .before .before .before .settle-rows .last .0)
+    (c .before .before .before .before .before .before .place-rest .last .0)
     (c .before .before .before .before .before .before .before .before .before .before .before .before .before .price-of-rest .ensures)
     (c .before .before .before .before .before .before .before .before .before .before .settle-rows .ensures)
     (c .before .before .before .before .before .before .place-rest .ensures)

@@ -5,10 +5,19 @@ use lib.ListN.{length}
 use Rattle.model.specs.declared.Trade.{Trade}
 use Rattle.book.specs.Rows.{bookOf, tradeRows}
 use Rattle.book.specs.Writing.{front}
-use Rattle.day.proofs.AuctionHeld.{trades-found}
+use Rattle.day.proofs.AuctionHeld.{trades-found, none-made}
 use borrow.Author.Needs.{needs}
+use borrow.Author.Tests.{not-true}
 use Rattle.day.proofs.moving.auction_trades.Statement.{statement}
 use Rattle.day.proofs.moving.auction_trades.Tie as tie
+
+buys-reach-sells-requires : tie.Need-buys-reach-sells-requires
+buys-reach-sells-requires c κs = c .pre .0 .fair
+
+returns : tie.Need-returns
+returns c =
+    let s = c .before .before in
+    none-made (s .args .d) (bookOf (s .args .rows .now)) (s .pre .0) (c .before .buys-reach-sells .ensures) (not-true _ (c .if1 .taken)) (s .args .room) (s .args .trades .now)
 
 reference-of-requires : tie.Need-reference-of-requires
 reference-of-requires c κs = search needs
@@ -22,9 +31,9 @@ pair-at-requires c κs = search needs
 same-length : tie.Need-same-length
 same-length c = search needs
 
-returns : tie.Need-returns
-returns c =
-    let s = c .before .before .before .before .before in
+returns-2 : tie.Need-returns-2
+returns-2 c =
+    let s = c .before .before .before .before .before .before .before in
     let e = c .before .pair-at .ensures in
     let t =
     trades-found (s .args .d) (bookOf (s .args .rows .now)) (s .pre .0) (c .before .before .before .before .reference-of .ensures)
@@ -34,4 +43,11 @@ returns c =
 pub auction-trades-spec : {M : Type 1} → statement M
 auction-trades-spec =
     tie.close
-    (tie.spec reference-of-requires auction-price-requires pair-at-requires same-length returns)
+    (tie.spec
+    buys-reach-sells-requires
+    returns
+    reference-of-requires
+    auction-price-requires
+    pair-at-requires
+    same-length
+    returns-2)

@@ -9,7 +9,7 @@ auction-trades-requires : tie.Need-auction-trades-requires
 auction-trades-requires c κs = search needs
 
 settle-rows-requires : tie.Need-settle-rows-requires
-settle-rows-requires c κs = search needs
+settle-rows-requires c κs = (search needs, c .before .before .before .before .before .before .pre .0 .stands .fair)
 
 tally-trades-requires : tie.Need-tally-trades-requires
 tally-trades-requires c κs =
@@ -32,6 +32,7 @@ returns c =
     let s = e .before .before .before in
     auction-held (s .args .d) (s .args .rows .now) (s .args .trades .now) (s .pre .1) (e .auction-trades .ensures .0)
     (e .auction-trades .ensures .1)
+    (c .before .before .before .settle-rows .last .0)
     (c .before .before .before .settle-rows .ensures)
     (c .tally-trades .ensures)
 

@@ -13,17 +13,8 @@ returns c =
     let b = c .before .before in
     outside (b .args .d) (b .args .a) _ _ (b .pre .1 .1 .0) _ _ _ (c .before .if1 .taken) (c .nothing-yet .ensures)
 
-best-price-requires : tie.Need-best-price-requires
-best-price-requires c κs = search needs
-
-other-side-requires : tie.Need-other-side-requires
-other-side-requires c κs = search needs
-
-best-price-requires-2 : tie.Need-best-price-requires-2
-best-price-requires-2 c κs = search needs
-
-entry-price-requires : tie.Need-entry-price-requires
-entry-price-requires c κs = search needs
+price-on-entry-requires : tie.Need-price-on-entry-requires
+price-on-entry-requires c κs = search needs
 
 nothing-yet-requires-2 : tie.Need-nothing-yet-requires-2
 nothing-yet-requires-2 c κs = search needs
@@ -31,11 +22,9 @@ nothing-yet-requires-2 c κs = search needs
 returns-2 : tie.Need-returns-2
 returns-2 c =
     let e = c .before .before in
-    let o = e .before .before .before in
-    let b = o .before .before in
-    unpriced (b .args .d) (b .args .a) _ _ (b .pre .1 .1 .0) _ _ _ _ (o .best-price .ensures)
-    (e .before .best-price2 .ensures) (e .before .before .other-side .ensures) (e .entry-price .ensures) _ _ _
-    (c .before .if2 .taken) (c .nothing-yet2 .ensures)
+    let b = e .before .before in
+    unpriced (b .args .d) (b .args .a) _ _ (b .pre .1 .1 .0) _ (e .price-on-entry .ensures) _ _ _ (c .before .if2 .taken)
+    (c .nothing-yet2 .ensures)
 
 add-sweep : tie.Need-add-sweep
 add-sweep c = search needs
@@ -54,12 +43,9 @@ returns-3 c =
     let m = c .before .before in
     let f = m .before .before .before in
     let e = f .before in
-    let o = e .before .before .before in
-    let b = o .before .before in
-    entered (b .args .d) (b .args .a) _ _ (b .pre .1 .1 .0) _ _ _ _ (o .best-price .ensures)
-    (e .before .best-price2 .ensures) (e .before .before .other-side .ensures) (e .entry-price .ensures) _ _ _
-    (b .args .trades .now) _ _ (b .pre .0) (o .before .if1 .left) (f .if2 .left) refl (m .most-prices .ensures)
-    (c .before .sweep .ensures)
+    let b = e .before .before in
+    entered (b .args .d) (b .args .a) _ _ (b .pre .1 .1 .0) _ (e .price-on-entry .ensures) _ _ _ (b .args .trades .now) _ _
+    (b .pre .0) (e .before .if1 .left) (f .if2 .left) refl (m .most-prices .ensures) (c .before .sweep .ensures)
 
 pub enter-trades-spec : {M : Type 1} → statement M
 enter-trades-spec =
@@ -67,10 +53,7 @@ enter-trades-spec =
     (tie.spec
     nothing-yet-requires
     returns
-    best-price-requires
-    other-side-requires
-    best-price-requires-2
-    entry-price-requires
+    price-on-entry-requires
     nothing-yet-requires-2
     returns-2
     add-sweep
