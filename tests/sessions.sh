@@ -106,6 +106,7 @@ if python3 -c 'import sys; sys.exit(sys.version_info < (3, 9))' 2> /dev/null; th
     export PYTHONDONTWRITEBYTECODE=1
     script tests/pairs.py
     script tests/generated.py
+    script tests/generated.py --last-number
     script tests/random_bytes.py
 else
     failed=$((failed + 1))

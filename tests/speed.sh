@@ -74,8 +74,14 @@ say 'a line that is 16' "$(one 'x\n')"
 say 'an order that is 8, before the book is looked at' "$band"
 say 'a move of the clock that passes nothing' "$(one 'T 34200\n')"
 say 'a cancel that is 12' "$(one 'C 9 1\n')"
-say 'a market order of kind 3 that meets nobody' "$(one 'O 0 3 9 100 2000\n')"
+for kind in 0 1 2 3 4; do
+    say "an order of kind $kind that trades nothing" "$(one "O 0 $kind 9 100 2000\n")"
+done
 say 'two orders, one that waits and one that trades with it' "$(one 'O 1 0 9 100 2000\nO 0 0 9 100 2000\n')"
+waiting=$(standing | sed 's/34200/33300/')
+quiet=$(echo "$waiting" | instructions)
+opened=$({ echo "$waiting"; echo 'T 33900'; } | instructions)
+say 'a move past the opening auction that trades nothing' $((opened - quiet))
 few=$(head -n 2000 "$folder/day.txt" | instructions)
 more=$(head -n 5000 "$folder/day.txt" | instructions)
 say "a line of the busy day, lines 2,001 to 5,000 on average" $(((more - few) / 3000))
