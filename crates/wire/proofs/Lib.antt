@@ -13,3 +13,4 @@ pub mod Openings
 pub mod Reports
 pub mod PriceList
 pub mod Traded
+pub mod Determined

@@ -1,0 +1,102 @@
+-- No two differing outcomes meet a call's promise: the number that it returns, and every byte of the slices that it may write.
+-- Assumes nothing.
+use Prim.Native.Nat.{ℕ}
+use mathlib.Core.Path.{_≡_, sym, ap, _∙_}
+use mathlib.Core.List.{List}
+use Rattle.model.specs.declared.Asked.{Asked}
+use Rattle.wire.specs.Exports.{
+  OpenLeft,
+  openLeft,
+  openOn,
+  openLeaves,
+  TradeLeft,
+  tradeLeft,
+  orderLeaves,
+  clockLeaves,
+  CancelLeft,
+  cancelLeft,
+  cancelOn,
+  cancelLeaves,
+  ReportLeft,
+  reportLeft,
+  reportOn,
+  reportLeaves,
+  ListLeft,
+  listLeft,
+  listOn,
+  listLeaves,
+}
+
+-- `flemorix_open`
+pub open-determined :
+    (close mark : ℕ) (day book reply : List ℕ) (r s : ℕ) (day₁ book₁ reply₁ day₂ book₂ reply₂ : List ℕ)
+    → openLeft r day₁ book₁ reply₁ ≡ openLeaves (openOn close mark day book) day book reply
+    → openLeft s day₂ book₂ reply₂ ≡ openLeaves (openOn close mark day book) day book reply
+    → (r ≡ s) × (day₁ ≡ day₂) × (book₁ ≡ book₂) × (reply₁ ≡ reply₂)
+open-determined close mark day book reply r s day₁ book₁ reply₁ day₂ book₂ reply₂ e f =
+    let g = e ∙ sym f in (
+      ap (λ (o : OpenLeft). o .returns) g,
+      ap (λ (o : OpenLeft). o .day) g,
+      ap (λ (o : OpenLeft). o .book) g,
+      ap (λ (o : OpenLeft). o .reply) g,
+    )
+
+-- an order and a move of the clock leave the same kind of outcome
+trading-determined :
+    (o : TradeLeft) (r s : ℕ) (day₁ book₁ trades₁ reply₁ day₂ book₂ trades₂ reply₂ : List ℕ)
+    → tradeLeft r day₁ book₁ trades₁ reply₁ ≡ o
+    → tradeLeft s day₂ book₂ trades₂ reply₂ ≡ o
+    → (r ≡ s) × (day₁ ≡ day₂) × (book₁ ≡ book₂) × (trades₁ ≡ trades₂) × (reply₁ ≡ reply₂)
+trading-determined o r s day₁ book₁ trades₁ reply₁ day₂ book₂ trades₂ reply₂ e f =
+    let g = e ∙ sym f in (
+      ap (λ (x : TradeLeft). x .returns) g,
+      ap (λ (x : TradeLeft). x .day) g,
+      ap (λ (x : TradeLeft). x .book) g,
+      ap (λ (x : TradeLeft). x .trades) g,
+      ap (λ (x : TradeLeft). x .reply) g,
+    )
+
+-- `flemorix_order`
+pub order-determined :
+    (a : Asked) (day book trades reply : List ℕ) (r s : ℕ) (day₁ book₁ trades₁ reply₁ day₂ book₂ trades₂ reply₂ : List ℕ)
+    → tradeLeft r day₁ book₁ trades₁ reply₁ ≡ orderLeaves a day book trades reply
+    → tradeLeft s day₂ book₂ trades₂ reply₂ ≡ orderLeaves a day book trades reply
+    → (r ≡ s) × (day₁ ≡ day₂) × (book₁ ≡ book₂) × (trades₁ ≡ trades₂) × (reply₁ ≡ reply₂)
+order-determined a day book trades reply = trading-determined (orderLeaves a day book trades reply)
+
+-- `flemorix_clock`
+pub clock-determined :
+    (time : ℕ) (day book trades reply : List ℕ) (r s : ℕ) (day₁ book₁ trades₁ reply₁ day₂ book₂ trades₂ reply₂ : List ℕ)
+    → tradeLeft r day₁ book₁ trades₁ reply₁ ≡ clockLeaves time day book trades reply
+    → tradeLeft s day₂ book₂ trades₂ reply₂ ≡ clockLeaves time day book trades reply
+    → (r ≡ s) × (day₁ ≡ day₂) × (book₁ ≡ book₂) × (trades₁ ≡ trades₂) × (reply₁ ≡ reply₂)
+clock-determined time day book trades reply = trading-determined (clockLeaves time day book trades reply)
+
+-- `flemorix_cancel`
+pub cancel-determined :
+    (account number : ℕ) (day book reply : List ℕ) (r s : ℕ) (book₁ reply₁ book₂ reply₂ : List ℕ)
+    → cancelLeft r book₁ reply₁ ≡ cancelLeaves (cancelOn day account number book) book reply
+    → cancelLeft s book₂ reply₂ ≡ cancelLeaves (cancelOn day account number book) book reply
+    → (r ≡ s) × (book₁ ≡ book₂) × (reply₁ ≡ reply₂)
+cancel-determined account number day book reply r s book₁ reply₁ book₂ reply₂ e f =
+    let g = e ∙ sym f in
+    (ap (λ (o : CancelLeft). o .returns) g, ap (λ (o : CancelLeft). o .book) g, ap (λ (o : CancelLeft). o .reply) g)
+
+-- `flemorix_report`
+pub report-determined :
+    (day book reply : List ℕ) (r s : ℕ) (reply₁ reply₂ : List ℕ)
+    → reportLeft r reply₁ ≡ reportLeaves (reportOn day book) reply
+    → reportLeft s reply₂ ≡ reportLeaves (reportOn day book) reply
+    → (r ≡ s) × (reply₁ ≡ reply₂)
+report-determined day book reply r s reply₁ reply₂ e f =
+    let g = e ∙ sym f in (ap (λ (o : ReportLeft). o .returns) g, ap (λ (o : ReportLeft). o .reply) g)
+
+-- `flemorix_list`
+pub list-determined :
+    (asked : ℕ) (day book prices reply : List ℕ) (r s : ℕ) (prices₁ reply₁ prices₂ reply₂ : List ℕ)
+    → listLeft r prices₁ reply₁ ≡ listLeaves (listOn day asked book prices) prices reply
+    → listLeft s prices₂ reply₂ ≡ listLeaves (listOn day asked book prices) prices reply
+    → (r ≡ s) × (prices₁ ≡ prices₂) × (reply₁ ≡ reply₂)
+list-determined asked day book prices reply r s prices₁ reply₁ prices₂ reply₂ e f =
+    let g = e ∙ sym f in
+    (ap (λ (o : ListLeft). o .returns) g, ap (λ (o : ListLeft). o .prices) g, ap (λ (o : ListLeft). o .reply) g)
