@@ -15,12 +15,13 @@ use Rattle.model.specs.Lists.{keep, all, any, total}
 use Rattle.model.specs.Book.{free, isLive}
 use Rattle.model.specs.Matching.{rest}
 use Rattle.model.specs.Calls.{isOwn}
+use Rattle.model.proofs.Bools.{and-left, and-right}
 use Rattle.book.specs.Rows.{orderOf, rowOf, bookOf, rowsOf}
 use Rattle.book.specs.Standing.{Each, Apart}
 use Rattle.book.specs.Places.{firstWith, lowestFree, placeOf}
 use Rattle.book.proofs.Lists.{each, keep-true, keep-false, keep-none}
 use Rattle.book.proofs.Memory.{book-at, book-set, rows-set}
-use Rattle.book.proofs.Queues.{live-number, and-both, ltb-same}
+use Rattle.book.proofs.Queues.{live-number, ltb-same}
 
 -- ---- a walk from the first place on
 
@@ -162,13 +163,10 @@ module _ (account number : ℕ) where
   own-number : (o : Order) → own o ≡ true → (o .number ≡ number) × (o .number ≡ 0 → ⊥)
   unfolding isOwn
   own-number o e =
-      let f : (isLive o && eqb (o .number) number ≡ true) × (eqb (o .account) account ≡ true) =
-      and-both (isLive o && eqb (o .number) number) (eqb (o .account) account) e
-      in
-      let g : (isLive o ≡ true) × (eqb (o .number) number ≡ true) =
-      and-both (isLive o) (eqb (o .number) number) (f .0)
-      in
-      (eqb-true (o .number) number (g .1), live-number o (g .0))
+      let f = and-left (isLive o && eqb (o .number) number) (eqb (o .account) account) e in (
+        eqb-true (o .number) number (and-right (isLive o) (eqb (o .number) number) f),
+        live-number o (and-left (isLive o) (eqb (o .number) number) f),
+      )
 
   -- where one order is the account's, no other one with another number is
   others :

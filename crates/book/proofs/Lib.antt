@@ -12,4 +12,3 @@ pub mod Kept
 pub mod Best
 pub mod Crossing
 pub mod Shares
-pub mod FromSound

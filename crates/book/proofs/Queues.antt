@@ -11,6 +11,7 @@ use borrow.Author.Tests.{eq-eqb, ne-eqb, eqb-true, eqb-false, le-ltb, lt-ltb, lt
 use Rattle.model.specs.declared.Order.{Order}
 use Rattle.model.specs.Lists.{keep, total}
 use Rattle.model.specs.Book.{isLive, standsOn, better, ahead, insert, inPriority, queue}
+use Rattle.model.proofs.Bools.{and-left, and-right}
 use Rattle.book.specs.Standing.{Each, Fair, Apart, Standing}
 use Rattle.book.specs.Priority.{rank, key, isPast, beyond}
 use Rattle.book.proofs.Lists.{both, each, each-keep, kept, length-keep}
@@ -31,10 +32,6 @@ use Rattle.book.proofs.Sorting.{
 
 -- ---- what standing on a side says
 
-pub and-both : (a b : Bool) → a && b ≡ true → (a ≡ true) × (b ≡ true)
-and-both true b e = (refl, e)
-and-both false b e = let z : _≡_ {A = ℕ} 0 1 = cc in absurd (omega arith)
-
 pub live-number : (o : Order) → isLive o ≡ true → o .number ≡ 0 → ⊥
 unfolding isLive
 live-number o e z =
@@ -48,11 +45,11 @@ number-live o n = rw (ne-eqb (o .number) 0 n)
 
 pub on-live : (side : ℕ) (o : Order) → standsOn side o ≡ true → o .number ≡ 0 → ⊥
 unfolding standsOn
-on-live side o e = live-number o (and-both (isLive o) (eqb (o .side) side) e .0)
+on-live side o e = live-number o (and-left (isLive o) (eqb (o .side) side) e)
 
 pub on-side : (side : ℕ) (o : Order) → standsOn side o ≡ true → o .side ≡ side
 unfolding standsOn
-on-side side o e = eqb-true (o .side) side (and-both (isLive o) (eqb (o .side) side) e .1)
+on-side side o e = eqb-true (o .side) side (and-right (isLive o) (eqb (o .side) side) e)
 
 pub same-stand :
     (side : ℕ) (o p : Order)

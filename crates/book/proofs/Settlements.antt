@@ -17,7 +17,15 @@ use Rattle.model.specs.Matching.{isIn, filled, filledOf, lessBy, settle}
 use Rattle.book.specs.Standing.{Each, Fair}
 use Rattle.book.specs.Rows.{tradeOf, tradesOf, rowsOf, bookOf}
 
--- ---- what trades fill of an order number
+-- ---- what trades fill, in all and of an order number
+
+pub filled-nil : filled [] ≡ 0
+unfolding filled total
+filled-nil = refl
+
+pub filled-more : (r : Trade) (ts : List Trade) → filled (r ∷ ts) ≡ r .quantity + filled ts
+unfolding filled total
+filled-more r ts = refl
 
 pub filled-none : (n : ℕ) → filledOf n [] ≡ 0
 unfolding filledOf filled keep total

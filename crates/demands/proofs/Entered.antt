@@ -29,10 +29,9 @@ use Rattle.book.specs.Places.{lowestFree}
 use Rattle.book.proofs.Lists.{each}
 use Rattle.book.proofs.Kept.{New, free-number, set-each}
 use Rattle.book.proofs.Finding.{full, rest-set}
-use Rattle.book.proofs.FromSound.{sound-new}
 use Rattle.soundness.specs.SoundDay.{InBand, Rests, Place, SoundDay}
 use Rattle.soundness.proofs.Clauses.{says-price, says-band}
-use Rattle.soundness.proofs.SoundDays.{sound-day, day-sound}
+use Rattle.soundness.proofs.SoundDays.{sound-day, day-sound, next-new}
 use Rattle.matching.proofs.EntryLaws.{entry-filled, remainder}
 use Rattle.matching.proofs.EntryKept.{entered-standing, entered-shares}
 use Rattle.matching.proofs.AfterEntry.{entered-uncrossed}
@@ -130,7 +129,7 @@ module _ (d : Day) (a : Asked) (book : List Order) (s : Sound d book) (k : Allow
   stands = sound-stands d book s
 
   new : New (nextNumber d) book
-  new = sound-new d book (not-unsound d book s)
+  new = next-new d book day
 
   issued-fits : suc (d .issued) ≤ 999_999
   issued-fits = omega (arith, k .number, day .issued)

@@ -19,12 +19,12 @@ use Rattle.model.specs.Sound.{hasPlaces, sound, crosses}
 use Rattle.model.specs.Refusals.{_when_, firstOf, unsound}
 use Rattle.model.specs.ClockCall.{auctionPrice, auctionTrades, undecided}
 use Rattle.model.specs.AuctionCalls.{due, reportRules, reportCall, listRules, listCall}
-use Rattle.model.proofs.Bools.{and-left, and-right, not-both, true-or-false}
+use Rattle.model.proofs.Bools.{and-left, and-right, not-both, true-or-false, and-both}
 use Rattle.model.proofs.Rules.{hit, skip}
 use Rattle.book.specs.Standing.{Standing}
 use Rattle.book.proofs.Crossing.{uncrossed, not-crossed}
 use Rattle.book.proofs.Kept.{standing-settle}
-use Rattle.book.proofs.FromSound.{sound-standing}
+use Rattle.soundness.proofs.SoundDays.{stands}
 use Rattle.auction.specs.Rule.{Rising}
 use Rattle.auction.specs.Spans.{ends}
 use Rattle.auction.proofs.Runs.{run-length, run-at}
@@ -50,7 +50,7 @@ sound-if d book u =
     (and-left (hasPlaces book) (sound d book) h, and-right (hasPlaces book) (sound d book) h)
 
 pub sound-stands : (d : Day) (book : List Order) → Sound d book → Standing book
-sound-stands d book s = sound-standing d book (not-unsound d book s)
+sound-stands d book s = stands d book (and-both (s .0) (s .1))
 
 -- ---- the list
 
@@ -154,7 +154,7 @@ report-number d book = go (unsound d book) refl
         ⊎ (firstOf (15 when (unsound d book) ∷ 18 when (undecided d book) ∷ []) ≡ 0)
     go true u = inl (hit 15 (18 when (undecided d book) ∷ []) u)
     go false u =
-        inr (skip 15 (18 when (undecided d book) ∷ []) u ∙ skip 18 [] (never-undecided book (sound-standing d book u) d) ∙ nothing)
+        inr (skip 15 (18 when (undecided d book) ∷ []) u ∙ skip 18 [] (never-undecided book (sound-stands d book (sound-if d book u)) d) ∙ nothing)
 
 pub report-decided : (d : Day) (book : List Order) → reportCall d book ≡ ReportReply.the-variants.Refused 18 → ⊥
 report-decided d book e =

@@ -35,10 +35,11 @@ use Rattle.book.proofs.Crossing.{
   unmet-settle,
   settle-others,
 }
+use Rattle.book.proofs.Settlements.{filled-nil}
 use Rattle.matching.proofs.Cuts.{cutLevels, cut-best, Worsens, pricesOf, queue-worsens}
 use Rattle.matching.proofs.Tallies.{worsens-levels}
-use Rattle.matching.proofs.Trades.{Deal, each-trade, filled-nil}
-use Rattle.matching.proofs.Remainders.{Gone, left-over, Front, cut-front}
+use Rattle.matching.proofs.Trades.{Deal, each-trade}
+use Rattle.matching.proofs.Leftovers.{Gone, left-over, Front, cut-front}
 use Rattle.matching.proofs.Entries.{as-sweep, no-price}
 use Rattle.matching.proofs.EntryLaws.{meets-through, last-has, entry-allowed, only-five, taker, remainder}
 

@@ -24,12 +24,12 @@ use Rattle.book.proofs.Lists.{each, every, each-keep, length-keep, total-zero}
 use Rattle.book.proofs.Queues.{queue-length}
 use Rattle.book.proofs.Best.{on-each}
 use Rattle.book.proofs.Kept.{New}
-use Rattle.book.proofs.Settlements.{filled-none}
+use Rattle.book.proofs.Settlements.{filled-nil, filled-none}
 use Rattle.book.proofs.Shares.{settle-total}
 use Rattle.matching.specs.Sweeping.{atBest}
 use Rattle.matching.specs.Entering.{mostPrices}
 use Rattle.matching.proofs.Cuts.{five-best}
-use Rattle.matching.proofs.Trades.{Some, some-each, Deal, each-trade, filled-nil, filled-within, count-within, levels-within}
+use Rattle.matching.proofs.Trades.{Some, some-each, Deal, each-trade, filled-within, count-within, levels-within}
 use Rattle.matching.proofs.Fills.{fills-within, shares-kept}
 use Rattle.matching.proofs.Entries.{opposite-best}
 

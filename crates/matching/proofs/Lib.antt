@@ -9,7 +9,7 @@ pub mod Entries
 pub mod Situations
 pub mod Trades
 pub mod Fills
-pub mod Remainders
+pub mod Leftovers
 pub mod EntryLaws
 pub mod AfterEntry
 pub mod EntryKept

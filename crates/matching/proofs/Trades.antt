@@ -67,14 +67,6 @@ all-paid :
 all-paid ps [] e = tt
 all-paid ps (r ∷ ts) e = (e .0, all-paid ps ts (e .1))
 
-pub filled-nil : filled [] ≡ 0
-unfolding filled total
-filled-nil = refl
-
-pub filled-more : (r : Trade) (ts : List Trade) → filled (r ∷ ts) ≡ r .quantity + filled ts
-unfolding filled total
-filled-more r ts = refl
-
 module _ (t : Taker) where
   -- a fact of each trade, from each order that it may be with
   pub each-trade :

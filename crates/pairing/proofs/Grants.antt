@@ -17,7 +17,7 @@ use Rattle.model.specs.Matching.{filled, isIn, filledOf}
 use Rattle.model.specs.Pairing.{Share, cut, headLess, pair}
 use Rattle.book.specs.Standing.{Each}
 use Rattle.book.proofs.Lists.{total-keep}
-use Rattle.book.proofs.Settlements.{part, filled-none, filled-cons}
+use Rattle.book.proofs.Settlements.{filled-nil, filled-more, part, filled-none, filled-cons}
 use Rattle.pairing.specs.Granted.{held, granted, bought, sold}
 use Rattle.pairing.proofs.Turns.{head-stays, head-goes, one-goes, dealt, pair-turn, pair-no-buy, pair-no-sell, pairs, cut-some, cut-nothing, cut-nobody}
 use Rattle.pairing.proofs.Waiting.{shares}
@@ -30,14 +30,6 @@ held-next s ss = refl
 pub held-none : held [] ≡ 0
 unfolding held total
 held-none = refl
-
-filled-next : (t : Trade) (ts : List Trade) → filled (t ∷ ts) ≡ t .quantity + filled ts
-unfolding filled total
-filled-next t ts = refl
-
-nothing-traded : filled [] ≡ 0
-unfolding filled total
-nothing-traded = refl
 
 -- the sum of those that a test keeps, one at a time
 pub kept-next :
@@ -121,7 +113,7 @@ nothing-filled : (n : ℕ) (bs ss : List Share) (ts : List Trade) → ts ≡ [] 
 nothing-filled n bs ss ts e b s =
     rw e
     (record {
-      whole = omega (arith, nothing-traded);
+      whole = omega (arith, filled-nil);
       buyer = omega (arith, bought-none n, granted-most n bs);
       seller = omega (arith, sold-none n, granted-most n ss);
     })
@@ -137,7 +129,7 @@ dealt-fills n p b s bs ss ts r =
     let hb : q ≤ b .left = omega arith in
     let hs : q ≤ s .left = omega arith in
     record {
-      whole = omega (arith, filled-next (dealt p b s) ts, r .whole, held-next b bs, head-held q b bs hb);
+      whole = omega (arith, filled-more (dealt p b s) ts, r .whole, held-next b bs, head-held q b bs hb);
       buyer = bought-next n (dealt p b s) ts ∙ ap (λ m. (if eqb (b .number) n then q else 0) + m) (r .buyer) ∙ head-granted n q b bs hb;
       seller = sold-next n (dealt p b s) ts ∙ ap (λ m. (if eqb (s .number) n then q else 0) + m) (r .seller) ∙ head-granted n q s ss hs;
     }

@@ -25,10 +25,6 @@ use Rattle.rehearse.specs.declared.Input.{Input}
 use Rattle.rehearse.specs.declared.Input.the-variants.{Bytes}
 use Rattle.rehearse.specs.Serving.{Steps, filled}
 
--- a mark is not both
-pub not-both : {A : Type 0} {m : Bool} → m ≡ true → m ≡ false → A
-not-both e f = let z : _≡_ {A = ℕ} 0 1 = cc in absurd (omega arith)
-
 pub filled-with : {r : Input} {n : ℕ} (room : ℕ) → r ≡ Bytes n → filled room r → n ≤ room
 filled-with room e f = subst (filled room) e f
 

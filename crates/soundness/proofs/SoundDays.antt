@@ -1,6 +1,6 @@
 -- A sound day: the test and the record of its facts say the same, and its book stands. Assumes nothing.
-use Prim.Native.Nat.{ℕ, _≤_, _<_}
-use mathlib.Core.Path.{_≡_, refl, ap}
+use Prim.Native.Nat.{ℕ, suc, _≤_, _<_}
+use mathlib.Core.Path.{_≡_, refl, ap, _∙_}
 use mathlib.Core.Logic.{⊎-elim}
 use mathlib.Core.Bool.{Bool, true, false, _&&_, _||_}
 use mathlib.Core.List.{List}
@@ -12,10 +12,12 @@ use borrow.Author.Tests.{ltb-true, ltb-false, leb-true}
 use Rattle.model.specs.declared.Order.{Order}
 use Rattle.model.specs.declared.Day.{Day}
 use Rattle.model.specs.Book.{free}
+use Rattle.model.specs.Figures.{nextNumber}
 use Rattle.model.specs.Sound.{hasPlaces, isFree, isOrder, sound}
 use Rattle.model.proofs.Bools.{and-left, and-right}
 use Rattle.book.specs.Standing.{Each, Fair, Apart, Standing}
 use Rattle.book.proofs.Lists.{each, both}
+use Rattle.book.proofs.Kept.{New, fair-free, free-number}
 use Rattle.soundness.specs.SoundDay.{Rests, Place, Empty, SoundDay}
 use Rattle.soundness.proofs.Says.{Says, says-and, says-unless, says-too, says-not, says-all}
 use Rattle.soundness.proofs.Clauses.{says-place, says-between, says-empty, says-apart, says-crosses, says-figures, says-fit, says-traded, says-turnover}
@@ -25,9 +27,8 @@ use Rattle.soundness.proofs.Clauses.{says-place, says-between, says-emp
 numberless : (d : Day) (o : Order) → Place d o → o .number ≡ 0 → o ≡ free
 numberless d o p n = ⊎-elim (λ e. e) (λ (r : Rests d o). absurd (omega (arith, r .numbered))) p
 
-free-number : (o : Order) → o ≡ free → o .number ≡ 0
-unfolding free
-free-number o e = ap (λ (x : Order). x .number) e
+no-number : (o : Order) → o ≡ free → o .number ≡ 0
+no-number o e = ap (λ (x : Order). x .number) e ∙ free-number
 
 emptied : (d : Day) (book : List Order) → Each (Place d) book → Each (λ o. o .number ≡ 0) book → Empty book
 emptied d book = both (Place d) (λ o. o .number ≡ 0) (λ o. o ≡ free) book (numberless d)
@@ -76,7 +77,7 @@ says-sound d book =
           (
             (
               (((s .close, s .limited, s .time, s .issued), s .places), s .apart),
-              λ n. each (λ o. o ≡ free) (λ o. o .number ≡ 0) book free-number (outside book (d .time) (s .early) (s .late) n),
+              λ n. each (λ o. o ≡ free) (λ o. o .number ≡ 0) book no-number (outside book (d .time) (s .early) (s .late) n),
             ),
             λ w. not-le-of-lt (s .uncrossed (w .0 .0) (w .0 .1) (w .1 .0) (w .1 .1)) (w .1 .2),
           ),
@@ -107,19 +108,6 @@ pub day-sound : (d : Day) (book : List Order) → SoundDay d book → sound d bo
 day-sound d book = says-sound d book .1
 
 -- ---- what stands
-
-fair-free : Fair free
-unfolding free
-fair-free =
-    record {
-      side = omega arith;
-      price = omega arith;
-      number = omega arith;
-      left = omega arith;
-      none = λ _. refl;
-      some = λ n. absurd (n refl);
-      priced = λ n. absurd (n refl);
-    }
 
 pub fair-place : (d : Day) (o : Order) → d .issued ≤ 999_999 → Place d o → Fair o
 fair-place d o l p =
@@ -157,3 +145,16 @@ pub stands : (d : Day) (book : List Order) → (hasPlaces book && sound d book) 
 stands d book e =
     let s = sound-day d book (and-right (hasPlaces book) (sound d book) e) in
     standing d book (few-places book (and-left (hasPlaces book) (sound d book) e)) (s .issued) (s .places) (s .apart)
+
+-- ---- the next number is new
+
+issued-by : (d : Day) (o : Order) → Place d o → o .number ≤ d .issued
+issued-by d o p = ⊎-elim (λ e. omega (arith, no-number o e)) (λ (r : Rests d o). r .issued) p
+
+pub next-new : (d : Day) (book : List Order) → SoundDay d book → New (nextNumber d) book
+unfolding nextNumber
+next-new d book s =
+    record {
+      real = λ z. omega arith;
+      fresh = each (Place d) (λ o. o .number ≡ suc (d .issued) → ⊥) book (λ o h z. omega (arith, issued-by d o h)) (s .places);
+    }

@@ -3,16 +3,17 @@ ghost use mathlib.Core.Path.{_≡_};
 ghost use Prim.Native.Nat.{_+_, _*_, _≤_};
 ghost use mathlib.Core.List.{[], _∷_};
 ghost use lib.ListN.{length, take};
-ghost use Rattle.model.specs.Replies.{restingOf, withdrawnOf, entryNumbers};
+ghost use Rattle.model.specs.Replies.{entryNumbers};
 ghost use Rattle.model.specs.Lines.{digits, reply, refusalLine, tradeLines, openLine, clockLine, orderLine, cancelLine};
 ghost use Rattle.book.specs.Rows.{tradesOf};
 ghost use Rattle.text.specs.Printing.{Wrote};
+use matching::remainders::resting;
+use matching::remainders::withdrawn;
 use model::CancelReply;
 use model::ClockReply;
 use model::Entry;
 use model::OpenReply;
 use model::OrderReply;
-use model::Remainder;
 use model::Trade;
 
 fn digit(x: u64) -> u8
@@ -122,26 +123,6 @@ pub fn put_clock(out: &mut [u8], at: usize, answer: ClockReply) -> usize
             let numbers = [phase, trades as u64, 0, 0, 0];
             put_reply(out, at, b'K', 2, numbers)
         }
-    }
-}
-
-fn resting(r: Remainder) -> u64
-    ensures { λ q. ⌜ q ≡ restingOf r ⌝ }
-{
-    match r {
-        Remainder::Nothing => 0,
-        Remainder::Rests(q) => q,
-        Remainder::Withdrawn(_) => 0,
-    }
-}
-
-fn withdrawn(r: Remainder) -> u64
-    ensures { λ q. ⌜ q ≡ withdrawnOf r ⌝ }
-{
-    match r {
-        Remainder::Nothing => 0,
-        Remainder::Rests(_) => 0,
-        Remainder::Withdrawn(q) => q,
     }
 }
 

@@ -1,14 +1,15 @@
 // Replies as bytes: the refusal's number first, then the values, as many whole numbers as the buffer holds.
 use crate::numbers::put_numbers;
+use matching::remainders::resting;
+use matching::remainders::withdrawn;
 use model::CancelReply;
 use model::ClockReply;
 use model::ListReply;
 use model::OpenReply;
 use model::OrderReply;
-use model::Remainder;
 use model::ReportReply;
 ghost use mathlib.Core.Path.{_≡_};
-ghost use Rattle.model.specs.Replies.{restingOf, withdrawnOf, openNumbers, orderNumbers, cancelNumbers, clockNumbers, listNumbers};
+ghost use Rattle.model.specs.Replies.{openNumbers, orderNumbers, cancelNumbers, clockNumbers, listNumbers};
 ghost use Rattle.wire.specs.Exports.{returned, replied, word, reportWords};
 
 fn put_reply(reply: &mut [u8], list: &[u64])
@@ -103,26 +104,6 @@ pub fn reply_report(told: ReportReply, reply: &mut [u8]) -> u64
             put_reply(reply, &row[..]);
             return 0;
         }
-    }
-}
-
-fn resting(r: Remainder) -> u64
-    ensures { λ q. ⌜ q ≡ restingOf r ⌝ }
-{
-    match r {
-        Remainder::Nothing => 0,
-        Remainder::Rests(q) => q,
-        Remainder::Withdrawn(_) => 0,
-    }
-}
-
-fn withdrawn(r: Remainder) -> u64
-    ensures { λ q. ⌜ q ≡ withdrawnOf r ⌝ }
-{
-    match r {
-        Remainder::Nothing => 0,
-        Remainder::Rests(_) => 0,
-        Remainder::Withdrawn(q) => q,
     }
 }
 

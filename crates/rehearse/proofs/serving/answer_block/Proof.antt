@@ -5,7 +5,8 @@ use native.Mathlib.Omega.{arith}
 use lib.ListN.{length}
 use Rattle.desk.specs.Blocks.{pointOf, Onward}
 use Rattle.desk.proofs.LineByLine.{onward-none, onward-more}
-use Rattle.rehearse.proofs.Rounds.{put-within, put-count, not-both}
+use Rattle.model.proofs.Bools.{not-both}
+use Rattle.rehearse.proofs.Rounds.{put-within, put-count}
 use borrow.Author.Needs.{needs}
 use Rattle.rehearse.proofs.serving.answer_block.Statement.{statement}
 use Rattle.rehearse.proofs.serving.answer_block.Tie as tie
@@ -47,7 +48,7 @@ same-length-3 : tie.Need-same-length-3 Inv-loop μ-loop
 same-length-3 c = c .before .before .before .before .before .before .before .answer-lines .kept .1 .1 .1 .1 .0 ∙ c .before .before .before .before .before .before .before .before .before .before .before .loop .inv .2
 
 returns : tie.Need-returns Inv-loop μ-loop
-returns c = λ e. not-both e refl
+returns c = λ e. absurd (not-both e refl)
 
 same-length-4 : tie.Need-same-length-4 Inv-loop μ-loop
 same-length-4 c = c .before .before .before .before .before .before .before .before .answer-lines .kept .1 .0 ∙ c .before .before .before .before .before .before .before .before .before .before .before .before .loop .inv .0

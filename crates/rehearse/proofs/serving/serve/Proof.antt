@@ -4,7 +4,8 @@ use native.Mathlib.Omega.{arith}
 use lib.ListN.{length-take}
 use lib.Seq.{length-take-le}
 use borrow.Author.Tests.{not-false}
-use Rattle.rehearse.proofs.Rounds.{not-both, steps}
+use Rattle.model.proofs.Bools.{not-both}
+use Rattle.rehearse.proofs.Rounds.{steps}
 use borrow.Author.Needs.{needs}
 use Rattle.rehearse.proofs.serving.serve.Statement.{statement}
 use Rattle.rehearse.proofs.serving.serve.Tie as tie
@@ -36,7 +37,7 @@ same-length-4 : tie.Need-same-length-4
 same-length-4 c = search needs
 
 returns : tie.Need-returns
-returns c = λ e. not-both (c .stopped .ensures) e
+returns c = λ e. absurd (not-both (c .stopped .ensures) e)
 
 carry-over-requires : tie.Need-carry-over-requires
 carry-over-requires c κs =

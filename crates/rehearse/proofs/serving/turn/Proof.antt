@@ -1,5 +1,6 @@
 -- A read that failed or ended stops the program; else the block is served. Assumes nothing.
-use Rattle.rehearse.proofs.Rounds.{not-both, filled-with, steps-few, steps-sound}
+use Rattle.model.proofs.Bools.{not-both}
+use Rattle.rehearse.proofs.Rounds.{filled-with, steps-few, steps-sound}
 use borrow.Author.Needs.{needs}
 use Rattle.rehearse.proofs.serving.turn.Statement.{statement}
 use Rattle.rehearse.proofs.serving.turn.Tie as tie
@@ -37,7 +38,7 @@ same-length : tie.Need-same-length
 same-length c = search needs
 
 returns : tie.Need-returns
-returns c = λ e. not-both (c .stopped .ensures) e
+returns c = λ e. absurd (not-both (c .stopped .ensures) e)
 
 same-length-2 : tie.Need-same-length-2
 same-length-2 c = search needs
@@ -46,7 +47,7 @@ same-length-3 : tie.Need-same-length-3
 same-length-3 c = search needs
 
 returns-2 : tie.Need-returns-2
-returns-2 c = λ e. not-both (c .before .before .finish .ensures) e
+returns-2 c = λ e. absurd (not-both (c .before .before .finish .ensures) e)
 
 same-length-4 : tie.Need-same-length-4
 same-length-4 c = search needs

@@ -16,11 +16,10 @@ use Rattle.model.specs.Matching.{meets, tradeWith, sweep, isIn, filled, filledO
 use Rattle.book.specs.Standing.{Each}
 use Rattle.book.specs.Priority.{rank}
 use Rattle.book.proofs.Lists.{both, each, every}
-use Rattle.book.proofs.Settlements.{part, filled-cons}
+use Rattle.book.proofs.Settlements.{filled-nil, filled-more, part, filled-cons}
 use Rattle.matching.specs.Sweeping.{wants}
 use Rattle.matching.proofs.Cuts.{cutSame, cutLevels, same-nil, levels-none, levels-nil, levels-cons, cut-here, cut-away, Worsens, pricesOf, worse}
 use Rattle.matching.proofs.Partners.{sweep-none, sweep-one}
-use Rattle.matching.proofs.Trades.{filled-nil, filled-more}
 
 -- ---- worse prices than one that the limit does not allow
 

@@ -1,8 +1,8 @@
 -- Each case is one clause of the definition.
 use Rattle.model.specs.Replies.{restingOf}
 use borrow.Author.Needs.{needs}
-use Rattle.wire.proofs.replies.resting.Statement.{statement}
-use Rattle.wire.proofs.replies.resting.Tie as tie
+use Rattle.matching.proofs.remainders.resting.Statement.{statement}
+use Rattle.matching.proofs.remainders.resting.Tie as tie
 
 enum-told : tie.Need-enum-told
 enum-told c = search needs

@@ -1,8 +1,8 @@
 -- Each case is one clause of the definition.
 use Rattle.model.specs.Replies.{withdrawnOf}
 use borrow.Author.Needs.{needs}
-use Rattle.text.proofs.printing.withdrawn.Statement.{statement}
-use Rattle.text.proofs.printing.withdrawn.Tie as tie
+use Rattle.matching.proofs.remainders.withdrawn.Statement.{statement}
+use Rattle.matching.proofs.remainders.withdrawn.Tie as tie
 
 enum-told : tie.Need-enum-told
 enum-told c = search needs
