@@ -113,9 +113,9 @@ pub fn settle_rows(rows: &mut [[u64; 5]], trades: &[[u64; 4]], n: usize)
 pub fn clear_rows(rows: &mut [[u64; 5]])
     ensures { λ _. ⌜ now (rows .exit) ≡ rowsOf (cleared (bookOf (now (rows .entry)))) ⌝ }
 {
-    let mut i = 0;
-    while i < rows.len() {
-        put_order(&mut *rows, i, free_place());
-        i += 1;
+    let mut place = 0;
+    while place < rows.len() {
+        put_order(&mut *rows, place, free_place());
+        place += 1;
     }
 }

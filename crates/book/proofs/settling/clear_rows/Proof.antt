@@ -20,7 +20,7 @@ abbrev μ-loop : tie.MeasureT-loop
 
 inside :
     (c : tie.After-rows Inv-loop μ-loop)
-    → c .before .before .before .before .before .loop .i
+    → c .before .before .before .before .before .loop .place
     < length (c .before .before .before .before .before .before .args .rows .now)
 inside c =
     let l = c .before .before .before .before .before in
@@ -37,8 +37,8 @@ free-place-requires c κs = search needs
 put-order-requires : tie.Need-put-order-requires Inv-loop μ-loop
 put-order-requires c κs = omega arith
 
-add-i : tie.Need-add-i Inv-loop μ-loop
-add-i c = omega (arith, inside c, c .before .before .before .before .before .before .good .0 .0)
+add-place : tie.Need-add-place Inv-loop μ-loop
+add-place c = omega (arith, inside c, c .before .before .before .before .before .before .good .0 .0)
 
 loop-less : tie.Need-loop-less Inv-loop μ-loop
 loop-less c = omega (arith, inside c)
@@ -65,7 +65,7 @@ clear-rows-spec =
     loop-holds
     free-place-requires
     put-order-requires
-    add-i
+    add-place
     loop-less
     loop-again
     same-length
