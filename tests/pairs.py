@@ -12,7 +12,7 @@ import random
 import sys
 
 import desk
-from program import ROOT, Counts, run
+from program import ROOT, Counts
 
 SEED = 20211115
 
