@@ -34,7 +34,7 @@ static int slots[SLOTS]; /* place + 1 by order number */
 static struct trade made[2 * PLACES];
 static size_t made_count;
 
-uint64_t engine_tried_all, engine_tried_differed;
+uint64_t engine_tries_left, engine_tries_differed;
 
 /* ---- bytes */
 
@@ -391,8 +391,8 @@ static void try_all_prices(uint64_t most) {
         if (smaller(shares_where(0, p, TOP_PRICE), shares_where(1, 1, p)) > most) same = false;
         if (qualifies(p, most) != stretches[k].qualifies) same = false;
     }
-    engine_tried_all++;
-    if (!same) engine_tried_differed++;
+    engine_tries_left--;
+    if (!same) engine_tries_differed++;
 }
 
 /* Finds the qualifying stretches. The most volume comes first: only where it is reached are the other conditions looked at. */
@@ -408,7 +408,7 @@ static void survey(void) {
         struct stretch *t = &stretches[k];
         t->qualifies = most && smaller(t->demand, t->supply) == most && qualifies(t->low, most);
     }
-    if (queue_count[0] + queue_count[1] <= SMALL && engine_tried_all < 100) try_all_prices(most);
+    if (queue_count[0] + queue_count[1] <= SMALL && engine_tries_left) try_all_prices(most);
 }
 
 static uint64_t apart(uint64_t a, uint64_t b) { return a > b ? a - b : b - a; }
