@@ -79,6 +79,8 @@ void fill_memory(uint64_t (*next)(void)) {
         for (size_t i = 0; i < sizeof expected.bytes[s] / 8; i++) put_number(expected.bytes[s], i, next());
 }
 
+void clear_memory(uint8_t with) { memset(&expected, with, sizeof expected); }
+
 static struct lent kept_lent;
 
 void keep_memory(void) {

@@ -24,8 +24,9 @@ extern struct lent lent;
 /* Lends so many bytes of each slice from now on. What stands in them stays. */
 void lend(size_t day, size_t book, size_t list, size_t reply);
 
-/* Fills all memory, guards included, with bytes of no meaning. */
+/* Fills all memory, guards included, with numbers of no meaning, or with one byte. */
 void fill_memory(uint64_t (*next)(void));
+void clear_memory(uint8_t with);
 
 /* Keeps what is lent, and lends it again as it was. */
 void keep_memory(void);

@@ -23,10 +23,8 @@ static uint64_t buy_of_kind(uint64_t kind, uint64_t account, uint64_t quantity, 
 /* The values of a reply, from 1 on. */
 static uint64_t value(size_t i) { return number_at(lent.reply, i); }
 
-static uint64_t nothing(void) { return 0; }
-
 static void open_at(uint64_t close, uint64_t time) {
-    fill_memory(nothing);
+    clear_memory(0);
     lend(64, 40 * 16, 32 * 64, 48);
     make(OPEN, close, 1, 0, 0, 0);
     move_to(time);
