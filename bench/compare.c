@@ -1,3 +1,4 @@
+/* The comparison: see compare.h. */
 #include "compare.h"
 #include "../include/flemorix.h"
 #include <stdbool.h>
@@ -12,8 +13,8 @@ static uint64_t proved_open(struct lent *m, const uint64_t *a) {
 }
 
 static uint64_t proved_order(struct lent *m, const uint64_t *a) {
-    return flemorix_order(m->day, m->day_length, m->book, m->book_length, m->list, m->list_length, m->reply, m->reply_length, a[0],
-                          a[1], a[2], a[3], a[4]);
+    return flemorix_order(m->day, m->day_length, m->book, m->book_length, m->list, m->list_length, m->reply, m->reply_length,
+                          a[0], a[1], a[2], a[3], a[4]);
 }
 
 static uint64_t proved_cancel(struct lent *m, const uint64_t *a) {
@@ -21,7 +22,8 @@ static uint64_t proved_cancel(struct lent *m, const uint64_t *a) {
 }
 
 static uint64_t proved_clock(struct lent *m, const uint64_t *a) {
-    return flemorix_clock(m->day, m->day_length, m->book, m->book_length, m->list, m->list_length, m->reply, m->reply_length, a[0]);
+    return flemorix_clock(m->day, m->day_length, m->book, m->book_length, m->list, m->list_length, m->reply, m->reply_length,
+                          a[0]);
 }
 
 static uint64_t proved_report(struct lent *m, const uint64_t *a) {
@@ -30,16 +32,14 @@ static uint64_t proved_report(struct lent *m, const uint64_t *a) {
 }
 
 static uint64_t proved_list(struct lent *m, const uint64_t *a) {
-    return flemorix_list(m->day, m->day_length, m->book, m->book_length, m->list, m->list_length, m->reply, m->reply_length, a[0]);
+    return flemorix_list(m->day, m->day_length, m->book, m->book_length, m->list, m->list_length, m->reply, m->reply_length,
+                         a[0]);
 }
 
 const struct engines calls[CALLS] = {
-    [OPEN] = {"open", proved_open, engine_open},
-    [ORDER] = {"order", proved_order, engine_order},
-    [CANCEL] = {"cancel", proved_cancel, engine_cancel},
-    [CLOCK] = {"clock", proved_clock, engine_clock},
-    [REPORT] = {"report", proved_report, engine_report},
-    [LIST] = {"list", proved_list, engine_list},
+    [OPEN] = {"open", proved_open, engine_open},         [ORDER] = {"order", proved_order, engine_order},
+    [CANCEL] = {"cancel", proved_cancel, engine_cancel}, [CLOCK] = {"clock", proved_clock, engine_clock},
+    [REPORT] = {"report", proved_report, engine_report}, [LIST] = {"list", proved_list, engine_list},
 };
 
 /* ---- memory: each slice stands between guards */
@@ -56,9 +56,9 @@ static bool exactly;
 struct lent lent;
 
 static struct lent lent_from(struct memory *m, size_t day, size_t book, size_t list, size_t reply) {
-    return (struct lent){m->bytes[DAY] + GUARD,   m->bytes[BOOK] + GUARD, m->bytes[TRADES_OR_PRICES] + GUARD,
-                         m->bytes[REPLY] + GUARD, day,                    book,
-                         list,                    reply};
+    uint8_t *slices[SLICES];
+    for (int s = 0; s < SLICES; s++) slices[s] = m->bytes[s] + GUARD;
+    return (struct lent){slices[DAY], slices[BOOK], slices[TRADES_OR_PRICES], slices[REPLY], day, book, list, reply};
 }
 
 void lend(size_t day, size_t book, size_t list, size_t reply) { lent = lent_from(&expected, day, book, list, reply); }

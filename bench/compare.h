@@ -48,7 +48,8 @@ extern uint64_t passed, failed;
 void print_told(void);
 
 /* For the bench's test of itself: flips one byte of what is expected where this part of a result comes up the nth time. The
- * parts: number, day, book, trades, prices, reply, guard, printed (a number that the rules print). 0 where there is no such part. */
+ * parts: number, day, book, trades, prices, reply, guard, printed (a number that the rules print). Returns 0 for any other
+ * word. */
 int damage_expected(const char *part, uint64_t nth);
 
 #endif

@@ -22,8 +22,9 @@ static int once_in(uint64_t n) { return chance(n) == 0; }
 
 /* A number that is likely to sit on an edge. */
 static uint64_t edge(void) {
-    static const uint64_t edges[] = {0, 1, 2, 4, 99, 100, 33299, 33300, 33899, 33900, 53819, 53820, 53999, 54000, 86399, 86400,
-                                     999998, 999999, 1000000, 1000001, UINT32_MAX, UINT64_MAX - 1, UINT64_MAX, 1ull << 63};
+    static const uint64_t edges[] = {
+        0,     1,     2,     4,     99,     100,    33299,   33300,   33899,      33900,          53819,      53820,
+        53999, 54000, 86399, 86400, 999998, 999999, 1000000, 1000001, UINT32_MAX, UINT64_MAX - 1, UINT64_MAX, 1ull << 63};
     return once_in(4) ? chance(2000000) : edges[chance(sizeof edges / sizeof edges[0])];
 }
 
@@ -99,7 +100,8 @@ static void damage(void) {
 }
 
 static int pick_call(void) {
-    static const int likely[] = {ORDER, ORDER, ORDER, ORDER, ORDER, ORDER, CANCEL, CANCEL, CANCEL, REPORT, REPORT, LIST, LIST, CLOCK};
+    static const int likely[] = {ORDER,  ORDER,  ORDER,  ORDER,  ORDER, ORDER, CANCEL,
+                                 CANCEL, CANCEL, REPORT, REPORT, LIST,  LIST,  CLOCK};
     if (once_in(150)) return OPEN;
     if (is_idle() && once_in(3)) return number_at(lent.day, 2) < 54000 ? CLOCK : OPEN;
     return likely[chance(sizeof likely / sizeof likely[0])];

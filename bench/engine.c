@@ -1,3 +1,4 @@
+/* The independent engine: see engine.h. Every call reads day and book into the tables below, decides, and writes them back. */
 #include "engine.h"
 #include <stdbool.h>
 #include <stdlib.h>
@@ -71,8 +72,7 @@ static void write_trades(struct lent *m) {
 /* The refusal, and count values behind it (zeros where it refuses), as many whole numbers as the buffer holds. */
 static uint64_t answer(struct lent *m, uint64_t refusal, const uint64_t *values, size_t count) {
     size_t room = m->reply_length / 8;
-    for (size_t i = 0; i < room && i <= count; i++)
-        put_number(m->reply, i, i == 0 ? refusal : refusal ? 0 : values[i - 1]);
+    for (size_t i = 0; i < room && i <= count; i++) put_number(m->reply, i, i == 0 ? refusal : refusal ? 0 : values[i - 1]);
     return refusal;
 }
 
@@ -144,9 +144,7 @@ static bool place_sound(size_t p) {
     return true;
 }
 
-static bool figures_sound(void) {
-    return is_price(day.close) && day.limited <= 1 && day.time <= 86399 && day.issued <= 999999;
-}
+static bool figures_sound(void) { return is_price(day.close) && day.limited <= 1 && day.time <= 86399 && day.issued <= 999999; }
 
 static bool totals_sound(void) {
     unsigned __int128 resting = 0, shares = day.shares, turnover = day.turnover;

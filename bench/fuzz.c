@@ -1,5 +1,5 @@
-/* The fuzz target: an input is read as a small book and a list of steps. Each step is a call, made by both engines and compared, or
- * it sets a length or a number, or it damages day or book for one call. A difference aborts. The proved library is linked as
+/* The fuzz target: an input is read as a small book and a list of steps. Each step is a call, made by both engines and compared,
+ * or it sets a length or a number, or it damages day or book for one call. A difference aborts. The proved library is linked as
  * `rt staticlib` builds it, so libFuzzer counts the branches of the independent engine. bench/corpus_maker spells the steps. */
 #include "compare.h"
 #include <stdio.h>
@@ -26,8 +26,8 @@ static uint64_t whole_number(int bytes) {
 
 /* A number on an edge, or one of 1, 3 or 8 bytes. */
 static uint64_t number(void) {
-    static const uint64_t edges[] = {0,     1,     2,     4,     99,     100,    33300,   33600,   33900,      34200,      41400,
-                                     46800, 53819, 53820, 54000, 86399,  86400,  999999,  1000000, 1000001,    UINT32_MAX, UINT64_MAX};
+    static const uint64_t edges[] = {0,     1,     2,     4,     99,    100,   33300,  33600,   33900,   34200,      41400,
+                                     46800, 53819, 53820, 54000, 86399, 86400, 999999, 1000000, 1000001, UINT32_MAX, UINT64_MAX};
     size_t count = sizeof edges / sizeof edges[0];
     uint64_t chosen = byte();
     if (chosen < count) return edges[chosen];
@@ -124,7 +124,8 @@ static void call_damaged(void) {
 }
 
 static void take_step(uint64_t chosen) {
-    static step *const steps[] = {enter_likely, cancel_place, move_clock, ask, call_with_any_numbers, set_room, set_number, call_damaged};
+    static step *const steps[] = {enter_likely,          cancel_place, move_clock, ask,
+                                  call_with_any_numbers, set_room,     set_number, call_damaged};
     steps[chosen % 8]();
 }
 

@@ -119,8 +119,8 @@ static void measure(const struct measured *c, size_t places, size_t live, struct
 }
 
 static void print_times(const struct measured *c, const struct times *t) {
-    printf("| %s | %.1f | %.1f | %.2f | %.1f | %.1f |\n", c->name, t->proved / 1000, t->independent / 1000, t->proved / t->independent,
-           t->proved / t->pass, t->independent / t->pass);
+    printf("| %s | %.1f | %.1f | %.2f | %.1f | %.1f |\n", c->name, t->proved / 1000, t->independent / 1000,
+           t->proved / t->independent, t->proved / t->pass, t->independent / t->pass);
 }
 
 static void print_table(size_t places, size_t live) {
