@@ -1,3 +1,4 @@
+/* The independent engine: see engine.h. Every call reads day and book into the tables below, decides, and writes them back. */
 #include "engine.h"
 #include <stdbool.h>
 #include <stdlib.h>
@@ -34,7 +35,7 @@ static int slots[SLOTS]; /* place + 1 by order number */
 static struct trade made[2 * PLACES];
 static size_t made_count;
 
-uint64_t engine_tried_all, engine_tried_differed;
+uint64_t engine_tries_left, engine_tries_differed;
 
 /* ---- bytes */
 
@@ -71,8 +72,7 @@ static void write_trades(struct lent *m) {
 /* The refusal, and count values behind it (zeros where it refuses), as many whole numbers as the buffer holds. */
 static uint64_t answer(struct lent *m, uint64_t refusal, const uint64_t *values, size_t count) {
     size_t room = m->reply_length / 8;
-    for (size_t i = 0; i < room && i <= count; i++)
-        put_number(m->reply, i, i == 0 ? refusal : refusal ? 0 : values[i - 1]);
+    for (size_t i = 0; i < room && i <= count; i++) put_number(m->reply, i, i == 0 ? refusal : refusal ? 0 : values[i - 1]);
     return refusal;
 }
 
@@ -144,9 +144,7 @@ static bool place_sound(size_t p) {
     return true;
 }
 
-static bool figures_sound(void) {
-    return is_price(day.close) && day.limited <= 1 && day.time <= 86399 && day.issued <= 999999;
-}
+static bool figures_sound(void) { return is_price(day.close) && day.limited <= 1 && day.time <= 86399 && day.issued <= 999999; }
 
 static bool totals_sound(void) {
     unsigned __int128 resting = 0, shares = day.shares, turnover = day.turnover;
@@ -391,8 +389,8 @@ static void try_all_prices(uint64_t most) {
         if (smaller(shares_where(0, p, TOP_PRICE), shares_where(1, 1, p)) > most) same = false;
         if (qualifies(p, most) != stretches[k].qualifies) same = false;
     }
-    engine_tried_all++;
-    if (!same) engine_tried_differed++;
+    engine_tries_left--;
+    if (!same) engine_tries_differed++;
 }
 
 /* Finds the qualifying stretches. The most volume comes first: only where it is reached are the other conditions looked at. */
@@ -408,7 +406,7 @@ static void survey(void) {
         struct stretch *t = &stretches[k];
         t->qualifies = most && smaller(t->demand, t->supply) == most && qualifies(t->low, most);
     }
-    if (queue_count[0] + queue_count[1] <= SMALL && engine_tried_all < 100) try_all_prices(most);
+    if (queue_count[0] + queue_count[1] <= SMALL && engine_tries_left) try_all_prices(most);
 }
 
 static uint64_t apart(uint64_t a, uint64_t b) { return a > b ? a - b : b - a; }

@@ -20,9 +20,10 @@ uint64_t engine_clock(struct lent *m, const uint64_t *asked);  /* time */
 uint64_t engine_report(struct lent *m, const uint64_t *asked);
 uint64_t engine_list(struct lent *m, const uint64_t *asked); /* price */
 
-/* How often the auction of a small book was also held by trying all 999,999 prices, and how often the two differed. */
-extern uint64_t engine_tried_all, engine_tried_differed;
+/* On how many more small books the engine also tries all 999,999 prices, and how often it then found that it had left one out. */
+extern uint64_t engine_tries_left, engine_tries_differed;
 
+/* The number at the i-th 8 bytes, least byte first. */
 uint64_t number_at(const uint8_t *b, size_t i);
 void put_number(uint8_t *b, size_t i, uint64_t value);
 

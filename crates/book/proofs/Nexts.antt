@@ -2,22 +2,23 @@
 -- the queue past the key.
 use Prim.Native.Nat.{ℕ, zero, suc, _-_, _≤_, _<_}
 use mathlib.Core.Path.{_≡_, refl, sym, ap, _∙_}
-use mathlib.Core.Bool.{Bool, true, false, cond, and-false}
+use mathlib.Core.Bool.{Bool, true, false, cond, and-false, true≢false, false≢true}
 use mathlib.Core.List.{List, [], _∷_}
 use native.Mathlib.Omega.{arith}
 use native.Mathlib.Nat.{not-suc-le-zero, le-of-suc-le-suc}
 use lib.ListN.{length, getD, drop}
 use lib.Seq.{drop-cons, drop-length}
-use lib.Dec.{ltb}
-use borrow.Author.Tests.{eq-eqb, ne-eqb, le-ltb, lt-ltb}
+use lib.Dec.{ltb, leb, eqb}
+use borrow.Author.Tests.{eq-eqb, ne-eqb, eqb-true, eqb-false, leb-true, leb-false, le-ltb, lt-ltb}
 use Rattle.model.specs.declared.Order.{Order}
 use Rattle.model.specs.Lists.{keep}
 use Rattle.model.specs.Book.{isLive, standsOn, queue, headPrice, best}
+use Rattle.model.proofs.Bools.{and-left}
 use Rattle.book.specs.declared.Next.{Next}
 use Rattle.book.specs.declared.Next.the-variants.{At, Nothing}
 use Rattle.book.specs.Rows.{orderOf, bookOf}
 use Rattle.book.specs.Standing.{Each, Fair}
-use Rattle.book.specs.Priority.{key, isPast, beyond, nextOf, counts, sooner}
+use Rattle.book.specs.Priority.{key, isPast, beyond, nextOf, counts, sooner, isSooner}
 use Rattle.book.proofs.Lists.{keep-keep, keep-all, each}
 use Rattle.book.proofs.Sorting.{insertBy, sortBy, byKey, over, keep-sort}
 use Rattle.book.proofs.Queues.{queue-keyed, on-live, queue-stands, key-positive}
@@ -132,6 +133,86 @@ found-more side after rows i next r o p l b q e =
     ∙ ap (λ (x : Order). cond (counts side after x) (sooner x f) f) q
     ∙ sym (first-more (counts side after) (orderOf (getD rows (i - 1) [])) (bookOf (drop i rows)))
     ∙ ap (λ (l : List (List ℕ)). nextOf (sorted (keep (counts side after) (bookOf l)))) (sym d)
+
+-- ---- the least key so far with its place, where 0 is no key
+
+unfoldable pub standsAt : List (List ℕ) → ℕ → ℕ → Next
+standsAt rows at least = cond (eqb least 0) Nothing (At (orderOf (getD rows at [])) least)
+
+pub unplaced : (rows : List (List ℕ)) (at least : ℕ) → least ≡ 0 → standsAt rows at least ≡ Nothing
+unfolding standsAt
+unplaced rows at least z = rw (eq-eqb least 0 z)
+
+pub placed :
+    (rows : List (List ℕ)) (at least : ℕ) (o : Order)
+    → (least ≡ 0 → ⊥)
+    → o ≡ orderOf (getD rows at [])
+    → standsAt rows at least ≡ At o least
+unfolding standsAt
+placed rows at least o n e = rw (e, ne-eqb least 0 n)
+
+module _ (k least : ℕ) where
+  is-key : isSooner k least ≡ true → k ≡ 0 → ⊥
+  unfolding isSooner
+  is-key s z = let h : isSooner k least ≡ false = rw (eq-eqb k 0 z) in false≢true (sym h ∙ s)
+
+  compared : (k ≡ 0 → ⊥) → (least ≡ 0 → ⊥) → isSooner k least ≡ leb k least
+  unfolding isSooner
+  compared n m = rw (ne-eqb k 0 n, ne-eqb least 0 m)
+
+  no-first : (k ≡ 0 → ⊥) → isSooner k least ≡ false → least ≡ 0 → ⊥
+  unfolding isSooner
+  no-first n s z = let h : isSooner k least ≡ true = rw (ne-eqb k 0 n, eq-eqb least 0 z) in true≢false (sym h ∙ s)
+
+counts-positive : (side after : ℕ) (o : Order) → counts side after o ≡ true → key o ≡ 0 → ⊥
+unfolding counts
+counts-positive side after o e z =
+    let p : 0 < key o = key-positive o (on-live side o (and-left (standsOn side o) (isPast after o) e)) in omega arith
+
+module _
+    (side after : ℕ) (rows : List (List ℕ)) (place at k least : ℕ) (o : Order)
+    (q : o ≡ orderOf (getD rows place [])) (e : k ≡ cond (counts side after o) (key o) 0) where
+  abbrev Grows : Next → Type 0
+  Grows r = r ≡ cond (counts side after o) (sooner o (standsAt rows at least)) (standsAt rows at least)
+
+  pub comes-sooner : isSooner k least ≡ true → Grows (standsAt rows place k)
+  comes-sooner s = go (counts side after o) refl (eqb least 0) refl
+    where
+      n : k ≡ 0 → ⊥
+      n = is-key k least s
+
+      go :
+          (b : Bool) → counts side after o ≡ b → (f : Bool) → eqb least 0 ≡ f
+          → standsAt rows place k ≡ cond b (sooner o (standsAt rows at least)) (standsAt rows at least)
+      go false c f l = absurd (n (e ∙ ap (λ (b : Bool). cond b (key o) 0) c))
+      go true c true l =
+          placed rows place k o n q
+          ∙ sooner-none o (standsAt rows at least) k (e ∙ ap (λ (b : Bool). cond b (key o) 0) c)
+          (unplaced rows at least (eqb-true least 0 l))
+      go true c false l =
+          let m : least ≡ 0 → ⊥ = eqb-false least 0 l in
+          placed rows place k o n q
+          ∙ sooner-new o (standsAt rows at least) k (e ∙ ap (λ (b : Bool). cond b (key o) 0) c)
+          (orderOf (getD rows at [])) least (placed rows at least (orderOf (getD rows at [])) m refl)
+          (leb-true k least (sym (compared k least n m) ∙ s))
+
+  pub comes-later : isSooner k least ≡ false → Grows (standsAt rows at least)
+  comes-later s = go (counts side after o) refl
+    where
+      go :
+          (b : Bool) → counts side after o ≡ b
+          → standsAt rows at least ≡ cond b (sooner o (standsAt rows at least)) (standsAt rows at least)
+      go false c = refl
+      go true c =
+          let h : k ≡ key o = e ∙ ap (λ (b : Bool). cond b (key o) 0) c in
+          let n : k ≡ 0 → ⊥ = λ z. counts-positive side after o c (sym h ∙ z) in
+          let m : least ≡ 0 → ⊥ = no-first k least n s in
+          let p : standsAt rows at least ≡ At (orderOf (getD rows at [])) least =
+          placed rows at least (orderOf (getD rows at [])) m refl
+          in
+          p
+          ∙ sooner-old o (standsAt rows at least) k h (orderOf (getD rows at [])) least p
+          (leb-false k least (sym (compared k least n m) ∙ s))
 
 pub found-all :
     (side after : ℕ) (rows : List (List ℕ)) (i : ℕ) (next : Next)

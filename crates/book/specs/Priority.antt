@@ -1,8 +1,8 @@
 -- Priority as one number, the same way for both sides: of two orders of a side the one with the smaller key stands first.
 use Prim.Native.Nat.{ℕ, _+_, _-_, _*_}
-use mathlib.Core.Bool.{Bool, _&&_}
+use mathlib.Core.Bool.{Bool, true, false, _&&_}
 use mathlib.Core.List.{List, [], _∷_}
-use lib.Dec.{ltb, eqb}
+use lib.Dec.{ltb, leb, eqb}
 use Rattle.model.specs.declared.Order.{Order}
 use Rattle.model.specs.Choice.{if_then_else_}
 use Rattle.model.specs.Lists.{keep}
@@ -38,3 +38,7 @@ counts side after o = standsOn side o && isPast after o
 unfoldable pub sooner : Order → Next → Next
 sooner o Nothing = At o (key o)
 sooner o (At b k) = if ltb k (key o) then At b k else At o (key o)
+
+-- whether a key comes before the least so far, where 0 is no key
+unfoldable pub isSooner : ℕ → ℕ → Bool
+isSooner k least = if eqb k 0 then false else if eqb least 0 then true else leb k least

@@ -4,7 +4,7 @@ ghost use mathlib.Core.Bool.{cond};
 ghost use Rattle.model.specs.Book.{queue, best};
 ghost use Rattle.book.specs.Rows.{bookOf};
 ghost use Rattle.book.specs.Standing.{Each, Fair};
-ghost use Rattle.book.specs.Priority.{key, counts, sooner, beyond, nextOf};
+ghost use Rattle.book.specs.Priority.{key, counts, isSooner, beyond, nextOf};
 use crate::Next;
 use crate::order_at;
 use model::Order;
@@ -21,53 +21,60 @@ pub fn key_of(o: Order) -> u64
     }
 }
 
-// The earlier of an order and the next so far.
-fn sooner_of(o: Order, next: Next) -> Next
+// The key of a live order of the side that is past the given key, 0 for any other place.
+fn key_past(side: u64, after: u64, o: Order) -> u64
     requires { ⌜ Fair o ⌝ }
-    ensures { λ r. ⌜ r ≡ sooner o next ⌝ }
-{
-    let k = key_of(o);
-    match next {
-        Next::Nothing => Next::At { order: o, key: k },
-        Next::At { order, key } => {
-            if key < k {
-                Next::At { order, key }
-            } else {
-                Next::At { order: o, key: k }
-            }
-        }
-    }
-}
-
-// The next so far with one place more looked at: only a live order of the side, past the key, counts.
-fn next_with(side: u64, after: u64, o: Order, next: Next) -> Next
-    requires { ⌜ Fair o ⌝ }
-    ensures { λ r. ⌜ r ≡ cond (counts side after o) (sooner o next) next ⌝ }
+    ensures { λ r. ⌜ r ≡ cond (counts side after o) (key o) 0 ⌝ }
 {
     if o.number == 0 {
-        return next;
+        return 0;
     }
     if o.side != side {
-        return next;
+        return 0;
     }
-    if key_of(o) <= after {
-        return next;
+    let k = key_of(o);
+    if k <= after {
+        return 0;
     }
-    sooner_of(o, next)
+    k
 }
 
-// The order of the side that comes first after the key.
+// Whether a key comes before the least so far, where 0 is no key.
+fn is_sooner(k: u64, least: u64) -> bool
+    ensures { λ r. ⌜ r ≡ isSooner k least ⌝ }
+{
+    if k == 0 {
+        return false;
+    }
+    if least == 0 {
+        return true;
+    }
+    k <= least
+}
+
+// The order of the side that comes first after the key. The loop carries two numbers, the least key and its place.
 pub fn next_after(rows: &[[u64; 5]], side: u64, after: u64) -> Next
     requires { ⌜ Each Fair (bookOf (now rows)) ⌝ }
     ensures { λ r. ⌜ r ≡ nextOf (beyond after (queue side (bookOf (now (rows .entry))))) ⌝ }
 {
-    let mut next = Next::Nothing;
+    let mut least: u64 = 0;
+    let mut at: usize = 0;
     let mut i = rows.len();
     while 0 < i {
         i -= 1;
-        next = next_with(side, after, order_at(rows, i), next);
+        let k = key_past(side, after, order_at(rows, i));
+        if is_sooner(k, least) {
+            least = k;
+            at = i;
+        }
     }
-    next
+    if least == 0 {
+        return Next::Nothing;
+    }
+    Next::At {
+        order: order_at(rows, at),
+        key: least,
+    }
 }
 
 // The best price of the side, 0 where it is empty.

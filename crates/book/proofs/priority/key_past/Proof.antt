@@ -1,8 +1,8 @@
 -- Each return is by one reason why the order does not count, or does.
 use Rattle.book.proofs.Nexts.{not-live, not-its-side, not-past, it-counts}
 use borrow.Author.Needs.{needs}
-use Rattle.book.proofs.priority.next_with.Statement.{statement}
-use Rattle.book.proofs.priority.next_with.Tie as tie
+use Rattle.book.proofs.priority.key_past.Statement.{statement}
+use Rattle.book.proofs.priority.key_past.Tie as tie
 
 returns : tie.Need-returns
 returns c = rw (not-live _ _ (c .before .before .args .o) (c .if1 .taken))
@@ -16,16 +16,12 @@ key-of-requires c κs = search needs
 returns-3 : tie.Need-returns-3
 returns-3 c = rw (not-past _ _ _ _ (c .before .key-of .ensures) (c .if3 .taken))
 
-sooner-of-requires : tie.Need-sooner-of-requires
-sooner-of-requires c κs = search needs
-
 returns-4 : tie.Need-returns-4
 returns-4 c =
     rw
-    (it-counts _ _ _ _ (c .before .before .before .before .before .if1 .left) (c .before .before .before .if2 .left)
-    (c .before .before .key-of .ensures) (c .before .if3 .left))
-    (c .sooner-of .ensures)
+    (it-counts _ _ _ _ (c .before .before .before .before .if1 .left) (c .before .before .if2 .left)
+    (c .before .key-of .ensures) (c .if3 .left))
+    (c .before .key-of .ensures)
 
-pub next-with-spec : {M : Type 1} → statement M
-next-with-spec =
-    tie.close (tie.spec returns returns-2 key-of-requires returns-3 sooner-of-requires returns-4)
+pub key-past-spec : {M : Type 1} → statement M
+key-past-spec = tie.close (tie.spec returns returns-2 key-of-requires returns-3 returns-4)

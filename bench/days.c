@@ -1,0 +1,176 @@
+/* Random days: each seed opens a day and makes calls on it, some of them with day, book or lengths damaged for one call. */
+#include "compare.h"
+#include "runs.h"
+#include <stdio.h>
+
+/* ---- chance */
+
+static uint64_t state;
+
+/* The generator SplitMix64: a seed gives the same day on every machine. */
+static uint64_t any_number(void) {
+    state += 0x9e3779b97f4a7c15ull;
+    uint64_t z = state;
+    z = (z ^ z >> 30) * 0xbf58476d1ce4e5b9ull;
+    z = (z ^ z >> 27) * 0x94d049bb133111ebull;
+    return z ^ z >> 31;
+}
+
+static uint64_t chance(uint64_t below) { return any_number() % below; }
+
+static int once_in(uint64_t n) { return chance(n) == 0; }
+
+/* A number that is likely to sit on an edge. */
+static uint64_t edge(void) {
+    static const uint64_t edges[] = {
+        0,     1,     2,     4,     99,     100,    33299,   33300,   33899,      33900,          53819,      53820,
+        53999, 54000, 86399, 86400, 999998, 999999, 1000000, 1000001, UINT32_MAX, UINT64_MAX - 1, UINT64_MAX, 1ull << 63};
+    return once_in(4) ? chance(2000000) : edges[chance(sizeof edges / sizeof edges[0])];
+}
+
+/* ---- calls on a random day */
+
+struct plan {
+    uint64_t seed, close, spread; /* prices are at most the spread away from the close */
+    size_t places;
+};
+
+static uint64_t random_price(const struct plan *plan) { return plan->close - plan->spread + chance(2 * plan->spread + 1); }
+
+static void random_lengths(void) {
+    struct lent *m = &lent;
+    size_t list = once_in(3) ? chance(400) : once_in(20) ? LONGEST - chance(50) : 64 * 32 + chance(40);
+    lend(m->day_length, m->book_length, list, once_in(2) ? 48 : chance(70));
+}
+
+static void random_order(const struct plan *plan, uint64_t *a) {
+    a[0] = chance(2);
+    a[1] = once_in(2) ? 0 : chance(5);
+    a[2] = 1 + chance(3);
+    a[3] = 100 * (1 + chance(once_in(4) ? 40 : 5)) + (once_in(5) ? chance(100) : 0);
+    a[4] = random_price(plan);
+    if (once_in(12)) a[chance(5)] = edge();
+}
+
+static void random_cancel(uint64_t *a) {
+    const struct lent *m = &lent;
+    size_t n = m->book_length / 40;
+    a[0] = 1 + chance(3);
+    a[1] = 1 + chance(60);
+    if (n && !once_in(3)) {
+        size_t p = chance(n);
+        a[0] = number_at(m->book, 5 * p + 1);
+        a[1] = number_at(m->book, 5 * p + 4);
+    }
+    if (once_in(10)) a[chance(2)] = edge();
+}
+
+/* A day on which nothing can be entered is moved on, or opened anew. */
+static int is_idle(void) {
+    uint64_t now = number_at(lent.day, 2);
+    return now < 33300 || (now >= 33900 && now < 34200) || (now >= 41400 && now < 46800) || now >= 54000;
+}
+
+static uint64_t random_time(void) {
+    static const uint64_t rows[] = {33300, 33600, 33900, 34200, 41400, 46800, 53820, 54000};
+    uint64_t now = lent.day_length == 64 ? number_at(lent.day, 2) : 0;
+    if (once_in(12)) return edge();
+    if (once_in(3) && !is_idle()) return now + chance(100);
+    for (size_t i = 0; i < sizeof rows / sizeof rows[0]; i++)
+        if (rows[i] > now) return rows[i] - once_in(8) + (once_in(20) ? chance(30000) : 0);
+    return now;
+}
+
+/* Day and book are damaged for one call: one number is set to an edge, or one byte is changed, or a length. */
+static void damage(void) {
+    struct lent *m = &lent;
+    size_t n = m->book_length / 40;
+    if (once_in(6)) {
+        size_t day = once_in(2) ? 64 : chance(130), book = once_in(3) ? LONGEST - chance(100) : chance(m->book_length + 81);
+        lend(day, book, m->list_length, m->reply_length);
+    } else if (once_in(6)) {
+        put_number(m->day, 3, 999999);
+    } else if (once_in(2) || !n) {
+        put_number(m->day, chance(8), edge());
+    } else if (once_in(2)) {
+        put_number(m->book, 5 * chance(n) + chance(5), once_in(2) ? edge() : number_at(m->book, chance(5 * n)));
+    } else {
+        m->book[chance(40 * n)] ^= (uint8_t)(1u << chance(8));
+    }
+}
+
+static int pick_call(void) {
+    static const int likely[] = {ORDER,  ORDER,  ORDER,  ORDER,  ORDER, ORDER, CANCEL,
+                                 CANCEL, CANCEL, REPORT, REPORT, LIST,  LIST,  CLOCK};
+    if (once_in(150)) return OPEN;
+    if (is_idle() && once_in(3)) return number_at(lent.day, 2) < 54000 ? CLOCK : OPEN;
+    return likely[chance(sizeof likely / sizeof likely[0])];
+}
+
+static void one_call(const struct plan *plan) {
+    uint64_t a[5] = {0};
+    int which = pick_call();
+    random_lengths();
+    if (which == OPEN) {
+        a[0] = once_in(6) ? edge() : plan->close;
+        a[1] = once_in(6) ? edge() : chance(2);
+    } else if (which == ORDER) {
+        random_order(plan, a);
+    } else if (which == CANCEL) {
+        random_cancel(a);
+    } else if (which == CLOCK) {
+        a[0] = random_time();
+    } else if (which == LIST) {
+        a[0] = once_in(3) ? edge() : random_price(plan);
+    }
+    compare(plan->seed, which, a);
+}
+
+static void damaged_call(const struct plan *plan) {
+    keep_memory();
+    damage();
+    one_call(plan);
+    restore_memory();
+}
+
+/* A book that is nearly full from the start, at a time that takes orders; its sides meet only where they may. */
+static void fill_book(const struct plan *plan) {
+    static const uint64_t times[] = {33300, 33600, 34200, 46800, 53820};
+    const struct lent *m = &lent;
+    uint64_t time = times[chance(5)], n = m->book_length / 40;
+    int apart = time == 34200 || time == 46800;
+    put_number(m->day, 2, time);
+    put_number(m->day, 3, n);
+    for (uint64_t p = 0; p < n; p++) {
+        uint64_t side = chance(2), price = random_price(plan);
+        if (once_in(8) || (apart && (price == plan->close || (price > plan->close) != (side == 1)))) continue;
+        const uint64_t order[5] = {side, 1 + chance(3), 1 + chance(5000), price, n - p};
+        for (size_t i = 0; i < 5; i++) put_number(m->book, 5 * p + i, order[i]);
+    }
+}
+
+static struct plan plan_day(uint64_t seed) {
+    static const uint64_t closes[] = {1, 5, 100, 1000, 1001, 25000, 999999};
+    static const uint64_t sizes[] = {1, 2, 3, 8, 8, 30, 30, 100, 1024, 4096};
+    struct plan plan = {seed, closes[chance(sizeof closes / sizeof closes[0])], 0, 0};
+    plan.spread = 1 + chance(once_in(2) ? 8 : 60);
+    if (plan.spread >= plan.close) plan.spread = plan.close - 1;
+    plan.places = sizes[chance(sizeof sizes / sizeof sizes[0])];
+    return plan;
+}
+
+void run_seed(uint64_t seed) {
+    state = seed;
+    struct plan plan = plan_day(seed);
+    uint64_t opening[] = {plan.close, !once_in(4)}, before = failed, count = plan.places > 100 ? 60 : 250;
+    fill_memory(any_number);
+    lend(64, 40 * plan.places + (once_in(2) ? chance(40) : 0), 32, 48);
+    compare(seed, OPEN, opening);
+    if (once_in(3)) fill_book(&plan);
+    for (uint64_t i = 0; i < count; i++) {
+        one_call(&plan);
+        if (once_in(4)) damaged_call(&plan);
+    }
+    printf("seed %llu: %zu places, close %llu: %s\n", (unsigned long long)seed, plan.places, (unsigned long long)plan.close,
+           failed == before ? "same" : "DIFFERENT");
+}

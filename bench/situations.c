@@ -1,0 +1,136 @@
+/* The rehearsed situations of the rules and their whole session, with the numbers that the rules print. */
+#include "compare.h"
+#include "runs.h"
+
+static uint64_t make(int which, uint64_t a, uint64_t b, uint64_t c, uint64_t d, uint64_t e) {
+    const uint64_t asked[] = {a, b, c, d, e};
+    return compare(0, which, asked);
+}
+
+static uint64_t move_to(uint64_t time) { return make(CLOCK, time, 0, 0, 0, 0); }
+
+static uint64_t take_out(uint64_t account, uint64_t number) { return make(CANCEL, account, number, 0, 0, 0); }
+
+static uint64_t buy(uint64_t quantity, uint64_t price) { return make(ORDER, 0, 0, 7, quantity, price); }
+
+static uint64_t sell(uint64_t quantity, uint64_t price) { return make(ORDER, 1, 0, 8, quantity, price); }
+
+/* A buy of one of the four market kinds. */
+static uint64_t buy_of_kind(uint64_t kind, uint64_t account, uint64_t quantity, uint64_t limit) {
+    return make(ORDER, 0, kind, account, quantity, limit);
+}
+
+/* The values of a reply, from 1 on. */
+static uint64_t value(size_t i) { return number_at(lent.reply, i); }
+
+static void open_at(uint64_t close, uint64_t time) {
+    clear_memory(0);
+    lend(64, 40 * 16, 32 * 64, 48);
+    make(OPEN, close, 1, 0, 0, 0);
+    move_to(time);
+}
+
+/* How many prices qualify and from which on, and the report. */
+static void expect_auction(const char *name, uint64_t count, uint64_t from, uint64_t price, int64_t surplus) {
+    make(LIST, 0, 0, 0, 0, 0);
+    expect(name, value(1), count);
+    if (count) expect(name, number_at(lent.list, 0), from);
+    make(REPORT, 0, 0, 0, 0, 0);
+    expect(name, value(1), price);
+    expect(name, value(3), (uint64_t)surplus);
+}
+
+static void run_auctions(void) {
+    static const uint64_t closes_and_prices[3][2] = {{1000, 1000}, {980, 990}, {1030, 1010}};
+    open_at(1000, 33300);
+    expect_auction("a", 0, 0, 0, 0);
+    buy(100, 990), sell(100, 1000);
+    expect_auction("b", 0, 0, 0, 0);
+    open_at(1000, 33300);
+    buy(300, 1000), sell(100, 900);
+    expect_auction("c", 1, 1000, 1000, 200);
+    for (int i = 0; i < 3; i++) {
+        open_at(closes_and_prices[i][0], 33300);
+        buy(200, 1010), sell(200, 990);
+        expect_auction("d", 21, 990, closes_and_prices[i][1], 0);
+    }
+    open_at(1000, 33300);
+    buy(100, 1010), buy(100, 1000), sell(100, 990);
+    expect_auction("e", 11, 1000, 1001, 0);
+    open_at(1005, 33300);
+    buy(100, 1010), buy(100, 1000), sell(100, 990), sell(100, 1001);
+    expect_auction("f", 2, 1000, 1001, -100);
+}
+
+/* g, h and i: base, the side of the order that makes it, the side asked, a price inside and one outside. */
+static void run_ranges(void) {
+    static const uint64_t rows[3][5] = {{1050, 1, 0, 1102, 1103}, {950, 0, 1, 903, 902}, {150, 1, 0, 160, 161}};
+    for (int i = 0; i < 3; i++) {
+        const uint64_t *row = rows[i];
+        open_at(row[0], 34200);
+        make(ORDER, row[1], 0, 8, 100, row[0]);
+        expect("g, h, i: outside", make(ORDER, row[2], 0, 7, 100, row[4]), 9);
+        expect("g, h, i: inside", make(ORDER, row[2], 0, 7, 100, row[3]), 0);
+    }
+}
+
+static void run_refusals(void) {
+    open_at(1001, 33300);
+    expect("j: 701", buy(100, 701), 0);
+    expect("j: 700", buy(100, 700), 8);
+    expect("j: 1301", sell(100, 1301), 0);
+    expect("j: 1302", sell(100, 1302), 8);
+    expect("99 shares", buy(99, 1000), 6);
+    expect("1,000,001 shares", buy(1000001, 1000), 6);
+    expect("kind 2 at 33,300", buy_of_kind(2, 7, 100, 1000), 5);
+}
+
+static void open_with_six_sells(void) {
+    open_at(1000, 34200);
+    for (uint64_t p = 1001; p <= 1006; p++) sell(100, p);
+}
+
+/* k and l. What rests stands at the lowest free place, which is the first. */
+static void run_five_prices(void) {
+    open_with_six_sells();
+    buy_of_kind(3, 7, 600, 1300);
+    expect("k: filled", value(2), 500);
+    expect("k: withdrawn", value(4), 100);
+    expect("k: levels", value(5), 5);
+    open_with_six_sells();
+    buy_of_kind(4, 7, 600, 1300);
+    expect("l: resting", value(3), 100);
+    expect("l: at", number_at(lent.book, 3), 1005);
+    open_with_six_sells();
+    buy_of_kind(4, 7, 600, 1003);
+    expect("l, limit 1003: resting", value(3), 300);
+    expect("l, limit 1003: at", number_at(lent.book, 3), 1003);
+}
+
+void run_situations(void) {
+    run_auctions();
+    run_ranges();
+    run_refusals();
+    run_five_prices();
+}
+
+void run_session(void) {
+    open_at(1000, 33300);
+    expect("session: buy", buy(200, 1010), 0);
+    expect("session: sell", sell(300, 990), 0);
+    move_to(33600);
+    expect("session: locked", take_out(7, 1), 4);
+    move_to(34200);
+    expect("session: trades", value(2), 1);
+    expect("session: price", number_at(lent.list, 0), 990);
+    expect("session: quantity", number_at(lent.list, 1), 200);
+    buy_of_kind(1, 9, 150, 1300);
+    expect("session: filled", value(2), 100);
+    expect("session: resting", value(3), 50);
+    expect("session: levels", value(5), 1);
+    take_out(9, 3);
+    expect("session: withdrawn", value(1), 50);
+    expect("session: gone", take_out(9, 3), 12);
+    move_to(54000);
+    expect("session: closed", value(1), 0);
+}

@@ -1,0 +1,146 @@
+/* Measures each call on bytes beside the independent engine, which tests soundness as well, and beside one pass over the book: a
+ * plain sum of its 64-bit numbers. In a round each case is measured once in all three ways, one after the other, from the same
+ * memory; the least time of all rounds counts, as what else runs on the machine only adds. Prints docs/SPEED.md's tables. */
+#define _POSIX_C_SOURCE 199309L
+#include "compare.h"
+#include <stdio.h>
+#include <stdlib.h>
+#include <string.h>
+#include <time.h>
+
+enum { ROUNDS = 300, SUMS = 16, CASES = 9, MOST = 4096 };
+
+static uint8_t day_bytes[64], book_bytes[40 * MOST], list_bytes[32 * MOST], reply_bytes[48];
+static uint8_t day_before[64], book_before[40 * MOST];
+static uint8_t day_after[64], book_after[40 * MOST];
+
+/* ---- the days that are measured */
+
+static void put_order(size_t place, uint64_t side, uint64_t price) {
+    const uint64_t order[5] = {side, 7, 100, price, place + 1};
+    for (size_t i = 0; i < 5; i++) put_number(book_before, 5 * place + i, order[i]);
+}
+
+/* A limited day with close 1,000 and as many live orders of 100 shares, buys and sells in turn: prices 950 to 999 and 1,001 to
+ * 1,050, or, where they cross, 976 to 1,025 on both sides. */
+static void prepare(uint64_t time, size_t live, int cross) {
+    const uint64_t day[8] = {1000, 1, time, live, 0, 0, 0, 0};
+    for (size_t i = 0; i < 8; i++) put_number(day_before, i, day[i]);
+    memset(book_before, 0, sizeof book_before);
+    for (size_t p = 0; p < live; p++) {
+        uint64_t side = p % 2, step = p / 2 % 50;
+        put_order(p, side, cross ? 976 + step : side ? 1001 + step : 999 - step);
+    }
+}
+
+struct measured {
+    const char *name;
+    int which, cross;
+    uint64_t time, asked[5];
+};
+
+static const struct measured cases[CASES] = {
+    {"open", OPEN, 0, 34200, {1000, 1}},
+    {"order that rests", ORDER, 0, 34200, {0, 0, 9, 100, 1000}},
+    {"order with 1 trade", ORDER, 0, 34200, {0, 0, 9, 100, 1001}},
+    {"order with 4 trades", ORDER, 0, 34200, {0, 0, 9, 400, 1050}},
+    {"cancel", CANCEL, 0, 34200, {7, 4}},
+    {"clock, nothing passed", CLOCK, 0, 34200, {34201}},
+    {"clock, opening auction", CLOCK, 1, 33300, {33900}},
+    {"report", REPORT, 1, 33300, {0}},
+    {"list", LIST, 1, 33300, {1}},
+};
+
+/* ---- time */
+
+static double nanoseconds(void) {
+    struct timespec t;
+    clock_gettime(CLOCK_MONOTONIC, &t);
+    return 1e9 * (double)t.tv_sec + (double)t.tv_nsec;
+}
+
+static void keep_least(double *least, double time) {
+    if (*least == 0 || time < *least) *least = time;
+}
+
+static uint64_t timed_call(call *made, struct lent *m, const uint64_t *asked, double *least) {
+    memcpy(day_bytes, day_before, sizeof day_bytes);
+    memcpy(book_bytes, book_before, m->book_length);
+    double start = nanoseconds();
+    uint64_t number = made(m, asked);
+    keep_least(least, nanoseconds() - start);
+    return number;
+}
+
+/* One pass: not inlined, so that no pass is left out as known already. */
+__attribute__((noinline)) static uint64_t sum_of(const uint64_t *numbers, size_t count) {
+    uint64_t sum = 0;
+    for (size_t i = 0; i < count; i++) sum += numbers[i];
+    return sum;
+}
+
+static volatile uint64_t sums;
+
+static void timed_pass(const struct lent *m, double *least) {
+    static uint64_t numbers[5 * MOST];
+    size_t count = m->book_length / 8;
+    memcpy(numbers, book_before, m->book_length);
+    double start = nanoseconds();
+    for (int i = 0; i < SUMS; i++) sums += sum_of(numbers, count);
+    keep_least(least, (nanoseconds() - start) / SUMS);
+}
+
+/* ---- the tables */
+
+struct times {
+    double proved, independent, pass;
+};
+
+static void keep_after(void) {
+    memcpy(day_after, day_bytes, sizeof day_bytes);
+    memcpy(book_after, book_bytes, sizeof book_bytes);
+}
+
+static int same_after(void) {
+    return !memcmp(day_after, day_bytes, sizeof day_bytes) && !memcmp(book_after, book_bytes, sizeof book_bytes);
+}
+
+static void measure(const struct measured *c, size_t places, size_t live, struct times *t) {
+    struct lent m = {day_bytes, book_bytes, list_bytes, reply_bytes, 64, 40 * places, sizeof list_bytes, sizeof reply_bytes};
+    prepare(c->time, live, c->cross);
+    uint64_t got = timed_call(calls[c->which].proved, &m, c->asked, &t->proved);
+    keep_after();
+    uint64_t want = timed_call(calls[c->which].independent, &m, c->asked, &t->independent);
+    if (got || want || !same_after()) {
+        printf("%s: refused, or the engines differ\n", c->name);
+        exit(1);
+    }
+    timed_pass(&m, &t->pass);
+}
+
+static void print_times(const struct measured *c, const struct times *t) {
+    printf("| %s | %.1f | %.1f | %.2f | %.1f | %.1f |\n", c->name, t->proved / 1000, t->independent / 1000,
+           t->proved / t->independent, t->proved / t->pass, t->independent / t->pass);
+}
+
+static void print_table(size_t places, size_t live) {
+    struct times times[CASES] = {{0, 0, 0}};
+    double pass = 0;
+    for (int round = 0; round < ROUNDS; round++)
+        for (int c = 0; c < CASES; c++) measure(&cases[c], places, live, &times[c]);
+    for (int c = 0; c < CASES; c++) keep_least(&pass, times[c].pass);
+    for (int c = 0; c < CASES; c++) times[c].pass = pass;
+    printf("%zu places, %zu live orders; a pass takes %.2f microseconds.\n\n", places, live, pass / 1000);
+    printf("| call | proved, us | independent, us | proved / independent | proved, passes | independent, passes |\n");
+    printf("|---|---|---|---|---|---|\n");
+    for (int c = 0; c < CASES; c++) print_times(&cases[c], &times[c]);
+    printf("\n");
+}
+
+int main(void) {
+    for (size_t places = 1024; places <= MOST; places *= 4) {
+        print_table(places, 8);
+        print_table(places, places - 8);
+    }
+    return 0;
+}
