@@ -1,0 +1,11 @@
+pub mod Big
+pub mod OnRows
+pub mod Again
+pub mod CopiedLaws
+pub mod Copies
+pub mod Copied
+pub mod CopyCall
+pub mod Fresh
+pub mod PlacesLaws
+pub mod PlacesCall
+pub mod WorkCall
