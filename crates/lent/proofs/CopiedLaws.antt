@@ -1,4 +1,4 @@
--- Laws of `copied` (specs/Book.antt): none copied; one more copied; the length.
+-- Laws of `copied` (specs/Copying.antt): none copied; one more copied; the length.
 use mathlib.Core.Path.{_≡_, refl, ap}
 use Prim.Native.Nat.{ℕ, zero, suc, _≤_, _<_, _+_}
 use native.Mathlib.Nat.{not-suc-le-zero, le-of-suc-le-suc}

@@ -8,4 +8,7 @@ pub mod CopyCall
 pub mod Fresh
 pub mod PlacesLaws
 pub mod PlacesCall
+pub mod ThereAndBack
+pub mod ByKind
+pub mod BookRows
 pub mod WorkCall

@@ -1,4 +1,4 @@
--- Laws of `placesOf` (specs/Book.antt): a book of at most 4,096 places is copied whole, and a longer one not at all.
+-- Laws of `placesOf` (specs/Copying.antt): a book of at most 4,096 places is copied whole, and a longer one not at all.
 use mathlib.Core.Path.{_≡_, refl}
 use mathlib.Core.Bool.{Bool, true, false, not}
 use mathlib.Core.Logic.{_⊎_, inl, inr}
