@@ -3,6 +3,7 @@
 pub mod auctions;
 pub mod copying;
 pub mod events;
+pub mod sixteen;
 
 ghost use mathlib.Core.Path.{_≡_};
 ghost use Prim.Native.Nat.{_<_};
