@@ -60,7 +60,7 @@ trades-back (r ∷ rows) (h, e) =
 same-places : (m n : List (List ℕ)) → Places m → Places n → bookOf m ≡ bookOf n → m ≡ n
 same-places m n a b e = sym (places-back m a) ∙ ap rowsOf e ∙ places-back n b
 
-same-trades : (m n : List (List ℕ)) → Trades m → Trades n → tradesOf m ≡ tradesOf n → m ≡ n
+pub same-trades : (m n : List (List ℕ)) → Trades m → Trades n → tradesOf m ≡ tradesOf n → m ≡ n
 same-trades m n a b e = sym (trades-back m a) ∙ ap tradeRows e ∙ trades-back n b
 
 -- ---- the calls

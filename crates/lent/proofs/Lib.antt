@@ -11,4 +11,5 @@ pub mod PlacesCall
 pub mod ThereAndBack
 pub mod ByKind
 pub mod BookRows
+pub mod Determined
 pub mod WorkCall

@@ -1,0 +1,140 @@
+// Document 01's session on a book of sixteen order records. Each reply is printed as the rehearsal program prints it, and the
+// book after the orders of the opening call, before the cancels, and at the end.
+mod printing;
+
+use book::places::free_place;
+use lent::Answer;
+use lent::Event;
+use lent::sixteen::take_on_sixteen;
+use model::Asked;
+use model::Day;
+use model::OpenReply;
+use model::Order;
+use printing::print_answer;
+use printing::print_book;
+ghost use mathlib.Core.Path.{_≡_};
+ghost use Prim.Native.Nat.{_≤_};
+ghost use lib.ListN.{length};
+ghost use Rattle.book.specs.Rows.{tradesOf};
+ghost use Rattle.lent.specs.Calls.{eventCall};
+
+// The day and its book.
+pub struct Stand {
+    pub day: Day,
+    pub book: [Order; 16],
+}
+
+// The day as an answer leaves it.
+fn day_after(day: Day, answer: Answer) -> Day {
+    match answer {
+        Answer::Opened(reply) => match reply {
+            OpenReply::Refused(_) => day,
+            OpenReply::Opened(fresh) => fresh,
+        },
+        Answer::Moved(moved) => moved.day,
+        Answer::Entered(entered) => entered.day,
+        Answer::Cancelled(_) => day,
+    }
+}
+
+// One event: it is answered, the answer is printed, and day and book are those after it.
+fn step(s: Stand, trades: &mut [[u64; 4]], event: Event) -> Stand
+    requires { ⌜ length (now trades) ≤ 16 ⌝ }
+    ensures { λ r. ⌜ r .book ≡ eventCall event (s .book) (tradesOf (now (trades .entry))) .book ⌝ }
+{
+    let book = s.book;
+    let handed = take_on_sixteen(book, &mut *trades, event);
+    let answer = handed.answer;
+    print_answer(event, answer, trades);
+    let after = handed.book;
+    Stand {
+        day: day_after(s.day, answer),
+        book: after,
+    }
+}
+
+fn open(s: Stand, trades: &mut [[u64; 4]], close: u64, mark: u64) -> Stand
+    requires { ⌜ length (now trades) ≤ 16 ⌝ }
+{
+    step(s, trades, Event::Opens { close, mark })
+}
+
+fn wait(s: Stand, trades: &mut [[u64; 4]], time: u64) -> Stand
+    requires { ⌜ length (now trades) ≤ 16 ⌝ }
+{
+    let day = s.day;
+    step(s, trades, Event::Moves { day, time })
+}
+
+fn enter(s: Stand, trades: &mut [[u64; 4]], asked: Asked) -> Stand
+    requires { ⌜ length (now trades) ≤ 16 ⌝ }
+{
+    let day = s.day;
+    step(s, trades, Event::Enters { day, asked })
+}
+
+fn cancel(s: Stand, trades: &mut [[u64; 4]], account: u64, number: u64) -> Stand
+    requires { ⌜ length (now trades) ≤ 16 ⌝ }
+{
+    let day = s.day;
+    step(
+        s,
+        trades,
+        Event::Cancels {
+            day,
+            account,
+            number,
+        },
+    )
+}
+
+fn asked(side: u64, kind: u64, account: u64, quantity: u64, price: u64) -> Asked {
+    Asked {
+        side,
+        kind,
+        account,
+        quantity,
+        price,
+    }
+}
+
+// No day yet, and sixteen free places.
+fn before_the_day() -> Stand {
+    let free = free_place();
+    let book = [free; 16];
+    let day = Day {
+        close: 0,
+        limited: 0,
+        time: 0,
+        issued: 0,
+        shares: 0,
+        turnover: 0,
+        first: 0,
+        last: 0,
+    };
+    Stand { day, book }
+}
+
+fn session(trades: &mut [[u64; 4]])
+    requires { ⌜ length (now trades) ≤ 16 ⌝ }
+{
+    let mut s = open(before_the_day(), &mut *trades, 1000, 1);
+    s = wait(s, &mut *trades, 33_300);
+    s = enter(s, &mut *trades, asked(0, 0, 7, 200, 1010));
+    s = enter(s, &mut *trades, asked(1, 0, 8, 300, 990));
+    print_book(s.book);
+    s = wait(s, &mut *trades, 33_600);
+    s = cancel(s, &mut *trades, 7, 1);
+    s = wait(s, &mut *trades, 34_200);
+    s = enter(s, &mut *trades, asked(0, 1, 9, 150, 1300));
+    print_book(s.book);
+    s = cancel(s, &mut *trades, 9, 3);
+    s = cancel(s, &mut *trades, 9, 3);
+    s = wait(s, &mut *trades, 54_000);
+    print_book(s.book);
+}
+
+fn main() {
+    let mut trades = [[0u64; 4]; 16];
+    session(&mut trades);
+}
