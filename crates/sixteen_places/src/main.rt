@@ -13,10 +13,9 @@ use model::Order;
 use printing::print_answer;
 use printing::print_book;
 ghost use mathlib.Core.Path.{_≡_};
-ghost use Prim.Native.Nat.{_≤_};
-ghost use lib.ListN.{length};
 ghost use Rattle.book.specs.Rows.{tradesOf};
 ghost use Rattle.lent.specs.Calls.{eventCall};
+ghost use Rattle.sixteen_places.specs.Lists.{noTrades};
 
 // The day and its book.
 pub struct Stand {
@@ -38,14 +37,14 @@ fn day_after(day: Day, answer: Answer) -> Day {
 }
 
 // One event: it is answered, the answer is printed, and day and book are those after it.
-fn step(s: Stand, trades: &mut [[u64; 4]], event: Event) -> Stand
-    requires { ⌜ length (now trades) ≤ 16 ⌝ }
-    ensures { λ r. ⌜ r .book ≡ eventCall event (s .book) (tradesOf (now (trades .entry))) .book ⌝ }
+fn step(s: Stand, event: Event) -> Stand
+    ensures { λ r. ⌜ r .book ≡ eventCall event (s .book) (tradesOf noTrades) .book ⌝ }
 {
+    let mut trades = [[0u64; 4]; 16];
     let book = s.book;
-    let handed = take_on_sixteen(book, &mut *trades, event);
+    let handed = take_on_sixteen(book, &mut trades, event);
     let answer = handed.answer;
-    print_answer(event, answer, trades);
+    print_answer(event, answer, &trades);
     let after = handed.book;
     Stand {
         day: day_after(s.day, answer),
@@ -53,33 +52,24 @@ fn step(s: Stand, trades: &mut [[u64; 4]], event: Event) -> Stand
     }
 }
 
-fn open(s: Stand, trades: &mut [[u64; 4]], close: u64, mark: u64) -> Stand
-    requires { ⌜ length (now trades) ≤ 16 ⌝ }
-{
-    step(s, trades, Event::Opens { close, mark })
+fn open(s: Stand, close: u64, mark: u64) -> Stand {
+    step(s, Event::Opens { close, mark })
 }
 
-fn wait(s: Stand, trades: &mut [[u64; 4]], time: u64) -> Stand
-    requires { ⌜ length (now trades) ≤ 16 ⌝ }
-{
+fn wait(s: Stand, time: u64) -> Stand {
     let day = s.day;
-    step(s, trades, Event::Moves { day, time })
+    step(s, Event::Moves { day, time })
 }
 
-fn enter(s: Stand, trades: &mut [[u64; 4]], asked: Asked) -> Stand
-    requires { ⌜ length (now trades) ≤ 16 ⌝ }
-{
+fn enter(s: Stand, asked: Asked) -> Stand {
     let day = s.day;
-    step(s, trades, Event::Enters { day, asked })
+    step(s, Event::Enters { day, asked })
 }
 
-fn cancel(s: Stand, trades: &mut [[u64; 4]], account: u64, number: u64) -> Stand
-    requires { ⌜ length (now trades) ≤ 16 ⌝ }
-{
+fn cancel(s: Stand, account: u64, number: u64) -> Stand {
     let day = s.day;
     step(
         s,
-        trades,
         Event::Cancels {
             day,
             account,
@@ -115,26 +105,19 @@ fn before_the_day() -> Stand {
     Stand { day, book }
 }
 
-fn session(trades: &mut [[u64; 4]])
-    requires { ⌜ length (now trades) ≤ 16 ⌝ }
-{
-    let mut s = open(before_the_day(), &mut *trades, 1000, 1);
-    s = wait(s, &mut *trades, 33_300);
-    s = enter(s, &mut *trades, asked(0, 0, 7, 200, 1010));
-    s = enter(s, &mut *trades, asked(1, 0, 8, 300, 990));
-    print_book(s.book);
-    s = wait(s, &mut *trades, 33_600);
-    s = cancel(s, &mut *trades, 7, 1);
-    s = wait(s, &mut *trades, 34_200);
-    s = enter(s, &mut *trades, asked(0, 1, 9, 150, 1300));
-    print_book(s.book);
-    s = cancel(s, &mut *trades, 9, 3);
-    s = cancel(s, &mut *trades, 9, 3);
-    s = wait(s, &mut *trades, 54_000);
-    print_book(s.book);
-}
-
 fn main() {
-    let mut trades = [[0u64; 4]; 16];
-    session(&mut trades);
+    let mut s = open(before_the_day(), 1000, 1);
+    s = wait(s, 33_300);
+    s = enter(s, asked(0, 0, 7, 200, 1010));
+    s = enter(s, asked(1, 0, 8, 300, 990));
+    print_book(s);
+    s = wait(s, 33_600);
+    s = cancel(s, 7, 1);
+    s = wait(s, 34_200);
+    s = enter(s, asked(0, 1, 9, 150, 1300));
+    print_book(s);
+    s = cancel(s, 9, 3);
+    s = cancel(s, 9, 3);
+    s = wait(s, 54_000);
+    print_book(s);
 }
