@@ -1,11 +1,12 @@
--- The places of a lent book in a local array of 4,096 rows: how many are copied, and the two copies as a thin call makes them.
---     count, loaded, count-fits, length-loaded, length-stored     the numbers, and the lists' lengths
---     load-from-row, load-from-shared      `load` of a `&mut [Order]` that is open, a row of elements; and of a `&[Order]` that is held (`CopyCall.antt`)
---     store-to-row                         `store` to the open `&mut [Order]`
---     unit-typed, word-typed               what `load` and `places` return has the type of the local that it goes to
+-- The places of a lent book in a local array of 4,096 rows: how many are copied, and the two copies as the thin calls make them.
+--     count, loaded, count-fits, count-word, length-loaded, length-stored     the numbers, and the lists' lengths
+--     load-from-row       `load` of a `&mut [Order]` that is open, which is a row of elements
+--     load-from-shared    `load` of a `&[Order]` that is held
+--     store-to-row        `store` to the open `&mut [Order]`
+--     unit-typed, word-typed      what `load` and `places` return has the type of the local that it goes to
 -- Assumes `Given`, and a `Tables`.
 use mathlib.Core.Path.{_≡_, sym, _∙_, subst}
-use mathlib.Core.Logic.{_⊎_, inl, inr}
+use mathlib.Core.Logic.{inl, inr}
 use Prim.Native.Nat.{ℕ, zero-le, _≤_, _<_, _^_}
 use native.Mathlib.Nat.{le-refl, lt-of-le-of-lt}
 use mathlib.Core.List.{List, [], _∷_}
@@ -84,10 +85,13 @@ module _ (book : List Order) where
       pub load-from-row :
           (key : Name)
           → Triple 𝓤 (𝓣 .C key) (Load 𝓤 H A)
-          → ent 𝓤 (mean 𝓤 H A (at-book book ⊛ at-rows (fresh 4096))) (mean 𝓤 H A (later (raw (𝓣 .C key (book-slice ∷ sliceVal (c, 0) 4096 ∷ vint w64 count ∷ []) (λ w. mean 𝓤 H A (after-load w))))))
+          → ent 𝓤 (mean 𝓤 H A (at-book book ⊛ at-rows (fresh 4096)))
+          (mean 𝓤 H A (later (raw (𝓣 .C key (book-slice ∷ sliceVal (c, 0) 4096 ∷ vint w64 count ∷ []) (λ w. mean 𝓤 H A (after-load w))))))
       load-from-row key known =
-          subst (λ (m : ℕ). ent 𝓤 (mean 𝓤 H A (at-book book ⊛ at-rows (fresh 4096))) (mean 𝓤 H A (later (raw (𝓣 .C key (book-slice ∷ sliceVal (c, 0) m ∷ vint w64 count ∷ []) (λ w. mean 𝓤 H A (after-load w))))))) (length-fresh 4096)
-          (copy-on-rows T.the-row Rows T.the-row (λ o. o) rowOf free 𝓤 H A W b o book c 0 (fresh 4096) count gb (rows-room (fresh 4096) (length-fresh 4096)) count-word (count-fits .0, rw length-fresh (count-fits .1)) 𝓣 key known)
+          subst (λ (m : ℕ). ent 𝓤 (mean 𝓤 H A (at-book book ⊛ at-rows (fresh 4096)))
+          (mean 𝓤 H A (later (raw (𝓣 .C key (book-slice ∷ sliceVal (c, 0) m ∷ vint w64 count ∷ []) (λ w. mean 𝓤 H A (after-load w))))))) (length-fresh 4096)
+          (copy-on-rows T.the-row Rows T.the-row (λ o. o) rowOf free 𝓤 H A W b o book c 0 (fresh 4096) count gb
+          (rows-room (fresh 4096) (length-fresh 4096)) count-word (count-fits .0, rw length-fresh (count-fits .1)) 𝓣 key known)
 
       abbrev pub after-store : List (List ℕ) → Val → Item 𝓤
       after-store rows w = later (given (w ≡ vunit) (at-rows rows ⊛ at-book (copied orderOf count rows book)))
@@ -97,12 +101,16 @@ module _ (book : List Order) where
           → Triple 𝓤 (𝓣 .C key) (Store 𝓤 H A)
           → (rows : List (List ℕ))
           → length rows ≡ 4096
-          → ent 𝓤 (mean 𝓤 H A (at-rows rows ⊛ at-book book)) (mean 𝓤 H A (later (raw (𝓣 .C key (sliceVal (c, 0) 4096 ∷ book-slice ∷ vint w64 count ∷ []) (λ w. mean 𝓤 H A (after-store rows w))))))
+          → ent 𝓤 (mean 𝓤 H A (at-rows rows ⊛ at-book book))
+          (mean 𝓤 H A (later (raw (𝓣 .C key (sliceVal (c, 0) 4096 ∷ book-slice ∷ vint w64 count ∷ []) (λ w. mean 𝓤 H A (after-store rows w))))))
       store-to-row key known rows e =
-          subst (λ (m : ℕ). ent 𝓤 (mean 𝓤 H A (at-rows rows ⊛ at-book book)) (mean 𝓤 H A (later (raw (𝓣 .C key (sliceVal (c, 0) m ∷ book-slice ∷ vint w64 count ∷ []) (λ w. mean 𝓤 H A (after-store rows w))))))) e
-          (copy-on-rows Rows T.the-row T.the-row orderOf (λ o. o) [] 𝓤 H A W c 0 rows b o book count (rows-room rows e) gb count-word (rw e (count-fits .1), count-fits .0) 𝓣 key known)
+          subst (λ (m : ℕ). ent 𝓤 (mean 𝓤 H A (at-rows rows ⊛ at-book book))
+          (mean 𝓤 H A (later (raw (𝓣 .C key (sliceVal (c, 0) m ∷ book-slice ∷ vint w64 count ∷ []) (λ w. mean 𝓤 H A (after-store rows w))))))) e
+          (copy-on-rows Rows T.the-row T.the-row orderOf (λ o. o) [] 𝓤 H A W c 0 rows b o book count (rows-room rows e) gb count-word
+          (rw e (count-fits .1), count-fits .0) 𝓣 key known)
 
-module _ {M : Type 1} (𝓤 : URA M) (H : Heap 𝓤) (A : Atoms 𝓤) (W : Given 𝓤 H A) (𝓣 : Tables 𝓤 H) (κ : Lft) (q : Share) (x : RefT (List Order)) (gb : Room T.the-row (length (now x))) (c : ℕ) where
+module _ {M : Type 1} (𝓤 : URA M) (H : Heap 𝓤) (A : Atoms 𝓤) (W : Given 𝓤 H A) (𝓣 : Tables 𝓤 H) (κ : Lft) (q : Share) (x : RefT (List Order))
+    (gb : Room T.the-row (length (now x))) (c : ℕ) where
   abbrev held : Val
   held = sliceVal (x .ptr) (length (now x))
 
@@ -115,7 +123,10 @@ module _ {M : Type 1} (𝓤 : URA M) (H : Heap 𝓤) (A : Atoms 𝓤) (W : Given
   pub load-from-shared :
       (key : Name)
       → Triple 𝓤 (𝓣 .C key) (Load 𝓤 H A)
-      → ent 𝓤 (mean 𝓤 H A to-shared) (mean 𝓤 H A (later (raw (𝓣 .C key (held ∷ sliceVal (c, 0) 4096 ∷ vint w64 (count (now x)) ∷ []) (λ w. mean 𝓤 H A (after-shared w))))))
+      → ent 𝓤 (mean 𝓤 H A to-shared)
+      (mean 𝓤 H A (later (raw (𝓣 .C key (held ∷ sliceVal (c, 0) 4096 ∷ vint w64 (count (now x)) ∷ []) (λ w. mean 𝓤 H A (after-shared w))))))
   load-from-shared key known =
-      subst (λ (m : ℕ). ent 𝓤 (mean 𝓤 H A to-shared) (mean 𝓤 H A (later (raw (𝓣 .C key (held ∷ sliceVal (c, 0) m ∷ vint w64 (count (now x)) ∷ []) (λ w. mean 𝓤 H A (after-shared w))))))) (length-fresh 4096)
-      (copy-from-shared T.the-row Rows T.the-row (λ o. o) rowOf free 𝓤 H A W κ q x held c 0 (fresh 4096) (count (now x)) (rows-room (fresh 4096) (length-fresh 4096)) (count-word (now x) 𝓤 H A W 𝓣 gb) (count-fits (now x) .0, rw length-fresh (count-fits (now x) .1)) 𝓣 key known)
+      subst (λ (m : ℕ). ent 𝓤 (mean 𝓤 H A to-shared)
+      (mean 𝓤 H A (later (raw (𝓣 .C key (held ∷ sliceVal (c, 0) m ∷ vint w64 (count (now x)) ∷ []) (λ w. mean 𝓤 H A (after-shared w))))))) (length-fresh 4096)
+      (copy-from-shared T.the-row Rows T.the-row (λ o. o) rowOf free 𝓤 H A W κ q x held c 0 (fresh 4096) (count (now x))
+      (rows-room (fresh 4096) (length-fresh 4096)) (count-word (now x) 𝓤 H A W 𝓣 gb) (count-fits (now x) .0, rw length-fresh (count-fits (now x) .1)) 𝓣 key known)

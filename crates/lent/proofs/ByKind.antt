@@ -1,9 +1,7 @@
 -- An event or a question is answered by the call of its kind. Assumes nothing.
-use Prim.Native.Nat.{ℕ, _≤_}
+use Prim.Native.Nat.{ℕ}
 use mathlib.Core.Path.{_≡_, sym, ap, _∙_}
-use mathlib.Core.List.{List, _++_}
-use lib.ListN.{length, take, drop}
-use lib.Seq.{length-take-le, take-append-seam}
+use mathlib.Core.List.{List}
 use Rattle.model.specs.declared.Asked.{Asked}
 use Rattle.model.specs.declared.Day.{Day}
 use Rattle.model.specs.declared.OpenReply.{OpenReply}
@@ -12,19 +10,18 @@ use Rattle.model.specs.declared.ClockAnswer.{ClockAnswer}
 use Rattle.model.specs.declared.CancelReply.{CancelReply}
 use Rattle.model.specs.declared.ReportReply.{ReportReply}
 use Rattle.model.specs.declared.ListReply.{ListReply}
-use Rattle.model.specs.Calls.{Outcome, OpenOutcome, CancelOutcome, openCall, orderCall, cancelCall}
+use Rattle.model.specs.Calls.{OpenOutcome, CancelOutcome, openCall, orderCall, cancelCall}
 use Rattle.model.specs.ClockCall.{clockCall}
 use Rattle.model.specs.AuctionCalls.{ListOutcome, reportCall, listCall}
 use Rattle.book.specs.Rows.{bookOf, tradesOf}
 use Rattle.day.specs.Promises.{openLeft, left, cancelLeft, listLeft}
 use Rattle.lent.specs.declared.Event.{Event}
 use Rattle.lent.specs.declared.Event.the-variants.{Opens, Moves, Enters, Cancels}
-use Rattle.lent.specs.declared.Answer.{Answer}
 use Rattle.lent.specs.declared.Answer.the-variants.{Opened, Moved, Entered, Cancelled}
 use Rattle.lent.specs.declared.Question.{Question}
 use Rattle.lent.specs.declared.Question.the-variants.{Report, Prices}
 use Rattle.lent.specs.declared.Told.the-variants.{Reported, Listed}
-use Rattle.lent.specs.Calls.{answered, eventCall, EventOnRows, questionCall, questionLeft}
+use Rattle.lent.specs.Calls.{answered, eventCall, questionCall, questionLeft}
 
 module _ (event : Event) (rows rows′ trades : List (List ℕ)) where
   pub opened :
@@ -63,19 +60,6 @@ module _ (event : Event) (rows rows′ trades : List (List ℕ)) where
         → left (Entered r) rows′ trades′ ≡ eventCall event (bookOf rows) (tradesOf trades)
     unfolding eventCall
     entered e p = ap (answered Entered) p ∙ ap (λ (v : Event). eventCall v (bookOf rows) (tradesOf trades)) (sym e)
-
--- the part of the rows that was lent, with the rows behind it as they were
-pub on-part :
-    (rows part trades trades′ : List (List ℕ)) (k : ℕ) (event : Event) {answer : Answer}
-    → k ≤ length rows
-    → length part ≡ length (take k rows)
-    → left answer part trades′ ≡ eventCall event (bookOf (take k rows)) (tradesOf trades)
-    → EventOnRows rows k trades event answer (part ++ drop k rows) trades′
-on-part rows part trades trades′ k event {answer} h e p =
-    let n : length part ≡ k = e ∙ length-take-le k rows h in
-    ap (λ (l : List (List ℕ)). left answer l trades′)
-    (ap (λ (j : ℕ). take j (part ++ drop k rows)) (sym n) ∙ take-append-seam part (drop k rows))
-    ∙ p
 
 module _ (question : Question) (rows : List (List ℕ)) (prices : List ℕ) where
   pub reported :

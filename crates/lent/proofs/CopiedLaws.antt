@@ -1,10 +1,10 @@
--- Laws of `copied` (specs/Copying.antt): none copied; one more copied; the length.
+-- Laws of `copied` (specs/Copying.antt): none copied, one more copied, and the length. Assumes nothing.
 use mathlib.Core.Path.{_≡_, refl, ap}
 use Prim.Native.Nat.{ℕ, zero, suc, _≤_, _<_, _+_}
 use native.Mathlib.Nat.{not-suc-le-zero, le-of-suc-le-suc}
 use native.Mathlib.Numerals.{add-one}
-use mathlib.Core.List.{List, [], _∷_, map, _++_}
-use lib.ListN.{length, getD, set, take, drop}
+use mathlib.Core.List.{List, [], _∷_}
+use lib.ListN.{length, getD, set}
 use Rattle.lent.specs.Copying.{copied}
 
 module _ {X Y : Type 0} (f : X → Y) where

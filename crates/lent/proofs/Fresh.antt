@@ -1,7 +1,7 @@
--- A local array of n rows of zeros, as `[[0u64; 5]; n]` makes it, in memory. What the list is stays shut, so that no proof computes it.
---     fresh, length-fresh      the list, and its length
---     fresh-value, fresh-typed     its machine value, as MIR's `repeat` makes it, and that it has the array's type
---     fresh-row                the local is a row of elements
+-- A local array of n rows of zeros in memory, as `[[0u64; 5]; n]` makes it. What the list is stays shut, so that no proof computes it.
+--     fresh, length-fresh           the list, and its length
+--     fresh-value, fresh-typed      its machine value, and that it has the array's type
+--     fresh-row                     the local is a row of elements
 -- Assumes `Given`.
 use mathlib.Core.Path.{_≡_, refl}
 use Prim.Native.Nat.{ℕ, zero, suc}
@@ -17,7 +17,6 @@ use base.Fml.{fat}
 use prog.Wp.{Heap}
 use ghost.Atoms.{Atoms, sem}
 use types.Kit.{Given, ‵, _$_, _∵_, !, qed, by, move, use1}
-use denote.RattleType.{RattleType}
 use denote.Laws.{Is}
 use denote.Plain.{uint-makes, uint-copy}
 use denote.Array.{Array, arrayVal, array-repeat, array-copy}
@@ -53,10 +52,13 @@ all-five (suc n) = all-five n
 pub fresh-typed : (n : ℕ) → Holds (hasTy (tyArray (tyArray (tyInt w64) 5) n) (fresh-value n)) × WT (fresh-value n)
 fresh-typed n = (all-five n, wt-rep n five (five-typed .1))
 
-pub fresh-row : {M : Type 1} (𝓤 : URA M) (H : Heap 𝓤) (A : Atoms 𝓤) (W : Given 𝓤 H A) (n b : ℕ) → ent 𝓤 (H .at fullShare (tyArray (tyArray (tyInt w64) 5) n) b 0 (fresh-value n)) (sem 𝓤 H A (row (Array u64 5) fullShare (fresh n) b 0))
+pub fresh-row : {M : Type 1} (𝓤 : URA M) (H : Heap 𝓤) (A : Atoms 𝓤) (W : Given 𝓤 H A) (n b : ℕ)
+    → ent 𝓤 (H .at fullShare (tyArray (tyArray (tyInt w64) 5) n) b 0 (fresh-value n)) (sem 𝓤 H A (row (Array u64 5) fullShare (fresh n) b 0))
 unfolding fresh
 fresh-row 𝓤 H A W n b =
     qed W (‵ (fat fullShare (tyArray (tyArray (tyInt w64) 5) n) b 0 (fresh-value n)) ∷ []) ∵
-    owned ! u64 (Is u64) (uint-makes 𝓤 H A W w64) 0 (vint w64 0 ∷ []) (refl, lit< tt) $ use1 W (‵ (Array u64 5 .own (replicate 5 0) (five ∷ []))) (array-repeat 𝓤 H A W u64 (uint-copy 𝓤 H A W w64) 5 0 (vint w64 0)) $
-    use1 W (‵ (Array (Array u64 5) n .own (replicate n (replicate 5 0)) (fresh-value n ∷ []))) (array-repeat 𝓤 H A W (Array u64 5) (array-copy 𝓤 H A W u64 (uint-copy 𝓤 H A W w64) 5) n (replicate 5 0) five) $
+    owned ! u64 (Is u64) (uint-makes 𝓤 H A W w64) 0 (vint w64 0 ∷ []) (refl, lit< tt) $
+    use1 W (‵ (Array u64 5 .own (replicate 5 0) (five ∷ []))) (array-repeat 𝓤 H A W u64 (uint-copy 𝓤 H A W w64) 5 0 (vint w64 0)) $
+    use1 W (‵ (Array (Array u64 5) n .own (replicate n (replicate 5 0)) (fresh-value n ∷ [])))
+    (array-repeat 𝓤 H A W (Array u64 5) (array-copy 𝓤 H A W u64 (uint-copy 𝓤 H A W w64) 5) n (replicate 5 0) five) $
     move ! (1 ∷ 0 ∷ []) $ by ! (array-row 𝓤 H A W (Array u64 5) n b tt (replicate n (replicate 5 0)) (fresh-value n))

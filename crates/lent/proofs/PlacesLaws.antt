@@ -1,5 +1,6 @@
--- Laws of `placesOf` (specs/Copying.antt): a book of at most 4,096 places is copied whole, and a longer one not at all.
-use mathlib.Core.Path.{_≡_, refl}
+-- A law of `placesOf` (specs/Copying.antt): a book of at most 4,096 places is copied whole, and a longer one not at all. Assumes
+-- nothing.
+use mathlib.Core.Path.{_≡_}
 use mathlib.Core.Bool.{Bool, true, false, not}
 use mathlib.Core.Logic.{_⊎_, inl, inr}
 use Prim.Native.Nat.{ℕ, _≤_, _<_}

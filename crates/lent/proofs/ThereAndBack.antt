@@ -3,11 +3,12 @@
 use Prim.Native.Nat.{ℕ, _≤_, _<_}
 use mathlib.Core.Path.{_≡_, refl, sym, ap, subst, _∙_}
 use mathlib.Core.Bool.{Bool, true, false, _&&_, and-false}
-use mathlib.Core.Logic.{_⊎_, inl, inr}
-use mathlib.Core.List.{List, [], _∷_, map, _++_}
+use mathlib.Core.Logic.{inl, inr}
+use mathlib.Core.List.{List, [], _∷_, _++_}
 use native.Mathlib.Nat.{not-suc-le-zero, le-of-suc-le-suc}
 use native.Mathlib.Omega.{arith}
 use lib.ListN.{length, take, drop}
+use lib.Seq.{length-take-le, take-append-seam}
 use Rattle.model.specs.declared.Order.{Order}
 use Rattle.model.specs.declared.Trade.{Trade}
 use Rattle.model.specs.declared.Day.{Day}
@@ -18,6 +19,7 @@ use Rattle.model.specs.Calls.{Outcome, openRules, openCall, orderRules, orderCa
 use Rattle.model.specs.ClockCall.{clockRules, clockCall}
 use Rattle.model.specs.AuctionCalls.{reportRules, reportCall, listRules, listCall}
 use Rattle.book.specs.Rows.{orderOf, rowOf, bookOf, tradesOf}
+use Rattle.day.specs.Promises.{left}
 use Rattle.soundness.proofs.SoundDays.{few-places}
 use Rattle.lent.specs.declared.Event.{Event}
 use Rattle.lent.specs.declared.Event.the-variants.{Opens, Moves, Enters, Cancels}
@@ -26,7 +28,7 @@ use Rattle.lent.specs.declared.Question.{Question}
 use Rattle.lent.specs.declared.Question.the-variants.{Report, Prices}
 use Rattle.lent.specs.declared.Told.{Told}
 use Rattle.lent.specs.Copying.{copied, placesOf}
-use Rattle.lent.specs.Calls.{eventCall, eventLeft, EventOnRows, View, questionCall, questionLeft, QuestionOnRows}
+use Rattle.lent.specs.Calls.{eventCall, eventLeft, EventOnRows, questionCall, questionLeft, QuestionOnRows}
 use Rattle.lent.proofs.CopiedLaws.{copied-none}
 use Rattle.lent.proofs.PlacesLaws.{places-are}
 
@@ -51,6 +53,19 @@ unfolding copied
 back [] rows l = refl
 back (o ∷ book) [] l = absurd (not-suc-le-zero l)
 back (o ∷ book) (r ∷ rows) l = ap (λ (os : List Order). orderOf r ∷ os) (back book rows (le-of-suc-le-suc l))
+
+-- the part of the rows that was lent, with the rows behind it as they were
+pub on-part :
+    (rows part trades trades′ : List (List ℕ)) (k : ℕ) (event : Event) {answer : Answer}
+    → k ≤ length rows
+    → length part ≡ length (take k rows)
+    → left answer part trades′ ≡ eventCall event (bookOf (take k rows)) (tradesOf trades)
+    → EventOnRows rows k trades event answer (part ++ drop k rows) trades′
+on-part rows part trades trades′ k event {answer} h e p =
+    let n : length part ≡ k = e ∙ length-take-le k rows h in
+    ap (λ (l : List (List ℕ)). left answer l trades′)
+    (ap (λ (j : ℕ). take j (part ++ drop k rows)) (sym n) ∙ take-append-seam part (drop k rows))
+    ∙ p
 
 -- ---- more places than a day can have
 
@@ -103,13 +118,15 @@ module _ (book : List Order) (rows : List (List ℕ)) (len : length rows ≡ 4_0
       → eventLeft answer (copied orderOf k rows′ book) trades′ ≡ eventCall event book (tradesOf trades)
   event-said rows′ trades trades′ event answer len′ e = elim (places-are (length book)) [
     | inl h ↦
-        let e′ : EventOnRows (copied rowOf (length book) book rows) (length book) trades event answer rows′ trades′ = subst (λ (j : ℕ). EventOnRows (copied rowOf j book rows) j trades event answer rows′ trades′) (h .1) e in
+        let e′ : EventOnRows (copied rowOf (length book) book rows) (length book) trades event answer rows′ trades′ = subst
+        (λ (j : ℕ). EventOnRows (copied rowOf j book rows) j trades event answer rows′ trades′) (h .1) e in
         ap (λ (j : ℕ). eventLeft answer (copied orderOf j rows′ book) trades′) (h .1)
         ∙ ap (λ (os : List Order). eventLeft answer os trades′) (back book rows′ (omega arith))
         ∙ e′
         ∙ ap (λ (os : List Order). eventCall event os (tradesOf trades)) (there book rows (omega arith))
     | inr h ↦
-        let e′ : EventOnRows (copied rowOf 0 book rows) 0 trades event answer rows′ trades′ = subst (λ (j : ℕ). EventOnRows (copied rowOf j book rows) j trades event answer rows′ trades′) (h .1) e in
+        let e′ : EventOnRows (copied rowOf 0 book rows) 0 trades event answer rows′ trades′ = subst
+        (λ (j : ℕ). EventOnRows (copied rowOf j book rows) j trades event answer rows′ trades′) (h .1) e in
         ap (λ (j : ℕ). eventLeft answer (copied orderOf j rows′ book) trades′) (h .1)
         ∙ ap (λ (os : List Order). eventLeft answer os trades′) (copied-none orderOf rows′ book)
         ∙ ap (λ (o : Outcome Answer). record { answer = o .answer; book = book; trades = o .trades }) e′

@@ -1,7 +1,7 @@
 -- A call of the covered function that does the work of a thin one, on a row of elements in memory:
 --     fn work(rows: &mut [[u64; 5]], k: usize, list: &mut [E], q: Q) -> B
--- It requires that there are k rows, and ensures Does. The rows are lent for a lifetime that is made for the call (`mut-out`) and come back
--- (`mut-back`); the list and the question are passed on for good, so of the list its last value is told (`finally`).
+-- It requires that there are k rows, and ensures Does. The rows are lent for a lifetime that is made for the call (`mut-out`) and come
+-- back (`mut-back`); the list and the question are passed on for good, so of the list its last value is told (`finally`).
 --     Work             its contract, which is by computation what the check makes of such clauses
 --     worked           what is had once it has returned: the rows, the list's last value, the answer, and Does of them
 --     work-on-rows     the call
@@ -41,7 +41,16 @@ use Rattle.lent.proofs.PlacesCall.{Rows}
 
 module _ (E Q B : RattleType) (Does : List (List ℕ) → ℕ → List (E .Denot) → Q .Denot → B .Denot → List (List ℕ) → List (E .Denot) → Type 0) where
   abbrev workEnded : Ended
-  workEnded = record { signature = record { lifetimes = 2; outlives = []; params = mutSliceOf (0 ∷ []) tt (plain (λ _. Rows)) ∷ plain (λ _. usize) ∷ mutSliceOf (1 ∷ []) tt (plain (λ _. E)) ∷ plain (λ _. Q) ∷ []; result = plain (λ _. B) }; kept = (yes, (yes, (yes, (yes, tt)))) }
+  workEnded = record {
+    signature = record {
+      lifetimes = 2;
+      outlives = [];
+      params = mutSliceOf (0 ∷ []) tt (plain (λ _. Rows)) ∷ plain
+          (λ _. usize) ∷ mutSliceOf (1 ∷ []) tt (plain (λ _. E)) ∷ plain (λ _. Q) ∷ [];
+      result = plain (λ _. B);
+    };
+    kept = (yes, (yes, (yes, (yes, tt))));
+  }
 
   abbrev workClauses : {M : Type 1} (𝓤 : URA M) → Clauses 𝓤 workEnded
   workClauses 𝓤 κs a = record {
@@ -55,7 +64,8 @@ module _ (E Q B : RattleType) (Does : List (List ℕ) → ℕ → List (E .Denot
     Work = tripleOf 𝓤 H A (workEnded .signature) (closing 𝓤 H A workEnded (workClauses 𝓤))
 
     -- the rows rs at c, the list x with its lifetime's token, the question y
-    module _ (W : Given 𝓤 H A) (𝓣 : Tables 𝓤 H) (c : ℕ) (rs : List (List ℕ)) (k : ℕ) (κ : Lft) (q : Share) (x : RefT (List (E .Denot))) (t : Val) (y : Q .Denot) (u : Val) (gk : k < 2 ^ 64) (len : length rs ≡ 4096) (fits : k ≤ length rs) where
+    module _ (W : Given 𝓤 H A) (𝓣 : Tables 𝓤 H) (c : ℕ) (rs : List (List ℕ)) (k : ℕ) (κ : Lft) (q : Share) (x : RefT (List (E .Denot))) (t : Val)
+        (y : Q .Denot) (u : Val) (gk : k < 2 ^ 64) (len : length rs ≡ 4096) (fits : k ≤ length rs) where
       abbrev s : Val
       s = sliceVal (c, 0) (length rs)
 
@@ -78,7 +88,8 @@ module _ (E Q B : RattleType) (Does : List (List ℕ) → ℕ → List (E .Denot
         to-work = (((ν ∷ [], (κ, tt)), (fullShare, (q, tt)), tt, (z, (k, (x, (y, tt)))), (s ∷ [], (vint w64 k ∷ [], (t ∷ [], (u ∷ [], tt))))), tt)
 
         abbrev had : Item 𝓤
-        had = ‵ (flft (ν ∷ []) fullShare) ⊛ ‵ (MutSlice (named 0) (ν ∷ []) Rows .own z (s ∷ [])) ⊛ ‵ (flft κ q) ⊛ ‵ (MutSlice (named 1) κ E .own x (t ∷ [])) ⊛ ‵ (Q .own y (u ∷ []))
+        had = ‵ (flft (ν ∷ []) fullShare) ⊛ ‵ (MutSlice (named 0) (ν ∷ []) Rows .own z (s ∷ [])) ⊛ ‵ (flft κ q)
+            ⊛ ‵ (MutSlice (named 1) κ E .own x (t ∷ [])) ⊛ ‵ (Q .own y (u ∷ []))
 
         abbrev kept : Item 𝓤
         kept = ‵ (MutKept 𝓤 H A W Rows (ν ∷ []) c 0 (length rs) γ)
@@ -88,25 +99,32 @@ module _ (E Q B : RattleType) (Does : List (List ℕ) → ℕ → List (E .Denot
             qed W (had ∷ []) ∵ split ! $ move ! (1 ∷ []) $ split ! $ move ! (1 ∷ []) $ split ! $ move ! (1 ∷ []) $ split ! $
             -- [the list; the question; its token; the rows; the token of the call]
             says ! fits $ nothing ! $ move ! (3 ∷ 0 ∷ []) $ join ! $ move ! (4 ∷ 0 ∷ []) $ join ! $ frame ! $
-            nothing ! $ move ! (2 ∷ 0 ∷ []) $ fjoin ! $ move ! (1 ∷ 0 ∷ []) $ fjoin ! $ owned ! usize (Is usize) (uint-makes 𝓤 H A W w64) k _ (refl, gk) $ fjoin ! $ move ! (1 ∷ 0 ∷ []) $ fjoin ! $ done !
+            nothing ! $ move ! (2 ∷ 0 ∷ []) $ fjoin ! $ move ! (1 ∷ 0 ∷ []) $ fjoin ! $
+            owned ! usize (Is usize) (uint-makes 𝓤 H A W w64) k _ (refl, gk) $ fjoin ! $ move ! (1 ∷ 0 ∷ []) $ fjoin ! $ done !
 
         work-post : (w : Val) → ent 𝓤 (sep 𝓤 (Work .post to-work w) (mean 𝓤 H A kept)) (mean 𝓤 H A (worked w))
         work-post w =
             qed W (later (some (λ (r : B .Denot). ((‵ (flft (ν ∷ []) fullShare) ⊛ ‵ (flft κ q) ⊛ ‵ ftrue) ⊛ ‵ (B .own r (w ∷ [])))
-            ⊛ some (λ (vs : Lasts workEnded (ν ∷ [], (κ, tt)) (z, (k, (x, (y, tt))))). ‵ (lasts workEnded (ν ∷ [], (κ, tt)) (z, (k, (x, (y, tt)))) vs) ⊛ raw (fact 𝓤 (Does rs k (now x) y r (vs .0) (vs .1 .1 .0)))))) ∷ kept ∷ []) ∵
-            updating ! $ await ! tt $ pick ! (λ r. split ! $ move ! (1 ∷ []) $ pick ! (λ vs. split ! $ move ! (1 ∷ []) $ heard ! (Does rs k (now x) y r (vs .0) (vs .1 .1 .0)) (λ e.
+            ⊛ some (λ (vs : Lasts workEnded (ν ∷ [], (κ, tt)) (z, (k, (x, (y, tt))))). ‵ (lasts workEnded (ν ∷ [], (κ, tt)) (z, (k, (x, (y, tt)))) vs)
+            ⊛ raw (fact 𝓤 (Does rs k (now x) y r (vs .0) (vs .1 .1 .0)))))) ∷ kept ∷ []) ∵
+            updating ! $ await ! tt $ pick ! (λ r. split ! $ move ! (1 ∷ []) $ pick ! (λ vs. split ! $ move ! (1 ∷ []) $
+            heard ! (Does rs k (now x) y r (vs .0) (vs .1 .1 .0)) (λ e.
             fsplit ! $ fsplit ! $ move ! (1 ∷ []) $ feqL ! (λ len₀. move ! (1 ∷ []) $ fsplit ! $ drop ! $ fsplit ! $ fsplit ! $ move ! (1 ∷ []) $ feqL ! (λ len₁.
             move ! (3 ∷ []) $ split ! $ split ! $ move ! (1 ∷ []) $ split ! $ move ! (2 ∷ []) $ lft-end ! tt $
             move ! (0 ∷ 7 ∷ 6 ∷ []) $ use3 W (later (‵ (row Rows fullShare (vs .0) c 0))) (mut-back 𝓤 H A W Rows (ν ∷ []) c 0 (length rs) γ (vs .0)) $ await ! tt $
-            at-once ! $ show ! (λ (a : Left). mean 𝓤 H A (after-work w a)) (r, (vs .0, vs .1 .1 .0)) $ check ! (len₀ ∙ len, (len₁, e)) $ keep ! (0 ∷ 1 ∷ 4 ∷ 3 ∷ []) $ done !)))))
+            at-once ! $ show ! (λ (a : Left). mean 𝓤 H A (after-work w a)) (r, (vs .0, vs .1 .1 .0)) $ check ! (len₀ ∙ len, (len₁, e)) $
+            keep ! (0 ∷ 1 ∷ 4 ∷ 3 ∷ []) $ done !)))))
 
       abbrev pub to-rows : Item 𝓤
       to-rows = ‵ (row Rows fullShare rs c 0) ⊛ ‵ (flft κ q) ⊛ ‵ (MutSlice (named 1) κ E .own x (t ∷ [])) ⊛ ‵ (Q .own y (u ∷ []))
 
-      pub work-on-rows : (kw : Name) → Triple 𝓤 (𝓣 .C kw) Work → ent 𝓤 (mean 𝓤 H A to-rows) (H .⇛ (𝓣 .C kw (sliceVal (c, 0) 4096 ∷ vint w64 k ∷ t ∷ u ∷ []) (λ w. mean 𝓤 H A (worked w))))
+      pub work-on-rows : (kw : Name) → Triple 𝓤 (𝓣 .C kw) Work
+          → ent 𝓤 (mean 𝓤 H A to-rows) (H .⇛ (𝓣 .C kw (sliceVal (c, 0) 4096 ∷ vint w64 k ∷ t ∷ u ∷ []) (λ w. mean 𝓤 H A (worked w))))
       work-on-rows kw known =
           subst (λ (m : ℕ). ent 𝓤 (mean 𝓤 H A to-rows) (H .⇛ (𝓣 .C kw (sliceVal (c, 0) m ∷ vint w64 k ∷ t ∷ u ∷ []) (λ w. mean 𝓤 H A (worked w))))) len
           (qed W (to-rows ∷ []) ∵ updating ! $ split ! $ lft-new ! tt (λ ν. move ! (1 ∷ []) $
-          use1 W (later (some (λ (γ : GName). ‵ (MutSlice (named 0) (ν ∷ []) Rows .own (z ν γ) (s ∷ [])) ⊛ kept ν γ))) (mut-out 𝓤 H A W Rows (ν ∷ []) c 0 (named 0) rs (subst (Room Rows) (sym len) (lit< tt, lit< tt))) $ await ! tt $ pick ! (λ γ. split ! $
+          use1 W (later (some (λ (γ : GName). ‵ (MutSlice (named 0) (ν ∷ []) Rows .own (z ν γ) (s ∷ [])) ⊛ kept ν γ)))
+          (mut-out 𝓤 H A W Rows (ν ∷ []) c 0 (named 0) rs (subst (Room Rows) (sym len) (lit< tt, lit< tt))) $ await ! tt $ pick ! (λ γ. split ! $
           at-once ! $ move ! (2 ∷ 0 ∷ 3 ∷ []) $ group ! 3 $
-          by ! (called 𝓤 H A W 𝓣 kw Work known (to-work ν γ) (mean 𝓤 H A (had ν γ)) (mean 𝓤 H A (kept ν γ)) (λ w. mean 𝓤 H A (worked w)) (work-pre ν γ) (work-post ν γ)))))
+          by ! (called 𝓤 H A W 𝓣 kw Work known (to-work ν γ) (mean 𝓤 H A (had ν γ)) (mean 𝓤 H A (kept ν γ)) (λ w. mean 𝓤 H A (worked w))
+          (work-pre ν γ) (work-post ν γ)))))

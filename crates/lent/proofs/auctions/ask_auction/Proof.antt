@@ -85,7 +85,8 @@ module _ {M : Type 1} (𝓤 : URA M) (H : Heap 𝓤) (A : Atoms 𝓤) (W : Given
   typed-answer : (r : Told) (v : Val) → Is B.the-row r (v ∷ []) → Holds (hasTy B′.mir v) × WT v
   typed-answer r v is = EL.lawful B.the-type B′.the-laws 𝓤 H A W tt .typed r (v ∷ []) is .0
 
-module _ {M : Type 1} (𝓤 : URA M) (H : Heap 𝓤) (A : Atoms 𝓤) (W : Given 𝓤 H A) (at-mem : Memory → SProp 𝓤) (run : Routine → Fun 𝓤) (κ κ₁ : Lft) (q q₁ : Share) (b o : ℕ) (γ : GName) (ys : List Order) (x : RefT (List ℕ)) (y : Question) (v : Val)
+module _ {M : Type 1} (𝓤 : URA M) (H : Heap 𝓤) (A : Atoms 𝓤) (W : Given 𝓤 H A) (at-mem : Memory → SProp 𝓤) (run : Routine
+    → Fun 𝓤) (κ κ₁ : Lft) (q q₁ : Share) (b o : ℕ) (γ : GName) (ys : List Order) (x : RefT (List ℕ)) (y : Question) (v : Val)
     (gb : Room T.the-row (length ys)) (gl : Room u64 (length (now x))) (is-q : Is Q.the-row y (v ∷ [])) where
   abbrev n : ℕ
   n = length ys
@@ -111,12 +112,16 @@ module _ {M : Type 1} (𝓤 : URA M) (H : Heap 𝓤) (A : Atoms 𝓤) (W : Given
   abbrev Post : Val → SProp 𝓤
   Post = walkOf 𝓤 H A this.ended stayed (this.clauses 𝓤 H A at-mem run) .post bound
 
-  exits : (r : Told) (w : Val) (ts : List ℕ) → length ts ≡ length (now x) → questionLeft r ts ≡ questionCall y ys (now x) → ent 𝓤 (⋆ 𝓤 H A (‵ (flft κ q) ∷ book-own ∷ ‵ (flft κ₁ q₁) ∷ ‵ (finally u64 (x .name) ts) ∷ ‵ (B.the-row .own r (w ∷ [])) ∷ [])) (Post w)
+  exits : (r : Told) (w : Val) (ts : List ℕ) → length ts ≡ length (now x) → questionLeft r ts ≡ questionCall y ys (now x)
+      → ent 𝓤 (⋆ 𝓤 H A (‵ (flft κ q) ∷ book-own ∷ ‵ (flft κ₁ q₁) ∷ ‵ (finally u64 (x .name) ts) ∷ ‵ (B.the-row .own r (w ∷ [])) ∷ [])) (Post w)
   exits r w ts len₁ e =
       qed W (‵ (flft κ q) ∷ book-own ∷ ‵ (flft κ₁ q₁) ∷ ‵ (finally u64 (x .name) ts) ∷ ‵ (B.the-row .own r (w ∷ [])) ∷ []) ∵
-      suffices ! _ (ends-at 𝓤 H A this.ended stayed (this.clauses 𝓤 H A at-mem run) W bound w r (tt, (ts, (tt, tt))) (tt, (len₁, (tt, tt)))) $ says ! e $ nothing ! $ move ! (3 ∷ 0 ∷ []) $ join ! $ move ! (1 ∷ 0 ∷ []) $ join ! $ frame ! $ nothing ! $ nothing ! $ fjoin ! $ move ! (2 ∷ 0 ∷ []) $ fjoin ! $ move ! (1 ∷ 0 ∷ []) $ fjoin ! $ done !
+      suffices ! _ (ends-at 𝓤 H A this.ended stayed (this.clauses 𝓤 H A at-mem run) W bound w r (tt, (ts, (tt, tt))) (tt, (len₁, (tt, tt)))) $
+      says ! e $ nothing ! $ move ! (3 ∷ 0 ∷ []) $ join ! $ move ! (1 ∷ 0 ∷ []) $ join ! $ frame ! $ nothing ! $ nothing ! $ fjoin ! $
+      move ! (2 ∷ 0 ∷ []) $ fjoin ! $ move ! (1 ∷ 0 ∷ []) $ fjoin ! $ done !
 
-  module _ (𝓣 : Tables 𝓤 H) (known-places : Triple 𝓤 (𝓣 .C #places) (Places 𝓤 H A)) (known-load : Triple 𝓤 (𝓣 .C #load) (Load 𝓤 H A)) (known-work : Triple 𝓤 (𝓣 .C #work) (OnRows 𝓤 H A)) where
+  module _ (𝓣 : Tables 𝓤 H) (known-places : Triple 𝓤 (𝓣 .C #places) (Places 𝓤 H A)) (known-load : Triple 𝓤 (𝓣 .C #load) (Load 𝓤 H A))
+      (known-work : Triple 𝓤 (𝓣 .C #work) (OnRows 𝓤 H A)) where
     abbrev t : ℕ → Val
     t c = sliceVal (c, 0) 4096
 
@@ -130,64 +135,108 @@ module _ {M : Type 1} (𝓤 : URA M) (H : Heap 𝓤) (A : Atoms 𝓤) (W : Given
     abbrev after : ℕ → Val → Item 𝓤
     after c = worked u64 Q.the-row B.the-row Does 𝓤 H A W 𝓣 c (loaded ys) k κ₁ q₁ x u y v gk (length-loaded ys) fits
 
-    runs-work : (c : ℕ) → ent 𝓤 (mean 𝓤 H A (to-rows u64 Q.the-row B.the-row Does 𝓤 H A W 𝓣 c (loaded ys) k κ₁ q₁ x u y v gk (length-loaded ys) fits)) (H .⇛ (𝓣 .C #work (t c ∷ vint w64 k ∷ u ∷ v ∷ []) (λ w. mean 𝓤 H A (after c w))))
+    runs-work : (c : ℕ) → ent 𝓤 (mean 𝓤 H A (to-rows u64 Q.the-row B.the-row Does 𝓤 H A W 𝓣 c (loaded ys) k κ₁ q₁ x u y v gk (length-loaded ys) fits))
+        (H .⇛ (𝓣 .C #work (t c ∷ vint w64 k ∷ u ∷ v ∷ []) (λ w. mean 𝓤 H A (after c w))))
     runs-work c = work-on-rows u64 Q.the-row B.the-row Does 𝓤 H A W 𝓣 c (loaded ys) k κ₁ q₁ x u y v gk (length-loaded ys) fits #work known-work
 
-    walk : ent 𝓤 (⋆ 𝓤 H A (‵ (flft κ q) ∷ book-own ∷ ‵ (flft κ₁ q₁) ∷ ‵ (MutSlice (named 1) κ₁ u64 .own x (u ∷ [])) ∷ ‵ (Q.the-row .own y (v ∷ [])) ∷ [])) (WpFn 𝓤 H (𝓣 .C) (𝓣 .Λ) code.function (s ∷ u ∷ v ∷ []) Post)
+    walk : ent 𝓤 (⋆ 𝓤 H A (‵ (flft κ q) ∷ book-own ∷ ‵ (flft κ₁ q₁) ∷ ‵ (MutSlice (named 1) κ₁ u64 .own x (u ∷ []))
+        ∷ ‵ (Q.the-row .own y (v ∷ [])) ∷ [])) (WpFn 𝓤 H (𝓣 .C) (𝓣 .Λ) code.function (s ∷ u ∷ v ∷ []) Post)
     walk =
-        qed W (‵ (flft κ q) ∷ book-own ∷ ‵ (flft κ₁ q₁) ∷ ‵ (MutSlice (named 1) κ₁ u64 .own x (u ∷ [])) ∷ ‵ (Q.the-row .own y (v ∷ [])) ∷ []) ∵ enter ! (𝓣 .C) (𝓣 .Λ) code.function (s ∷ u ∷ v ∷ []) _ $
-        alloc1 ! (λ l₀. alloc1 ! (λ l₁. alloc1 ! (λ l₂. alloc1 ! (λ l₃. alloc1 ! (λ l₄. alloc1 ! (λ l₅. alloc1 ! (λ l₆. alloc1 ! (λ l₇. alloc1 ! (λ l₈. alloc1 ! (λ l₉. alloc1 ! (λ l₁₀. alloc1 ! (λ l₁₁. alloc1 ! (λ l₁₂. alloc1 ! (λ l₁₃. alloc1 ! (λ l₁₄. alloc0 ! $ params1 ! $
-        pass1 ! (init ! 26 refl (tt, (tt, (record { fits = gb .0 }, tt)))) $ pass1 ! (init ! 24 refl (tt, (tt, (record { fits = gl .0 }, tt)))) $ pass1 ! (init ! 22 refl (typed-question 𝓤 H A W y v is-q)) $ pass0 ! $
+        qed W (‵ (flft κ q) ∷ book-own ∷ ‵ (flft κ₁ q₁) ∷ ‵ (MutSlice (named 1) κ₁ u64 .own x (u ∷ [])) ∷ ‵ (Q.the-row .own y (v ∷ [])) ∷ []) ∵
+        enter ! (𝓣 .C) (𝓣 .Λ) code.function (s ∷ u ∷ v ∷ []) _ $
+        alloc1 ! (λ l₀. alloc1 ! (λ l₁. alloc1 ! (λ l₂. alloc1 ! (λ l₃. alloc1 ! (λ l₄. alloc1 ! (λ l₅. alloc1 ! (λ l₆. alloc1 ! (λ l₇.
+        alloc1 ! (λ l₈. alloc1 ! (λ l₉. alloc1 ! (λ l₁₀. alloc1 ! (λ l₁₁. alloc1 ! (λ l₁₂. alloc1 ! (λ l₁₃. alloc1 ! (λ l₁₄. alloc0 ! $ params1 ! $
+        pass1 ! (init ! 26 refl (tt, (tt, (record { fits = gb .0 }, tt)))) $ pass1 ! (init ! 24 refl (tt, (tt, (record { fits = gl .0 }, tt)))) $
+        pass1 ! (init ! 22 refl (typed-question 𝓤 H A W y v is-q)) $ pass0 ! $
         -- the array is made, and is a row of elements
         assigns ! (rep ! 5 (lit ! tt)) (from ! (stop !)) (init ! 16 refl five-typed) $
         assigns ! (rep ! 4096 (load ! (from ! (stop !)) (look ! 16 refl))) (from ! (stop !)) (init ! 20 refl (fresh-typed 4096)) $
         move ! (20 ∷ []) $ use1 W (‵ (row Rows fullShare (fresh 4096) l₄ 0)) (fresh-row 𝓤 H A W 4096 l₄) $
         -- `places` of the book's length
-        assigns ! (of-opd ! (load ! (from ! (fld ! refl (stop !))) (look-in ! 26 (sub ! 1 refl (whole !))))) (from ! (stop !)) (init ! 15 refl (tt, record { fits = gb .0 })) $
-        use0 W (raw (𝓣 .C #places (vint w64 n ∷ []) (λ w. mean 𝓤 H A (placed 𝓤 H A W 𝓣 #places known-places n (gb .0) w)))) (places-on 𝓤 H A W 𝓣 #places known-places n (gb .0)) $
-        calls ! (fmOf 𝓤 H (W .laws) 𝓣) (placed 𝓤 H A W 𝓣 #places known-places n (gb .0)) (and-then ! (load ! (from ! (stop !)) (look ! 16 refl)) (no-more !)) (λ w₀. await ! tt $ learn ! (λ e₀. drop ! $
+        assigns ! (of-opd ! (load ! (from ! (fld ! refl (stop !))) (look-in ! 26 (sub ! 1 refl (whole !))))) (from ! (stop !))
+        (init ! 15 refl (tt, record { fits = gb .0 })) $
+        use0 W (raw (𝓣 .C #places (vint w64 n ∷ []) (λ w. mean 𝓤 H A (placed 𝓤 H A W 𝓣 #places known-places n (gb .0) w))))
+        (places-on 𝓤 H A W 𝓣 #places known-places n (gb .0)) $
+        calls ! (fmOf 𝓤 H (W .laws) 𝓣) (placed 𝓤 H A W 𝓣 #places known-places n (gb .0))
+        (and-then ! (load ! (from ! (stop !)) (look ! 16 refl)) (no-more !)) (λ w₀. await ! tt $ learn ! (λ e₀. drop ! $
         land ! (from ! (stop !)) (init ! 19 refl (word-typed w₀ k gk e₀)) $ rewrite ! 19 (λ (u : Val). ‵ (fat fullShare (tyInt w64) l₅ 0 u)) e₀ refl $
         -- `load`
         assigns ! (addr ! (from ! (stop !))) (from ! (stop !)) (init ! 11 refl (tt, tt)) $
-        assigns ! (agg ! (and-then ! (load ! (from ! (stop !)) (look ! 11 refl)) (and-then ! (big ! (record { fits = lit< tt })) (no-more !)))) (from ! (stop !)) (init ! 9 refl (tt, (tt, (record { fits = lit< tt }, tt)))) $
-        move ! (31 ∷ []) $ use1 W (book-own ⊛ book-own) (shr-slice-copy 𝓤 H A W (named 0) κ T.the-row .twice z (s ∷ [])) $ split ! $ move ! (32 ∷ 1 ∷ 2 ∷ []) $ group ! 3 $
-        use1 W (later (raw (𝓣 .C #load (s ∷ t l₄ ∷ vint w64 k ∷ []) (λ w. mean 𝓤 H A (after-shared 𝓤 H A W 𝓣 κ q z gb l₄ w))))) (load-from-shared 𝓤 H A W 𝓣 κ q z gb l₄ #load known-load) $ await ! tt $
-        calls ! (fmOf 𝓤 H (W .laws) 𝓣) (after-shared 𝓤 H A W 𝓣 κ q z gb l₄) (and-then ! (load ! (from ! (stop !)) (look ! 27 refl)) (and-then ! (load ! (from ! (stop !)) (look ! 10 refl)) (and-then ! (load ! (from ! (stop !)) (look ! 20 refl)) (no-more !)))) (λ w₁. await ! tt $ learn ! (λ e₁. split ! $
+        assigns ! (agg ! (and-then ! (load ! (from ! (stop !)) (look ! 11 refl)) (and-then ! (big ! (record { fits = lit< tt })) (no-more !))))
+        (from ! (stop !)) (init ! 9 refl (tt, (tt, (record { fits = lit< tt }, tt)))) $
+        move ! (31 ∷ []) $ use1 W (book-own ⊛ book-own) (shr-slice-copy 𝓤 H A W (named 0) κ T.the-row .twice z (s ∷ [])) $ split ! $
+        move ! (32 ∷ 1 ∷ 2 ∷ []) $ group ! 3 $
+        use1 W (later (raw (𝓣 .C #load (s ∷ t l₄ ∷ vint w64 k ∷ []) (λ w. mean 𝓤 H A (after-shared 𝓤 H A W 𝓣 κ q z gb l₄ w)))))
+        (load-from-shared 𝓤 H A W 𝓣 κ q z gb l₄ #load known-load) $ await ! tt $
+        calls ! (fmOf 𝓤 H (W .laws) 𝓣) (after-shared 𝓤 H A W 𝓣 κ q z gb l₄)
+        (and-then ! (load ! (from ! (stop !)) (look ! 27 refl))
+        (and-then ! (load ! (from ! (stop !)) (look ! 10 refl)) (and-then ! (load ! (from ! (stop !)) (look ! 20 refl)) (no-more !))))
+        (λ w₁. await ! tt $ learn ! (λ e₁. split ! $
         land ! (from ! (stop !)) (init ! 15 refl (unit-typed w₁ e₁)) $
         -- `question_on_rows`, with the list passed on
         assigns ! (addr ! (from ! (stop !))) (from ! (stop !)) (init ! 9 refl (tt, tt)) $
-        assigns ! (agg ! (and-then ! (load ! (from ! (stop !)) (look ! 9 refl)) (and-then ! (big ! (record { fits = lit< tt })) (no-more !)))) (from ! (stop !)) (init ! 7 refl (tt, (tt, (record { fits = lit< tt }, tt)))) $
+        assigns ! (agg ! (and-then ! (load ! (from ! (stop !)) (look ! 9 refl)) (and-then ! (big ! (record { fits = lit< tt })) (no-more !))))
+        (from ! (stop !)) (init ! 7 refl (tt, (tt, (record { fits = lit< tt }, tt)))) $
         assigns ! (addr ! (from ! (fld ! refl (hop ! (look-in ! 26 (sub ! 0 refl (whole !))) (stop !))))) (from ! (stop !)) (init ! 5 refl (tt, tt)) $
-        assigns ! (agg ! (and-then ! (load ! (from ! (stop !)) (look ! 5 refl)) (and-then ! (load ! (from ! (fld ! refl (stop !))) (look-in ! 26 (sub ! 1 refl (whole !)))) (no-more !)))) (from ! (stop !)) (init ! 3 refl (tt, (tt, (record { fits = gl .0 }, tt)))) $
-        move ! (1 ∷ 32 ∷ 33 ∷ 34 ∷ []) $ group ! 4 $ use1 W (later (raw (𝓣 .C #work (t l₄ ∷ vint w64 k ∷ u ∷ v ∷ []) (λ w. mean 𝓤 H A (after l₄ w))))) (runs-work l₄) $ await ! tt $
-        calls ! (fmOf 𝓤 H (W .laws) 𝓣) (after l₄) (and-then ! (load ! (from ! (stop !)) (look ! 7 refl)) (and-then ! (load ! (from ! (stop !)) (look ! 21 refl)) (and-then ! (load ! (from ! (stop !)) (look ! 3 refl)) (and-then ! (load ! (from ! (stop !)) (look ! 24 refl)) (no-more !))))) (λ w. await ! tt $ pick ! (λ r. learn ! (λ e.
-        split ! $ move ! (1 ∷ []) $ split ! $ move ! (1 ∷ []) $ split ! $ move ! (1 ∷ []) $ peeks ! B.the-row (Is B.the-row) (shows 𝓤 H A B.the-row) (r .0) (w ∷ []) (λ is.
+        assigns ! (agg ! (and-then ! (load ! (from ! (stop !)) (look ! 5 refl))
+        (and-then ! (load ! (from ! (fld ! refl (stop !))) (look-in ! 26 (sub ! 1 refl (whole !)))) (no-more !)))) (from ! (stop !))
+        (init ! 3 refl (tt, (tt, (record { fits = gl .0 }, tt)))) $
+        move ! (1 ∷ 32 ∷ 33 ∷ 34 ∷ []) $ group ! 4 $
+        use1 W (later (raw (𝓣 .C #work (t l₄ ∷ vint w64 k ∷ u ∷ v ∷ []) (λ w. mean 𝓤 H A (after l₄ w))))) (runs-work l₄) $ await ! tt $
+        calls ! (fmOf 𝓤 H (W .laws) 𝓣) (after l₄)
+        (and-then ! (load ! (from ! (stop !)) (look ! 7 refl))
+        (and-then ! (load ! (from ! (stop !)) (look ! 21 refl))
+        (and-then ! (load ! (from ! (stop !)) (look ! 3 refl)) (and-then ! (load ! (from ! (stop !)) (look ! 24 refl)) (no-more !)))))
+        (λ w. await ! tt $ pick ! (λ r. learn ! (λ e.
+        split ! $ move ! (1 ∷ []) $ split ! $ move ! (1 ∷ []) $ split ! $ move ! (1 ∷ []) $
+        peeks ! B.the-row (Is B.the-row) (shows 𝓤 H A B.the-row) (r .0) (w ∷ []) (λ is.
         land ! (from ! (stop !)) (init ! 33 refl (typed-answer 𝓤 H A W (r .0) w is)) $
         -- the array is room again
         move ! (3 ∷ []) $ use1 W (‵ (froom (tyArray (tyArray (tyInt w64) 5) 4096) l₄ 0)) (row-room 𝓤 H A W Rows 4096 l₄ (r .1 .0) (e .0)) $
-        returns ! (look ! 33 refl) $ forget ! 33 refl $ forget ! 31 refl $ forget ! 29 refl $ forget ! 27 refl $ forget ! 24 refl $ forget ! 22 refl $ forget ! 20 refl $ forget ! 18 refl $ forget ! 16 refl $ forget ! 14 refl $ forget ! 12 refl $ forget ! 10 refl $ forget ! 8 refl $ forget ! 6 refl $
-        move ! (33 ∷ 34 ∷ []) $ free1 ! $ move ! (31 ∷ 32 ∷ []) $ free1 ! $ move ! (29 ∷ 30 ∷ []) $ free1 ! $ move ! (27 ∷ 28 ∷ []) $ free1 ! $ move ! (0 ∷ 26 ∷ []) $ free1 ! $ move ! (23 ∷ 24 ∷ []) $ free1 ! $ move ! (21 ∷ 22 ∷ []) $ free1 ! $ move ! (19 ∷ 20 ∷ []) $ free1 ! $ move ! (17 ∷ 18 ∷ []) $ free1 ! $ move ! (15 ∷ 16 ∷ []) $ free1 ! $ move ! (13 ∷ 14 ∷ []) $ free1 ! $ move ! (11 ∷ 12 ∷ []) $ free1 ! $ move ! (9 ∷ 10 ∷ []) $ free1 ! $ move ! (7 ∷ 8 ∷ []) $ free1 ! $ move ! (5 ∷ 6 ∷ []) $ free1 ! $ free0 ! $
-        keep ! (3 ∷ 4 ∷ 2 ∷ 1 ∷ 0 ∷ []) $ by ! (exits (r .0) w (r .1 .1) (e .1 .0) (question-said ys (fresh 4096) (length-fresh 4096) (now x) (r .1 .1) y (r .0) (e .1 .1))))))))))))))))))))))))))
+        returns ! (look ! 33 refl) $ forget ! 33 refl $ forget ! 31 refl $ forget ! 29 refl $ forget ! 27 refl $ forget ! 24 refl $
+        forget ! 22 refl $ forget ! 20 refl $ forget ! 18 refl $ forget ! 16 refl $ forget ! 14 refl $ forget ! 12 refl $ forget ! 10 refl $
+        forget ! 8 refl $ forget ! 6 refl $
+        move ! (33 ∷ 34 ∷ []) $ free1 ! $ move ! (31 ∷ 32 ∷ []) $ free1 ! $ move ! (29 ∷ 30 ∷ []) $ free1 ! $ move ! (27 ∷ 28 ∷ []) $ free1 ! $
+        move ! (0 ∷ 26 ∷ []) $ free1 ! $ move ! (23 ∷ 24 ∷ []) $ free1 ! $ move ! (21 ∷ 22 ∷ []) $ free1 ! $ move ! (19 ∷ 20 ∷ []) $ free1 ! $
+        move ! (17 ∷ 18 ∷ []) $ free1 ! $ move ! (15 ∷ 16 ∷ []) $ free1 ! $ move ! (13 ∷ 14 ∷ []) $ free1 ! $ move ! (11 ∷ 12 ∷ []) $ free1 ! $
+        move ! (9 ∷ 10 ∷ []) $ free1 ! $ move ! (7 ∷ 8 ∷ []) $ free1 ! $ move ! (5 ∷ 6 ∷ []) $ free1 ! $ free0 ! $
+        keep ! (3 ∷ 4 ∷ 2 ∷ 1 ∷ 0 ∷ []) $
+        by ! (exits (r .0) w (r .1 .1) (e .1 .0) (question-said ys (fresh 4096) (length-fresh 4096) (now x) (r .1 .1) y (r .0) (e .1 .1))))))))))))))))))))))))))
 
-module _ {M : Type 1} (𝓤 : URA M) (H : Heap 𝓤) (A : Atoms 𝓤) (W : Given 𝓤 H A) (at-mem : Memory → SProp 𝓤) (run : Routine → Fun 𝓤) (𝓣 : Tables 𝓤 H) (known-places : Triple 𝓤 (𝓣 .C #places) (Places 𝓤 H A)) (known-load : Triple 𝓤 (𝓣 .C #load) (Load 𝓤 H A)) (known-work : Triple 𝓤 (𝓣 .C #work) (OnRows 𝓤 H A)) where
+module _ {M : Type 1} (𝓤 : URA M) (H : Heap 𝓤) (A : Atoms 𝓤) (W : Given 𝓤 H A) (at-mem : Memory → SProp 𝓤) (run : Routine
+    → Fun 𝓤) (𝓣 : Tables 𝓤 H) (known-places : Triple 𝓤 (𝓣 .C #places) (Places 𝓤 H A)) (known-load : Triple 𝓤 (𝓣 .C #load) (Load 𝓤 H A))
+    (known-work : Triple 𝓤 (𝓣 .C #work) (OnRows 𝓤 H A)) where
   abbrev value : Question → Val
   value = EL.val Q.the-type Q′.the-laws
 
-  entry : (κ κ₁ : Lft) (q q₁ : Share) (z : RefT (List Order)) (x : RefT (List ℕ)) (y : Question) (gb : Room T.the-row (length (now z))) (gl : Room u64 (length (now x))) (is-q : Is Q.the-row y (value y ∷ []))
-      → ent 𝓤 (onEntry 𝓤 H A this.signature (κ, (κ₁, tt)) (q, (q₁, tt)) (z, (x, (y, tt))) (slice-vals z, (slice-vals x, (value y ∷ [], tt)))) (WpFn 𝓤 H (𝓣 .C) (𝓣 .Λ) code.function (sliceVal (z .ptr) (length (now z)) ∷ sliceVal (x .ptr) (length (now x)) ∷ value y ∷ [])
+  entry : (κ κ₁ : Lft) (q q₁ : Share) (z : RefT (List Order)) (x : RefT (List ℕ)) (y : Question) (gb : Room T.the-row (length (now z)))
+      (gl : Room u64 (length (now x))) (is-q : Is Q.the-row y (value y ∷ []))
+      → ent 𝓤 (onEntry 𝓤 H A this.signature (κ, (κ₁, tt)) (q, (q₁, tt)) (z, (x, (y, tt))) (slice-vals z, (slice-vals x, (value y ∷ [], tt))))
+      (WpFn 𝓤 H (𝓣 .C) (𝓣 .Λ) code.function (sliceVal (z .ptr) (length (now z)) ∷ sliceVal (x .ptr) (length (now x)) ∷ value y ∷ [])
       (Post 𝓤 H A W at-mem run κ κ₁ q q₁ (z .ptr .0) (z .ptr .1) (z .name) (now z) x y (value y) gb gl is-q))
   entry κ κ₁ q q₁ z x y gb gl is-q =
-      qed W ((‵ (flft κ q) ⊛ ‵ (flft κ₁ q₁) ⊛ ‵ ftrue) ∷ ‵ (owns (ShrSlice (named 0) κ T.the-row ∷ MutSlice (named 1) κ₁ u64 ∷ Q.the-row ∷ []) (z, (x, (y, tt))) (slice-vals z, (slice-vals x, (value y ∷ [], tt)))) ∷ []) ∵
-      split ! $ move ! (1 ∷ []) $ split ! $ move ! (3 ∷ []) $ fsplit ! $ move ! (1 ∷ []) $ fsplit ! $ move ! (1 ∷ []) $ fsplit ! $ keep ! (6 ∷ 3 ∷ 4 ∷ 2 ∷ 0 ∷ []) $ by ! (walk 𝓤 H A W at-mem run κ κ₁ q q₁ (z .ptr .0) (z .ptr .1) (z .name) (now z) x y (value y) gb gl is-q 𝓣 known-places known-load known-work)
+      qed W ((‵ (flft κ q) ⊛ ‵ (flft κ₁ q₁) ⊛ ‵ ftrue)
+      ∷ ‵ (owns (ShrSlice (named 0) κ T.the-row ∷ MutSlice (named 1) κ₁ u64 ∷ Q.the-row ∷ []) (z, (x, (y, tt)))
+      (slice-vals z, (slice-vals x, (value y ∷ [], tt)))) ∷ []) ∵
+      split ! $ move ! (1 ∷ []) $ split ! $ move ! (3 ∷ []) $ fsplit ! $ move ! (1 ∷ []) $ fsplit ! $ move ! (1 ∷ []) $ fsplit ! $
+      keep ! (6 ∷ 3 ∷ 4 ∷ 2 ∷ 0 ∷ []) $
+      by ! (walk 𝓤 H A W at-mem run κ κ₁ q q₁ (z .ptr .0) (z .ptr .1) (z .name) (now z) x y (value y) gb gl is-q 𝓣 known-places known-load known-work)
 
   ask-auction-walks : Walks 𝓤 H A this.ended stayed (WpFn 𝓤 H (𝓣 .C) (𝓣 .Λ) code.function) (this.clauses 𝓤 H A at-mem run)
   ask-auction-walks = walked 𝓤 H A this.ended stayed (this.clauses 𝓤 H A at-mem run) (WpFn 𝓤 H (𝓣 .C) (𝓣 .Λ) code.function)
-      (λ κs. (slice-vals, (slice-vals, ((λ y. value y ∷ []), tt)))) (λ κs. (shr-slice-tells (named 0) (κs .0) T.the-row, (mut-slice-tells (named 1) (κs .1 .0) u64, (EL.tells Q.the-type Q′.the-laws, tt))))
-      (λ κs qs bounds a g are. via 𝓤 _ (fst∗ 𝓤 _ (emp 𝓤)) (entry (κs .0) (κs .1 .0) (qs .0) (qs .1 .0) (a .0) (a .1 .0) (a .1 .1 .0) (are .0 .0 .1) (are .1 .0 .0 .1) (are .1 .1 .0)))
+      (λ κs. (slice-vals, (slice-vals, ((λ y. value y ∷ []), tt))))
+      (λ κs. (shr-slice-tells (named 0) (κs .0) T.the-row, (mut-slice-tells (named 1) (κs .1 .0) u64, (EL.tells Q.the-type Q′.the-laws, tt))))
+      (λ κs qs bounds a g are. via 𝓤 _ (fst∗ 𝓤 _ (emp 𝓤))
+      (entry (κs .0) (κs .1 .0) (qs .0) (qs .1 .0) (a .0) (a .1 .0) (a .1 .1 .0) (are .0 .0 .1) (are .1 .0 .0 .1) (are .1 .1 .0)))
 
   ask-auction-meets : Meets 𝓤 H A this.signature (WpFn 𝓤 H (𝓣 .C) (𝓣 .Λ) code.function) (this.spec 𝓤 H A at-mem run)
-  ask-auction-meets = walk-meets 𝓤 H A this.ended stayed W
-      (goes-none-slice 𝓤 H A W 2 (0 ∷ []) tt (plain (λ _. T.the-row)) yes, (goes-gave-slice 𝓤 H A W 2 1 tt (plain (λ _. u64)), (goes-silent 𝓤 H A W 2 (plain (λ _. Q.the-row)) yes (stay-dropped (plain (λ _. Q.the-row)) yes) (λ κs x f. refl), tt)))
+  ask-auction-meets = walk-meets 𝓤 H A this.ended stayed W (
+    goes-none-slice 𝓤 H A W 2 (0 ∷ []) tt (plain (λ _. T.the-row)) yes,
+    (
+      goes-gave-slice 𝓤 H A W 2 1 tt (plain (λ _. u64)),
+      (goes-silent 𝓤 H A W 2 (plain (λ _. Q.the-row)) yes (stay-dropped (plain (λ _. Q.the-row)) yes) (λ κs x f. refl), tt),
+    ),
+  )
       (this.clauses 𝓤 H A at-mem run) (WpFn 𝓤 H (𝓣 .C) (𝓣 .Λ) code.function) (WpFn-mono 𝓤 H (W .laws) 𝓣 code.function) ask-auction-walks
 
 pub ask-auction-spec : {M : Type 1} → stated.statement M

@@ -1,16 +1,13 @@
+-- The two sides of the test. Assumes nothing.
 use borrow.Author.Tests.{le-leb, lt-leb}
 use Rattle.lent.specs.Copying.{placesOf}
 use Rattle.lent.proofs.copying.places.Statement.{statement}
 use Rattle.lent.proofs.copying.places.Tie as tie
-use Rattle.lent.proofs.copying.places.Reads as reads
-use Rattle.lent.proofs.copying.places.Lts as lts
 
--- src/lib.rt:130:1
 returns : tie.Need-returns
 unfolding placesOf
 returns c = simp (le-leb _ _ (c .if1 .taken))
 
--- src/lib.rt:130:1
 returns-2 : tie.Need-returns-2
 unfolding placesOf
 returns-2 c = simp (lt-leb _ _ (c .if1 .left))

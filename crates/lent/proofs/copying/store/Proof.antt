@@ -29,7 +29,10 @@ unfolding code.routine tablesOf
 store-spec 𝓤 H 𝓜 𝓖 𝓡 =
     entered 𝓤 H (tripleOf 𝓤 H (𝓖 .A) store.signature (store.spec 𝓤 H (𝓖 .A) (𝓜 .mem) (𝓡 .run)))
     (tables 𝓤 H 𝓜 𝓡 code.env .C) (tables 𝓤 H 𝓜 𝓡 code.env .Λ) #lent·copying·store code.function (code.unfolded 𝓤 H 𝓜 𝓡)
-    (copies-meets (Array u64 5) T.the-row T.the-row orderOf (λ o. o) [] 𝓤 H (𝓖 .A) (givenOf 𝓤 H 𝓜 𝓖) (tablesOf 𝓤 H 𝓜 (tables 𝓤 H 𝓜 𝓡 code.env)) #read #write (tyArray (tyInt w64) 5) (pointee (T.the-row .written)) T′.mir T′.mir
+    (copies-meets (Array u64 5) T.the-row T.the-row orderOf (λ o. o) [] 𝓤 H (𝓖 .A) (givenOf 𝓤 H 𝓜 𝓖)
+    (tablesOf 𝓤 H 𝓜 (tables 𝓤 H 𝓜 𝓡 code.env)) #read #write (tyArray (tyInt w64) 5) (pointee (T.the-row .written)) T′.mir T′.mir
     (λ o v is. LL.lawful T.the-type T′.the-laws 𝓤 H (𝓖 .A) (givenOf 𝓤 H 𝓜 𝓖) .typed o _ is .0)
-    (cited 𝓤 H (Read (Array u64 5) T.the-row T.the-row orderOf (λ o. o) [] 𝓤 H (𝓖 .A)) 𝓜 𝓡 code.env #read read-def.routine code.calls-book·order-at (read-thm.met 𝓤 H 𝓜 𝓖 𝓡))
-    (cited 𝓤 H (Write (Array u64 5) T.the-row T.the-row orderOf (λ o. o) [] 𝓤 H (𝓖 .A)) 𝓜 𝓡 code.env #write write-def.routine code.calls-lent·put (write-thm.met 𝓤 H 𝓜 𝓖 𝓡)))
+    (cited 𝓤 H (Read (Array u64 5) T.the-row T.the-row orderOf (λ o. o) [] 𝓤 H (𝓖 .A)) 𝓜 𝓡 code.env #read read-def.routine code.calls-book·order-at
+    (read-thm.met 𝓤 H 𝓜 𝓖 𝓡))
+    (cited 𝓤 H (Write (Array u64 5) T.the-row T.the-row orderOf (λ o. o) [] 𝓤 H (𝓖 .A)) 𝓜 𝓡 code.env #write write-def.routine code.calls-lent·put
+    (write-thm.met 𝓤 H 𝓜 𝓖 𝓡)))

@@ -34,7 +34,8 @@ same-length c = search needs
 returns : tie.Need-returns
 returns c =
     let a = c .before .before .before .before .before .before .args in
-    opened (a .event) (a .rows .now) (c .before .open-day .last .1 .1 .0) (a .trades .now) (c .before .before .before .before .event .given .1) (c .before .open-day .ensures)
+    opened (a .event) (a .rows .now) (c .before .open-day .last .1 .1 .0) (a .trades .now) (c .before .before .before .before .event .given .1)
+    (c .before .open-day .ensures)
 
 same-length-2 : tie.Need-same-length-2
 same-length-2 c = search needs
@@ -45,7 +46,8 @@ same-length-3 c = search needs
 returns-2 : tie.Need-returns-2
 returns-2 c =
     let a = c .before .before .before .before .before .before .before .before .args in
-    moved (a .event) (a .rows .now) (c .before .before .move-clock .last .1 .1 .0) (a .trades .now) (c .before .before .move-clock .last .1 .1 .1 .0) (c .before .before .before .before .before .before .event2 .given .1) (c .before .before .move-clock .ensures)
+    moved (a .event) (a .rows .now) (c .before .before .move-clock .last .1 .1 .0) (a .trades .now) (c .before .before .move-clock .last .1 .1 .1 .0)
+    (c .before .before .before .before .before .before .event2 .given .1) (c .before .before .move-clock .ensures)
 
 same-length-4 : tie.Need-same-length-4
 same-length-4 c = search needs
@@ -56,7 +58,9 @@ same-length-5 c = search needs
 returns-3 : tie.Need-returns-3
 returns-3 c =
     let a = c .before .before .before .before .before .before .before .before .args in
-    entered (a .event) (a .rows .now) (c .before .before .enter-order .last .1 .1 .0) (a .trades .now) (c .before .before .enter-order .last .1 .1 .1 .0) (c .before .before .before .before .before .before .event3 .given .1) (c .before .before .enter-order .ensures)
+    entered (a .event) (a .rows .now) (c .before .before .enter-order .last .1 .1 .0) (a .trades .now)
+    (c .before .before .enter-order .last .1 .1 .1 .0) (c .before .before .before .before .before .before .event3 .given .1)
+    (c .before .before .enter-order .ensures)
 
 same-length-6 : tie.Need-same-length-6
 same-length-6 c = search needs
@@ -64,7 +68,8 @@ same-length-6 c = search needs
 returns-4 : tie.Need-returns-4
 returns-4 c =
     let a = c .before .before .before .before .before .before .args in
-    cancelled (a .event) (a .rows .now) (c .before .cancel-order .last .1 .0) (a .trades .now) (c .before .before .before .before .event4 .given .1) (c .before .cancel-order .ensures)
+    cancelled (a .event) (a .rows .now) (c .before .cancel-order .last .1 .0) (a .trades .now) (c .before .before .before .before .event4 .given .1)
+    (c .before .cancel-order .ensures)
 
 pub answer-event-spec : {M : Type 1} → statement M
 answer-event-spec =

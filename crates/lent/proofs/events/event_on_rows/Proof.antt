@@ -1,7 +1,7 @@
 -- The first k rows are lent to the call, and the rows behind them stay. Assumes nothing.
 use mathlib.Core.Path.{sym}
 use lib.Seq.{length-take-le}
-use Rattle.lent.proofs.ByKind.{on-part}
+use Rattle.lent.proofs.ThereAndBack.{on-part}
 use borrow.Author.Needs.{needs}
 use Rattle.lent.proofs.events.event_on_rows.Statement.{statement}
 use Rattle.lent.proofs.events.event_on_rows.Tie as tie
@@ -25,7 +25,8 @@ same-length-2 c = search needs
 returns : tie.Need-returns
 returns c =
     let a = c .before .before .before .before .before .args in
-    on-part (a .rows .now) (c .before .before .answer-event .last .0) (a .trades .now) (c .before .before .answer-event .last .1 .0) (a .k) (a .event) (c .before .before .before .before .before .pre) (c .before .before .answer-event .kept .0) (c .before .before .answer-event .ensures)
+    on-part (a .rows .now) (c .before .before .answer-event .last .0) (a .trades .now) (c .before .before .answer-event .last .1 .0) (a .k) (a .event)
+    (c .before .before .before .before .before .pre) (c .before .before .answer-event .kept .0) (c .before .before .answer-event .ensures)
 
 pub event-on-rows-spec : {M : Type 1} → statement M
 event-on-rows-spec =

@@ -127,32 +127,43 @@ module _ {M : Type 1} (𝓤 : URA M) (H : Heap 𝓤) (A : Atoms 𝓤) (W : Given
       to-take = (((ν ∷ [], (κ, tt)), (fullShare, (q, tt)), tt, (z, (x, (y, tt))), (s ∷ [], (u ∷ [], (v ∷ [], tt)))), tt)
 
       abbrev had : Item 𝓤
-      had = ‵ (flft (ν ∷ []) fullShare) ⊛ ‵ (MutSlice (named 0) (ν ∷ []) T.the-row .own z (s ∷ [])) ⊛ ‵ (flft κ q) ⊛ ‵ (MutSlice (named 1) κ Trade .own x (u ∷ [])) ⊛ ‵ (Q.the-row .own y (v ∷ []))
+      had = ‵ (flft (ν ∷ []) fullShare) ⊛ ‵ (MutSlice (named 0) (ν ∷ []) T.the-row .own z (s ∷ [])) ⊛ ‵ (flft κ q)
+          ⊛ ‵ (MutSlice (named 1) κ Trade .own x (u ∷ [])) ⊛ ‵ (Q.the-row .own y (v ∷ []))
 
       abbrev kept : Item 𝓤
       kept = ‵ (MutKept 𝓤 H A W T.the-row (ν ∷ []) c 0 (length ys) γ)
 
       call-pre : ent 𝓤 (mean 𝓤 H A had) (Take .pre to-take)
-      call-pre = qed W (had ∷ []) ∵ split ! $ move ! (1 ∷ []) $ split ! $ move ! (1 ∷ []) $ split ! $ move ! (1 ∷ []) $ split ! $ nothing ! $ nothing ! $ move ! (3 ∷ 0 ∷ []) $ fjoin ! $ move ! (2 ∷ 0 ∷ []) $ fjoin ! $ move ! (3 ∷ 0 ∷ []) $ fjoin ! $ nothing ! $ move ! (3 ∷ 0 ∷ []) $ join ! $ move ! (3 ∷ 0 ∷ []) $ join ! $ move ! (0 ∷ 1 ∷ []) $ join ! $ done !
+      call-pre = qed W (had ∷ []) ∵ split ! $ move ! (1 ∷ []) $ split ! $ move ! (1 ∷ []) $ split ! $ move ! (1 ∷ []) $ split ! $ nothing ! $
+          nothing ! $ move ! (3 ∷ 0 ∷ []) $ fjoin ! $ move ! (2 ∷ 0 ∷ []) $ fjoin ! $ move ! (3 ∷ 0 ∷ []) $ fjoin ! $ nothing ! $ move ! (3 ∷ 0 ∷ []) $
+          join ! $ move ! (3 ∷ 0 ∷ []) $ join ! $ move ! (0 ∷ 1 ∷ []) $ join ! $ done !
 
       call-post : (w : Val) → ent 𝓤 (sep 𝓤 (Take .post to-take w) (mean 𝓤 H A kept)) (mean 𝓤 H A (called-back w))
       call-post w =
           qed W (later (some (λ (r : Answer). ((‵ (flft (ν ∷ []) fullShare) ⊛ ‵ (flft κ q) ⊛ ‵ ftrue) ⊛ ‵ (B.the-row .own r (w ∷ [])))
-          ⊛ some (λ (vs : Lasts take.ended (ν ∷ [], (κ, tt)) (z, (x, (y, tt)))). ‵ (lasts take.ended (ν ∷ [], (κ, tt)) (z, (x, (y, tt))) vs) ⊛ raw (fact 𝓤 (Says r (vs .0) (vs .1 .0)))))) ∷ kept ∷ []) ∵
+          ⊛ some (λ (vs : Lasts take.ended (ν ∷ [], (κ, tt)) (z, (x, (y, tt)))). ‵ (lasts take.ended (ν ∷ [], (κ, tt)) (z, (x, (y, tt))) vs)
+          ⊛ raw (fact 𝓤 (Says r (vs .0) (vs .1 .0)))))) ∷ kept ∷ []) ∵
           updating ! $ await ! tt $ pick ! (λ r. split ! $ move ! (1 ∷ []) $ pick ! (λ vs. split ! $ move ! (1 ∷ []) $ heard ! (Says r (vs .0) (vs .1 .0)) (λ e.
-          fsplit ! $ fsplit ! $ move ! (1 ∷ []) $ feqL ! (λ len₀. move ! (1 ∷ []) $ fsplit ! $ fsplit ! $ move ! (1 ∷ []) $ feqL ! (λ len₁. move ! (3 ∷ []) $ split ! $ split ! $ move ! (1 ∷ []) $ split ! $ move ! (2 ∷ []) $ lft-end ! tt $ move ! (0 ∷ 7 ∷ 6 ∷ []) $ use3 W (later (‵ (row T.the-row fullShare (vs .0) c 0))) (mut-back 𝓤 H A W T.the-row (ν ∷ []) c 0 (length ys) γ (vs .0)) $ await ! tt $
-          at-once ! $ show ! (λ (a : Left). mean 𝓤 H A (after-call w a)) (r, (vs .0, vs .1 .0)) $ check ! (len₀ ∙ len, (len₁, e)) $ keep ! (0 ∷ 1 ∷ 4 ∷ 3 ∷ []) $ done !)))))
+          fsplit ! $ fsplit ! $ move ! (1 ∷ []) $ feqL ! (λ len₀. move ! (1 ∷ []) $ fsplit ! $ fsplit ! $ move ! (1 ∷ []) $
+          feqL ! (λ len₁. move ! (3 ∷ []) $ split ! $ split ! $ move ! (1 ∷ []) $ split ! $ move ! (2 ∷ []) $ lft-end ! tt $
+          move ! (0 ∷ 7 ∷ 6 ∷ []) $
+          use3 W (later (‵ (row T.the-row fullShare (vs .0) c 0))) (mut-back 𝓤 H A W T.the-row (ν ∷ []) c 0 (length ys) γ (vs .0)) $ await ! tt $
+          at-once ! $ show ! (λ (a : Left). mean 𝓤 H A (after-call w a)) (r, (vs .0, vs .1 .0)) $ check ! (len₀ ∙ len, (len₁, e)) $
+          keep ! (0 ∷ 1 ∷ 4 ∷ 3 ∷ []) $ done !)))))
 
     abbrev to-row : Item 𝓤
     to-row = ‵ (row T.the-row fullShare ys c 0) ⊛ ‵ (flft κ q) ⊛ ‵ (MutSlice (named 1) κ Trade .own x (u ∷ [])) ⊛ ‵ (Q.the-row .own y (v ∷ []))
 
-    take-on-row : (𝓣 : Tables 𝓤 H) → Triple 𝓤 (𝓣 .C #take) Take → ent 𝓤 (mean 𝓤 H A to-row) (H .⇛ (𝓣 .C #take (sliceVal (c, 0) 16 ∷ u ∷ v ∷ []) (λ w. mean 𝓤 H A (called-back w))))
+    take-on-row : (𝓣 : Tables 𝓤 H) → Triple 𝓤 (𝓣 .C #take) Take
+        → ent 𝓤 (mean 𝓤 H A to-row) (H .⇛ (𝓣 .C #take (sliceVal (c, 0) 16 ∷ u ∷ v ∷ []) (λ w. mean 𝓤 H A (called-back w))))
     take-on-row 𝓣 known =
         subst (λ (m : ℕ). ent 𝓤 (mean 𝓤 H A to-row) (H .⇛ (𝓣 .C #take (sliceVal (c, 0) m ∷ u ∷ v ∷ []) (λ w. mean 𝓤 H A (called-back w))))) len
         (qed W (to-row ∷ []) ∵ updating ! $ split ! $ lft-new ! tt (λ ν. move ! (1 ∷ []) $
-        use1 W (later (some (λ (γ : GName). ‵ (MutSlice (named 0) (ν ∷ []) T.the-row .own (z ν γ) (s ∷ [])) ⊛ kept ν γ))) (mut-out 𝓤 H A W T.the-row (ν ∷ []) c 0 (named 0) ys (subst (Room T.the-row) (sym len) (lit< tt, lit< tt))) $ await ! tt $ pick ! (λ γ. split ! $
+        use1 W (later (some (λ (γ : GName). ‵ (MutSlice (named 0) (ν ∷ []) T.the-row .own (z ν γ) (s ∷ [])) ⊛ kept ν γ)))
+        (mut-out 𝓤 H A W T.the-row (ν ∷ []) c 0 (named 0) ys (subst (Room T.the-row) (sym len) (lit< tt, lit< tt))) $ await ! tt $ pick ! (λ γ. split ! $
         at-once ! $ move ! (2 ∷ 0 ∷ 3 ∷ []) $ group ! 3 $
-        by ! (called 𝓤 H A W 𝓣 #take Take known (to-take ν γ) (mean 𝓤 H A (had ν γ)) (mean 𝓤 H A (kept ν γ)) (λ w. mean 𝓤 H A (called-back w)) (call-pre ν γ) (call-post ν γ)))))
+        by ! (called 𝓤 H A W 𝓣 #take Take known (to-take ν γ) (mean 𝓤 H A (had ν γ)) (mean 𝓤 H A (kept ν γ)) (λ w. mean 𝓤 H A (called-back w))
+        (call-pre ν γ) (call-post ν γ)))))
 
 -- ---- what is handed back
 
@@ -160,7 +171,8 @@ module _ {M : Type 1} (𝓤 : URA M) (H : Heap 𝓤) (A : Atoms 𝓤) (W : Given
 at-field : List Order → List (T.the-field .row .Denot)
 at-field zs = map (T.the-type .to) zs
 
-each-at-field : (zs : List Order) (us : List Val) → shadow (each Order (T.the-row .own) zs us) → shadow (each (T.the-field .row .Denot) (T.the-field .row .own) (at-field zs) us)
+each-at-field : (zs : List Order) (us : List Val) → shadow (each Order (T.the-row .own) zs us)
+    → shadow (each (T.the-field .row .Denot) (T.the-field .row .own) (at-field zs) us)
 unfolding at-field
 each-at-field [] [] h = h
 each-at-field [] (u ∷ us) h = h
@@ -175,14 +187,18 @@ mach w zs = vstruct (vcons (m zs) (vcons w vnil))
 
 back-is : (r : Answer) (w : Val) (zs : List Order) → Is B.the-row r (w ∷ []) → Is Places zs (m zs ∷ []) → Is O.the-row (back r zs) (mach w zs ∷ [])
 unfolding at-field
-back-is r w zs is-r is-zs = ((m zs ∷ [], (w ∷ [], tt)), (refl, ((is-zs .0, ((is-zs .1 .0 .0, length-map zs (T.the-type .to) ∙ is-zs .1 .0 .1), each-at-field zs (is-zs .0) (is-zs .1 .1))), (is-r, tt))))
+back-is r w zs is-r is-zs = (
+  (m zs ∷ [], (w ∷ [], tt)),
+  (refl, ((is-zs .0, ((is-zs .1 .0 .0, length-map zs (T.the-type .to) ∙ is-zs .1 .0 .1), each-at-field zs (is-zs .0) (is-zs .1 .1))), (is-r, tt))),
+)
 
 -- ---- the walk
 
 abbrev stayed : Stays (this.ended .signature .params) (this.ended .kept)
 stayed = (stay-dropped (plain (λ _. Places)) yes, (gave-slice (0 ∷ []) tt (plain (λ _. Trade)), (stay-dropped (plain (λ _. Q.the-row)) yes, tt)))
 
-module _ {M : Type 1} (𝓤 : URA M) (H : Heap 𝓤) (A : Atoms 𝓤) (W : Given 𝓤 H A) (at-mem : Memory → SProp 𝓤) (run : Routine → Fun 𝓤) (κ : Lft) (q : Share) (ys : List Order) (x : RefT (List (List ℕ))) (y : Event) (v : Val)
+module _ {M : Type 1} (𝓤 : URA M) (H : Heap 𝓤) (A : Atoms 𝓤) (W : Given 𝓤 H A) (at-mem : Memory → SProp 𝓤) (run : Routine
+    → Fun 𝓤) (κ : Lft) (q : Share) (ys : List Order) (x : RefT (List (List ℕ))) (y : Event) (v : Val)
     (is-ys : Is Places ys (vals ys)) (gl : Room Trade (length (now x))) (is-y : Is Q.the-row y (v ∷ [])) where
   len : length ys ≡ 16
   len = is-ys .1 .0 .1
@@ -196,50 +212,79 @@ module _ {M : Type 1} (𝓤 : URA M) (H : Heap 𝓤) (A : Atoms 𝓤) (W : Given
   abbrev Post : Val → SProp 𝓤
   Post = walkOf 𝓤 H A this.ended stayed (this.clauses 𝓤 H A at-mem run) .post bound
 
-  exits : (r : Answer) (w : Val) (zs : List Order) (ts : List (List ℕ)) → Is B.the-row r (w ∷ []) → Is Places zs (m zs ∷ []) → length ts ≡ length (now x) → eventLeft r zs ts ≡ eventCall y ys (tradesOf (now x))
+  exits : (r : Answer) (w : Val) (zs : List Order) (ts : List (List ℕ)) → Is B.the-row r (w ∷ []) → Is Places zs (m zs ∷ [])
+      → length ts ≡ length (now x) → eventLeft r zs ts ≡ eventCall y ys (tradesOf (now x))
       → ent 𝓤 (⋆ 𝓤 H A (‵ (flft κ q) ∷ ‵ (finally Trade (x .name) ts) ∷ [])) (Post (mach w zs))
   exits r w zs ts is-r is-zs len₁ e =
       qed W (‵ (flft κ q) ∷ ‵ (finally Trade (x .name) ts) ∷ []) ∵
-      suffices ! _ (ends-at 𝓤 H A this.ended stayed (this.clauses 𝓤 H A at-mem run) W bound (mach w zs) (back r zs) (tt, (ts, (tt, tt))) (tt, (len₁, (tt, tt)))) $ says ! e $
-      nothing ! $ move ! (1 ∷ 0 ∷ []) $ join ! $ frame ! $ owned ! O.the-row (Is O.the-row) (LL.makes O.the-type O′.the-plain 𝓤 H A) (back r zs) (mach w zs ∷ []) (back-is r w zs is-r is-zs) $
+      suffices ! _ (ends-at 𝓤 H A this.ended stayed (this.clauses 𝓤 H A at-mem run) W bound (mach w zs) (back r zs) (tt, (ts, (tt, tt)))
+      (tt, (len₁, (tt, tt)))) $ says ! e $
+      nothing ! $ move ! (1 ∷ 0 ∷ []) $ join ! $ frame ! $
+      owned ! O.the-row (Is O.the-row) (LL.makes O.the-type O′.the-plain 𝓤 H A) (back r zs) (mach w zs ∷ []) (back-is r w zs is-r is-zs) $
       nothing ! $ nothing ! $ fjoin ! $ move ! (2 ∷ 0 ∷ []) $ fjoin ! $ nothing ! $ fjoin ! $ done !
 
   module _ (𝓣 : Tables 𝓤 H) (known : Triple 𝓤 (𝓣 .C #take) (Take 𝓤 H A W at-mem run)) where
-    walk : ent 𝓤 (⋆ 𝓤 H A (‵ (flft κ q) ∷ ‵ (MutSlice (named 0) κ Trade .own x (u ∷ [])) ∷ ‵ (Q.the-row .own y (v ∷ [])) ∷ [])) (WpFn 𝓤 H (𝓣 .C) (𝓣 .Λ) code.function (m ys ∷ u ∷ v ∷ []) Post)
+    walk : ent 𝓤 (⋆ 𝓤 H A (‵ (flft κ q) ∷ ‵ (MutSlice (named 0) κ Trade .own x (u ∷ [])) ∷ ‵ (Q.the-row .own y (v ∷ [])) ∷ []))
+        (WpFn 𝓤 H (𝓣 .C) (𝓣 .Λ) code.function (m ys ∷ u ∷ v ∷ []) Post)
     walk =
-        qed W (‵ (flft κ q) ∷ ‵ (MutSlice (named 0) κ Trade .own x (u ∷ [])) ∷ ‵ (Q.the-row .own y (v ∷ [])) ∷ []) ∵ enter ! (𝓣 .C) (𝓣 .Λ) code.function (m ys ∷ u ∷ v ∷ []) _ $
-        alloc1 ! (λ l₀. alloc1 ! (λ l₁. alloc1 ! (λ l₂. alloc1 ! (λ l₃. alloc1 ! (λ l₄. alloc1 ! (λ l₅. alloc1 ! (λ l₆. alloc1 ! (λ l₇. alloc1 ! (λ l₈. alloc1 ! (λ l₉. alloc1 ! (λ l₁₀. alloc0 ! $ params1 ! $
-        pass1 ! (init ! 18 refl (typed-book 𝓤 H A W ys (m ys) is-ys)) $ pass1 ! (init ! 16 refl (tt, (tt, (record { fits = gl .0 }, tt)))) $ pass1 ! (init ! 14 refl (typed-event 𝓤 H A W y v is-y)) $ pass0 ! $
+        qed W (‵ (flft κ q) ∷ ‵ (MutSlice (named 0) κ Trade .own x (u ∷ [])) ∷ ‵ (Q.the-row .own y (v ∷ [])) ∷ []) ∵
+        enter ! (𝓣 .C) (𝓣 .Λ) code.function (m ys ∷ u ∷ v ∷ []) _ $
+        alloc1 ! (λ l₀. alloc1 ! (λ l₁. alloc1 ! (λ l₂. alloc1 ! (λ l₃. alloc1 ! (λ l₄. alloc1 ! (λ l₅. alloc1 ! (λ l₆. alloc1 ! (λ l₇.
+        alloc1 ! (λ l₈. alloc1 ! (λ l₉. alloc1 ! (λ l₁₀. alloc0 ! $ params1 ! $
+        pass1 ! (init ! 18 refl (typed-book 𝓤 H A W ys (m ys) is-ys)) $ pass1 ! (init ! 16 refl (tt, (tt, (record { fits = gl .0 }, tt)))) $
+        pass1 ! (init ! 14 refl (typed-event 𝓤 H A W y v is-y)) $ pass0 ! $
         assigns ! (of-opd ! (load ! (from ! (stop !)) (look ! 18 refl))) (from ! (stop !)) (init ! 12 refl (typed-book 𝓤 H A W ys (m ys) is-ys)) $
         assigns ! (addr ! (from ! (stop !))) (from ! (stop !)) (init ! 8 refl (tt, tt)) $
-        assigns ! (agg ! (and-then ! (load ! (from ! (stop !)) (look ! 8 refl)) (and-then ! (lit ! tt) (no-more !)))) (from ! (stop !)) (init ! 6 refl (tt, (tt, (record { fits = lit< tt }, tt)))) $
+        assigns ! (agg ! (and-then ! (load ! (from ! (stop !)) (look ! 8 refl)) (and-then ! (lit ! tt) (no-more !)))) (from ! (stop !))
+        (init ! 6 refl (tt, (tt, (record { fits = lit< tt }, tt)))) $
         assigns ! (addr ! (from ! (fld ! refl (hop ! (look-in ! 16 (sub ! 0 refl (whole !))) (stop !))))) (from ! (stop !)) (init ! 4 refl (tt, tt)) $
-        assigns ! (agg ! (and-then ! (load ! (from ! (stop !)) (look ! 4 refl)) (and-then ! (load ! (from ! (fld ! refl (stop !))) (look-in ! 16 (sub ! 1 refl (whole !)))) (no-more !)))) (from ! (stop !)) (init ! 2 refl (tt, (tt, (record { fits = gl .0 }, tt)))) $
+        assigns ! (agg ! (and-then ! (load ! (from ! (stop !)) (look ! 4 refl))
+        (and-then ! (load ! (from ! (fld ! refl (stop !))) (look-in ! 16 (sub ! 1 refl (whole !)))) (no-more !)))) (from ! (stop !))
+        (init ! 2 refl (tt, (tt, (record { fits = gl .0 }, tt)))) $
         -- the local array is a row of elements
-        owned ! Places (Is Places) (made-book 𝓤 H A W) ys (m ys ∷ []) is-ys $ move ! (13 ∷ 0 ∷ []) $ use2 W (‵ (row T.the-row fullShare ys l₄ 0)) (array-row 𝓤 H A W T.the-row 16 l₄ tt ys (m ys)) $
+        owned ! Places (Is Places) (made-book 𝓤 H A W) ys (m ys ∷ []) is-ys $ move ! (13 ∷ 0 ∷ []) $
+        use2 W (‵ (row T.the-row fullShare ys l₄ 0)) (array-row 𝓤 H A W T.the-row 16 l₄ tt ys (m ys)) $
         -- `take_event`, with the trade list and the event passed on
-        move ! (0 ∷ 22 ∷ 23 ∷ 24 ∷ []) $ group ! 4 $ use1 W (later (raw (𝓣 .C #take (sliceVal (l₄, 0) 16 ∷ u ∷ v ∷ []) (λ w. mean 𝓤 H A (called-back 𝓤 H A W at-mem run l₄ ys κ q x u y v len w))))) (take-on-row 𝓤 H A W at-mem run l₄ ys κ q x u y v len 𝓣 known) $ await ! tt $
-        calls ! (fmOf 𝓤 H (W .laws) 𝓣) (called-back 𝓤 H A W at-mem run l₄ ys κ q x u y v len) (and-then ! (load ! (from ! (stop !)) (look ! 7 refl)) (and-then ! (load ! (from ! (stop !)) (look ! 3 refl)) (and-then ! (load ! (from ! (stop !)) (look ! 14 refl)) (no-more !)))) (λ w. await ! tt $ pick ! (λ r. learn ! (λ e.
-        split ! $ move ! (1 ∷ []) $ split ! $ move ! (1 ∷ []) $ split ! $ move ! (1 ∷ []) $ peeks ! B.the-row (Is B.the-row) (shows 𝓤 H A B.the-row) (r .0) (w ∷ []) (λ is-r. drop ! $
+        move ! (0 ∷ 22 ∷ 23 ∷ 24 ∷ []) $ group ! 4 $
+        use1 W (later (raw (𝓣 .C #take (sliceVal (l₄, 0) 16 ∷ u ∷ v ∷ [])
+        (λ w. mean 𝓤 H A (called-back 𝓤 H A W at-mem run l₄ ys κ q x u y v len w))))) (take-on-row 𝓤 H A W at-mem run l₄ ys κ q x u y v len 𝓣 known) $ await ! tt $
+        calls ! (fmOf 𝓤 H (W .laws) 𝓣) (called-back 𝓤 H A W at-mem run l₄ ys κ q x u y v len)
+        (and-then ! (load ! (from ! (stop !)) (look ! 7 refl))
+        (and-then ! (load ! (from ! (stop !)) (look ! 3 refl)) (and-then ! (load ! (from ! (stop !)) (look ! 14 refl)) (no-more !))))
+        (λ w. await ! tt $ pick ! (λ r. learn ! (λ e.
+        split ! $ move ! (1 ∷ []) $ split ! $ move ! (1 ∷ []) $ split ! $ move ! (1 ∷ []) $
+        peeks ! B.the-row (Is B.the-row) (shows 𝓤 H A B.the-row) (r .0) (w ∷ []) (λ is-r. drop ! $
         land ! (from ! (stop !)) (init ! 13 refl (typed-answer 𝓤 H A W (r .0) w is-r)) $
         -- the row is the local array again, and is read whole
-        move ! (2 ∷ []) $ use1 W (‵ (fat fullShare (tyArray T′.mir 16) l₄ 0 (m (r .1 .0))) ⊛ ‵ (Places .own (r .1 .0) (m (r .1 .0) ∷ []))) (row-array 𝓤 H A W T.the-row 16 l₄ (LL.vals T.the-type T′.the-laws) (LL.tells T.the-type T′.the-laws) (r .1 .0) (e .0)) $ split ! $
+        move ! (2 ∷ []) $ use1 W (‵ (fat fullShare (tyArray T′.mir 16) l₄ 0 (m (r .1 .0)))
+        ⊛ ‵ (Places .own (r .1 .0) (m (r .1 .0) ∷ [])))
+        (row-array 𝓤 H A W T.the-row 16 l₄ (LL.vals T.the-type T′.the-laws) (LL.tells T.the-type T′.the-laws) (r .1 .0) (e .0)) $ split ! $
         move ! (1 ∷ []) $ peeks ! Places (Is Places) (shows 𝓤 H A Places) (r .1 .0) (m (r .1 .0) ∷ []) (λ is-zs. drop ! $
         assigns ! (of-opd ! (load ! (from ! (stop !)) (look ! 0 refl))) (from ! (stop !)) (init ! 3 refl (typed-book 𝓤 H A W (r .1 .0) (m (r .1 .0)) is-zs)) $
-        assigns ! (agg ! (and-then ! (load ! (from ! (stop !)) (look ! 3 refl)) (and-then ! (load ! (from ! (stop !)) (look ! 13 refl)) (no-more !)))) (from ! (stop !)) (init ! 22 refl (LL.lawful O.the-type O′.the-laws 𝓤 H A W .typed (back (r .0) (r .1 .0)) (mach w (r .1 .0) ∷ []) (back-is (r .0) w (r .1 .0) is-r is-zs) .0)) $
-        returns ! (look ! 22 refl) $ forget ! 22 refl $ forget ! 20 refl $ forget ! 18 refl $ forget ! 16 refl $ forget ! 0 refl $ forget ! 13 refl $ forget ! 11 refl $ forget ! 9 refl $ forget ! 7 refl $ forget ! 5 refl $ forget ! 3 refl $
-        move ! (22 ∷ 23 ∷ []) $ free1 ! $ move ! (20 ∷ 21 ∷ []) $ free1 ! $ move ! (18 ∷ 19 ∷ []) $ free1 ! $ move ! (16 ∷ 17 ∷ []) $ free1 ! $ move ! (0 ∷ 15 ∷ []) $ free1 ! $ move ! (12 ∷ 13 ∷ []) $ free1 ! $ move ! (10 ∷ 11 ∷ []) $ free1 ! $ move ! (8 ∷ 9 ∷ []) $ free1 ! $ move ! (6 ∷ 7 ∷ []) $ free1 ! $ move ! (4 ∷ 5 ∷ []) $ free1 ! $ move ! (2 ∷ 3 ∷ []) $ free1 ! $ free0 ! $
+        assigns ! (agg ! (and-then ! (load ! (from ! (stop !)) (look ! 3 refl)) (and-then ! (load ! (from ! (stop !)) (look ! 13 refl)) (no-more !))))
+        (from ! (stop !)) (init ! 22 refl
+        (LL.lawful O.the-type O′.the-laws 𝓤 H A W .typed (back (r .0) (r .1 .0)) (mach w (r .1 .0) ∷ []) (back-is (r .0) w (r .1 .0) is-r is-zs) .0)) $
+        returns ! (look ! 22 refl) $ forget ! 22 refl $ forget ! 20 refl $ forget ! 18 refl $ forget ! 16 refl $ forget ! 0 refl $ forget ! 13 refl $
+        forget ! 11 refl $ forget ! 9 refl $ forget ! 7 refl $ forget ! 5 refl $ forget ! 3 refl $
+        move ! (22 ∷ 23 ∷ []) $ free1 ! $ move ! (20 ∷ 21 ∷ []) $ free1 ! $ move ! (18 ∷ 19 ∷ []) $ free1 ! $ move ! (16 ∷ 17 ∷ []) $ free1 ! $
+        move ! (0 ∷ 15 ∷ []) $ free1 ! $ move ! (12 ∷ 13 ∷ []) $ free1 ! $ move ! (10 ∷ 11 ∷ []) $ free1 ! $ move ! (8 ∷ 9 ∷ []) $ free1 ! $
+        move ! (6 ∷ 7 ∷ []) $ free1 ! $ move ! (4 ∷ 5 ∷ []) $ free1 ! $ move ! (2 ∷ 3 ∷ []) $ free1 ! $ free0 ! $
         keep ! (1 ∷ 0 ∷ []) $ by ! (exits (r .0) w (r .1 .0) (r .1 .1) is-r is-zs (e .1 .0) (e .1 .1))))))))))))))))))
 
-module _ {M : Type 1} (𝓤 : URA M) (H : Heap 𝓤) (A : Atoms 𝓤) (W : Given 𝓤 H A) (at-mem : Memory → SProp 𝓤) (run : Routine → Fun 𝓤) (𝓣 : Tables 𝓤 H) (known : Triple 𝓤 (𝓣 .C #take) (Take 𝓤 H A W at-mem run)) where
+module _ {M : Type 1} (𝓤 : URA M) (H : Heap 𝓤) (A : Atoms 𝓤) (W : Given 𝓤 H A) (at-mem : Memory → SProp 𝓤) (run : Routine
+    → Fun 𝓤) (𝓣 : Tables 𝓤 H) (known : Triple 𝓤 (𝓣 .C #take) (Take 𝓤 H A W at-mem run)) where
   abbrev value : Event → Val
   value = EL.val Q.the-type Q′.the-laws
 
-  entry : (κ : Lft) (q : Share) (ys : List Order) (x : RefT (List (List ℕ))) (y : Event) (is-ys : Is Places ys (vals ys)) (gl : Room Trade (length (now x))) (is-y : Is Q.the-row y (value y ∷ []))
-      → ent 𝓤 (onEntry 𝓤 H A this.signature (κ, tt) (q, tt) (ys, (x, (y, tt))) (vals ys, (slice-vals x, (value y ∷ [], tt)))) (WpFn 𝓤 H (𝓣 .C) (𝓣 .Λ) code.function (m ys ∷ sliceVal (x .ptr) (length (now x)) ∷ value y ∷ []) (Post 𝓤 H A W at-mem run κ q ys x y (value y) is-ys gl is-y))
+  entry : (κ : Lft) (q : Share) (ys : List Order) (x : RefT (List (List ℕ))) (y : Event) (is-ys : Is Places ys (vals ys))
+      (gl : Room Trade (length (now x))) (is-y : Is Q.the-row y (value y ∷ []))
+      → ent 𝓤 (onEntry 𝓤 H A this.signature (κ, tt) (q, tt) (ys, (x, (y, tt))) (vals ys, (slice-vals x, (value y ∷ [], tt))))
+      (WpFn 𝓤 H (𝓣 .C) (𝓣 .Λ) code.function (m ys ∷ sliceVal (x .ptr) (length (now x)) ∷ value y ∷ []) (Post 𝓤 H A W at-mem run κ q ys x y (value y) is-ys gl is-y))
   entry κ q ys x y is-ys gl is-y =
-      qed W ((‵ (flft κ q) ⊛ ‵ ftrue) ∷ ‵ (owns (Places ∷ MutSlice (named 0) κ Trade ∷ Q.the-row ∷ []) (ys, (x, (y, tt))) (vals ys, (slice-vals x, (value y ∷ [], tt)))) ∷ []) ∵
-      split ! $ move ! (2 ∷ []) $ fsplit ! $ move ! (1 ∷ []) $ fsplit ! $ move ! (1 ∷ []) $ fsplit ! $ keep ! (4 ∷ 2 ∷ 0 ∷ []) $ by ! (walk 𝓤 H A W at-mem run κ q ys x y (value y) is-ys gl is-y 𝓣 known)
+      qed W ((‵ (flft κ q) ⊛ ‵ ftrue)
+      ∷ ‵ (owns (Places ∷ MutSlice (named 0) κ Trade ∷ Q.the-row ∷ []) (ys, (x, (y, tt))) (vals ys, (slice-vals x, (value y ∷ [], tt)))) ∷ []) ∵
+      split ! $ move ! (2 ∷ []) $ fsplit ! $ move ! (1 ∷ []) $ fsplit ! $ move ! (1 ∷ []) $ fsplit ! $ keep ! (4 ∷ 2 ∷ 0 ∷ []) $
+      by ! (walk 𝓤 H A W at-mem run κ q ys x y (value y) is-ys gl is-y 𝓣 known)
 
   take-on-sixteen-walks : Walks 𝓤 H A this.ended stayed (WpFn 𝓤 H (𝓣 .C) (𝓣 .Λ) code.function) (this.clauses 𝓤 H A at-mem run)
   take-on-sixteen-walks = walked 𝓤 H A this.ended stayed (this.clauses 𝓤 H A at-mem run) (WpFn 𝓤 H (𝓣 .C) (𝓣 .Λ) code.function)
@@ -247,8 +292,13 @@ module _ {M : Type 1} (𝓤 : URA M) (H : Heap 𝓤) (A : Atoms 𝓤) (W : Given
       (λ κs qs bounds a g are. via 𝓤 _ (fst∗ 𝓤 _ (emp 𝓤)) (entry (κs .0) (qs .0) (a .0) (a .1 .0) (a .1 .1 .0) (are .0) (are .1 .0 .0 .1) (are .1 .1 .0)))
 
   take-on-sixteen-meets : Meets 𝓤 H A this.signature (WpFn 𝓤 H (𝓣 .C) (𝓣 .Λ) code.function) (this.spec 𝓤 H A at-mem run)
-  take-on-sixteen-meets = walk-meets 𝓤 H A this.ended stayed W
-      (goes-silent 𝓤 H A W 1 (plain (λ _. Places)) yes (stay-dropped (plain (λ _. Places)) yes) (λ κs x f. refl), (goes-gave-slice 𝓤 H A W 1 0 tt (plain (λ _. Trade)), (goes-silent 𝓤 H A W 1 (plain (λ _. Q.the-row)) yes (stay-dropped (plain (λ _. Q.the-row)) yes) (λ κs x f. refl), tt)))
+  take-on-sixteen-meets = walk-meets 𝓤 H A this.ended stayed W (
+    goes-silent 𝓤 H A W 1 (plain (λ _. Places)) yes (stay-dropped (plain (λ _. Places)) yes) (λ κs x f. refl),
+    (
+      goes-gave-slice 𝓤 H A W 1 0 tt (plain (λ _. Trade)),
+      (goes-silent 𝓤 H A W 1 (plain (λ _. Q.the-row)) yes (stay-dropped (plain (λ _. Q.the-row)) yes) (λ κs x f. refl), tt),
+    ),
+  )
       (this.clauses 𝓤 H A at-mem run) (WpFn 𝓤 H (𝓣 .C) (𝓣 .Λ) code.function) (WpFn-mono 𝓤 H (W .laws) 𝓣 code.function) take-on-sixteen-walks
 
 pub take-on-sixteen-spec : {M : Type 1} → stated.statement M
