@@ -1,14 +1,13 @@
 -- The book there and back: what a call on the copied rows says is what the call on the lent book has to say. A book of more than
 -- 4,096 places is not copied, and the definitions answer it as they answer one of no place. Assumes nothing.
 use Prim.Native.Nat.{ℕ, _≤_, _<_}
-use mathlib.Core.Path.{_≡_, refl, sym, ap, subst, _∙_}
+use mathlib.Core.Path.{_≡_, refl, sym, ap, _∙_}
 use mathlib.Core.Bool.{Bool, true, false, _&&_, and-false}
 use mathlib.Core.Logic.{inl, inr}
 use mathlib.Core.List.{List, [], _∷_, _++_}
 use native.Mathlib.Nat.{not-suc-le-zero, le-of-suc-le-suc}
 use native.Mathlib.Omega.{arith}
-use lib.ListN.{length, take, drop}
-use lib.Seq.{length-take-le, take-append-seam}
+use lib.ListN.{length, take}
 use Rattle.model.specs.declared.Order.{Order}
 use Rattle.model.specs.declared.Trade.{Trade}
 use Rattle.model.specs.declared.Day.{Day}
@@ -28,7 +27,7 @@ use Rattle.lent.specs.declared.Question.{Question}
 use Rattle.lent.specs.declared.Question.the-variants.{Report, Prices}
 use Rattle.lent.specs.declared.Told.{Told}
 use Rattle.lent.specs.Copying.{copied, placesOf}
-use Rattle.lent.specs.Calls.{eventCall, eventLeft, EventOnRows, questionCall, questionLeft, QuestionOnRows}
+use Rattle.lent.specs.Calls.{eventCall, eventLeft, questionCall, questionLeft}
 use Rattle.lent.proofs.CopiedLaws.{copied-none}
 use Rattle.lent.proofs.PlacesLaws.{places-are}
 
@@ -44,28 +43,16 @@ there [] rows l = refl
 there (o ∷ book) [] l = absurd (not-suc-le-zero l)
 there (o ∷ book) (r ∷ rows) l = ap (λ (os : List Order). o ∷ os) (there book rows (le-of-suc-le-suc l))
 
--- and what is stored are the rows' orders
+-- and what is stored are the orders of as many rows as there are places
 back :
-    (book : List Order) (rows : List (List ℕ))
-    → length book ≤ length rows
-    → copied orderOf (length book) rows book ≡ bookOf (take (length book) rows)
+    (book : List Order) (front rest : List (List ℕ))
+    → length front ≡ length book
+    → copied orderOf (length book) (front ++ rest) book ≡ bookOf front
 unfolding copied
-back [] rows l = refl
-back (o ∷ book) [] l = absurd (not-suc-le-zero l)
-back (o ∷ book) (r ∷ rows) l = ap (λ (os : List Order). orderOf r ∷ os) (back book rows (le-of-suc-le-suc l))
-
--- the part of the rows that was lent, with the rows behind it as they were
-pub on-part :
-    (rows part trades trades′ : List (List ℕ)) (k : ℕ) (event : Event) {answer : Answer}
-    → k ≤ length rows
-    → length part ≡ length (take k rows)
-    → left answer part trades′ ≡ eventCall event (bookOf (take k rows)) (tradesOf trades)
-    → EventOnRows rows k trades event answer (part ++ drop k rows) trades′
-on-part rows part trades trades′ k event {answer} h e p =
-    let n : length part ≡ k = e ∙ length-take-le k rows h in
-    ap (λ (l : List (List ℕ)). left answer l trades′)
-    (ap (λ (j : ℕ). take j (part ++ drop k rows)) (sym n) ∙ take-append-seam part (drop k rows))
-    ∙ p
+back [] [] rest e = refl
+back [] (r ∷ front) rest e = absurd (omega arith)
+back (o ∷ book) [] rest e = absurd (omega arith)
+back (o ∷ book) (r ∷ front) rest e = ap (λ (os : List Order). orderOf r ∷ os) (back book front rest (omega arith))
 
 -- ---- more places than a day can have
 
@@ -111,37 +98,42 @@ module _ (book : List Order) (rows : List (List ℕ)) (len : length rows ≡ 4_0
   abbrev k : ℕ
   k = placesOf (length book)
 
+  abbrev lent : ℕ → List (List ℕ)
+  lent j = take j (copied rowOf j book rows)
+
+  -- the rows that were lent are front now, and those behind them are rest
   pub event-said :
-      (rows′ : List (List ℕ)) (trades trades′ : List (List ℕ)) (event : Event) (answer : Answer)
-      → length rows′ ≡ 4_096
-      → EventOnRows (copied rowOf k book rows) k trades event answer rows′ trades′
-      → eventLeft answer (copied orderOf k rows′ book) trades′ ≡ eventCall event book (tradesOf trades)
-  event-said rows′ trades trades′ event answer len′ e = elim (places-are (length book)) [
+      (front rest trades trades′ : List (List ℕ)) (event : Event) (answer : Answer)
+      → length front ≡ k
+      → left answer front trades′ ≡ eventCall event (bookOf (lent k)) (tradesOf trades)
+      → eventLeft answer (copied orderOf k (front ++ rest) book) trades′ ≡ eventCall event book (tradesOf trades)
+  event-said front rest trades trades′ event answer e p = elim (places-are (length book)) [
     | inl h ↦
-        let e′ : EventOnRows (copied rowOf (length book) book rows) (length book) trades event answer rows′ trades′ = subst
-        (λ (j : ℕ). EventOnRows (copied rowOf j book rows) j trades event answer rows′ trades′) (h .1) e in
-        ap (λ (j : ℕ). eventLeft answer (copied orderOf j rows′ book) trades′) (h .1)
-        ∙ ap (λ (os : List Order). eventLeft answer os trades′) (back book rows′ (omega arith))
-        ∙ e′
+        let n : length front ≡ length book = e ∙ h .1 in
+        ap (λ (j : ℕ). eventLeft answer (copied orderOf j (front ++ rest) book) trades′) (h .1)
+        ∙ ap (λ (os : List Order). eventLeft answer os trades′) (back book front rest n)
+        ∙ p
+        ∙ ap (λ (j : ℕ). eventCall event (bookOf (lent j)) (tradesOf trades)) (h .1)
         ∙ ap (λ (os : List Order). eventCall event os (tradesOf trades)) (there book rows (omega arith))
     | inr h ↦
-        let e′ : EventOnRows (copied rowOf 0 book rows) 0 trades event answer rows′ trades′ = subst
-        (λ (j : ℕ). EventOnRows (copied rowOf j book rows) j trades event answer rows′ trades′) (h .1) e in
-        ap (λ (j : ℕ). eventLeft answer (copied orderOf j rows′ book) trades′) (h .1)
-        ∙ ap (λ (os : List Order). eventLeft answer os trades′) (copied-none orderOf rows′ book)
-        ∙ ap (λ (o : Outcome Answer). record { answer = o .answer; book = book; trades = o .trades }) e′
+        ap (λ (j : ℕ). eventLeft answer (copied orderOf j (front ++ rest) book) trades′) (h .1)
+        ∙ ap (λ (os : List Order). eventLeft answer os trades′) (copied-none orderOf (front ++ rest) book)
+        ∙ ap (λ (o : Outcome Answer). record { answer = o .answer; book = book; trades = o .trades })
+        (p ∙ ap (λ (j : ℕ). eventCall event (bookOf (lent j)) (tradesOf trades)) (h .1))
         ∙ sym (event-too-many book (h .0) event (tradesOf trades))
   ]
 
   pub question-said :
       (prices prices′ : List ℕ) (question : Question) (told : Told)
-      → QuestionOnRows (copied rowOf k book rows) k prices question told prices′
+      → questionLeft told prices′ ≡ questionCall question (bookOf (lent k)) prices
       → questionLeft told prices′ ≡ questionCall question book prices
-  question-said prices prices′ question told e = elim (places-are (length book)) [
+  question-said prices prices′ question told p = elim (places-are (length book)) [
     | inl h ↦
-        subst (λ (j : ℕ). QuestionOnRows (copied rowOf j book rows) j prices question told prices′) (h .1) e
+        p
+        ∙ ap (λ (j : ℕ). questionCall question (bookOf (lent j)) prices) (h .1)
         ∙ ap (λ (os : List Order). questionCall question os prices) (there book rows (omega arith))
     | inr h ↦
-        subst (λ (j : ℕ). QuestionOnRows (copied rowOf j book rows) j prices question told prices′) (h .1) e
+        p
+        ∙ ap (λ (j : ℕ). questionCall question (bookOf (lent j)) prices) (h .1)
         ∙ sym (question-too-many book (h .0) question prices)
   ]

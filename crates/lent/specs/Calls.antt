@@ -1,15 +1,12 @@
 -- The calls on a lent slice of order records: what an event or a question leaves is what the definitions' call gives.
 use Prim.Native.Nat.{ℕ}
-use mathlib.Core.Path.{_≡_}
 use mathlib.Core.List.{List}
-use lib.ListN.{take}
 use Rattle.model.specs.declared.Order.{Order}
 use Rattle.model.specs.declared.Trade.{Trade}
 use Rattle.model.specs.Calls.{Outcome, openCall, orderCall, cancelCall}
 use Rattle.model.specs.ClockCall.{clockCall}
 use Rattle.model.specs.AuctionCalls.{reportCall, listCall}
-use Rattle.book.specs.Rows.{bookOf, tradesOf}
-use Rattle.day.specs.Promises.{left}
+use Rattle.book.specs.Rows.{tradesOf}
 use Rattle.lent.specs.declared.Event.{Event}
 use Rattle.lent.specs.declared.Event.the-variants.{Opens, Moves, Enters, Cancels}
 use Rattle.lent.specs.declared.Answer.{Answer}
@@ -42,12 +39,6 @@ eventCall (Cancels day account number) book lent =
 abbrev pub eventLeft : Answer → List Order → List (List ℕ) → Outcome Answer
 eventLeft answer book trades = record { answer = answer; book = book; trades = tradesOf trades }
 
--- the same where the first k rows are the book
-abbrev pub EventOnRows :
-    List (List ℕ) → ℕ → List (List ℕ) → Event → Answer → List (List ℕ) → List (List ℕ) → Type 0
-EventOnRows rows k trades event answer rows′ trades′ =
-    left answer (take k rows′) trades′ ≡ eventCall event (bookOf (take k rows)) (tradesOf trades)
-
 -- ---- the calls that only ask
 
 -- what is told, and the price list as it is left
@@ -63,8 +54,3 @@ questionCall (Prices day asked) book lent =
 
 abbrev pub questionLeft : Told → List ℕ → View
 questionLeft told prices = record { told = told; prices = prices }
-
--- the same where the first k rows are the book
-abbrev pub QuestionOnRows : List (List ℕ) → ℕ → List ℕ → Question → Told → List ℕ → Type 0
-QuestionOnRows rows k prices question told prices′ =
-    questionLeft told prices′ ≡ questionCall question (bookOf (take k rows)) prices

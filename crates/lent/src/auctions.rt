@@ -7,10 +7,8 @@ use day::auctions::list_auction;
 use day::auctions::report_auction;
 use model::Order;
 ghost use mathlib.Core.Path.{_≡_};
-ghost use Prim.Native.Nat.{_≤_};
-ghost use lib.ListN.{length};
 ghost use Rattle.book.specs.Rows.{bookOf};
-ghost use Rattle.lent.specs.Calls.{questionCall, questionLeft, QuestionOnRows};
+ghost use Rattle.lent.specs.Calls.{questionCall, questionLeft};
 
 // The call on rows that a question asks for.
 fn answer_question(rows: &[[u64; 5]], prices: &mut [u64], question: Question) -> Told
@@ -22,14 +20,6 @@ fn answer_question(rows: &[[u64; 5]], prices: &mut [u64], question: Question) ->
     }
 }
 
-// The first k rows are the book.
-fn question_on_rows(rows: &mut [[u64; 5]], k: usize, prices: &mut [u64], question: Question) -> Told
-    requires { ⌜ k ≤ length (now rows) ⌝ }
-    ensures { λ r. ⌜ QuestionOnRows (now (rows .entry)) k (now (prices .entry)) question r (now (prices .exit)) ⌝ }
-{
-    answer_question(&rows[..k], prices, question)
-}
-
 // A book of more places than a day can have is answered as one of no place.
 pub fn ask_auction(book: &[Order], prices: &mut [u64], question: Question) -> Told
     ensures { λ r. ⌜ questionLeft r (now (prices .exit)) ≡ questionCall question (now (book .entry)) (now (prices .entry)) ⌝ }
@@ -37,5 +27,5 @@ pub fn ask_auction(book: &[Order], prices: &mut [u64], question: Question) -> To
     let mut rows = [[0u64; 5]; 4096];
     let k = places(book.len());
     load(book, &mut rows, k);
-    question_on_rows(&mut rows, k, prices, question)
+    answer_question(&rows[..k], prices, question)
 }

@@ -10,11 +10,9 @@ use day::moving::move_clock;
 use day::opening::open_day;
 use model::Order;
 ghost use mathlib.Core.Path.{_≡_};
-ghost use Prim.Native.Nat.{_≤_};
-ghost use lib.ListN.{length};
 ghost use Rattle.book.specs.Rows.{bookOf, tradesOf};
 ghost use Rattle.day.specs.Promises.{left};
-ghost use Rattle.lent.specs.Calls.{eventCall, eventLeft, EventOnRows};
+ghost use Rattle.lent.specs.Calls.{eventCall, eventLeft};
 
 // The call on rows that an event asks for.
 fn answer_event(rows: &mut [[u64; 5]], trades: &mut [[u64; 4]], event: Event) -> Answer
@@ -32,14 +30,6 @@ fn answer_event(rows: &mut [[u64; 5]], trades: &mut [[u64; 4]], event: Event) ->
     }
 }
 
-// The first k rows are the book.
-fn event_on_rows(rows: &mut [[u64; 5]], k: usize, trades: &mut [[u64; 4]], event: Event) -> Answer
-    requires { ⌜ k ≤ length (now rows) ⌝ }
-    ensures { λ r. ⌜ EventOnRows (now (rows .entry)) k (now (trades .entry)) event r (now (rows .exit)) (now (trades .exit)) ⌝ }
-{
-    answer_event(&mut rows[..k], trades, event)
-}
-
 // A book of more places than a day can have is answered as one of no place, and no place of it is set.
 pub fn take_event(book: &mut [Order], trades: &mut [[u64; 4]], event: Event) -> Answer
     ensures { λ r. ⌜ eventLeft r (now (book .exit)) (now (trades .exit)) ≡ eventCall event (now (book .entry)) (tradesOf (now (trades .entry))) ⌝ }
@@ -47,7 +37,7 @@ pub fn take_event(book: &mut [Order], trades: &mut [[u64; 4]], event: Event) -> 
     let mut rows = [[0u64; 5]; 4096];
     let k = places(book.len());
     load(book, &mut rows, k);
-    let answer = event_on_rows(&mut rows, k, trades, event);
+    let answer = answer_event(&mut rows[..k], trades, event);
     store(&rows, book, k);
     answer
 }
