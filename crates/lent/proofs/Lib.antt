@@ -13,6 +13,7 @@ pub mod PlacesCall
 pub mod BookRows
 pub mod RowCall
 pub mod RowLook
+pub mod ByValue
 pub mod ByKind
 pub mod ThereAndBack
 pub mod Determined

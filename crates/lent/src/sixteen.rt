@@ -1,12 +1,15 @@
-// A book of sixteen places by value, for code that does not lend: it is handed over with an event and comes back with the answer.
-// Whoever calls this needs no proof by hand.
+// A book of sixteen places by value, for code that does not lend: it is handed over with an event, and comes back with the answer,
+// or with a question. Whoever calls this needs no proof by hand.
 use crate::Answer;
 use crate::Event;
+use crate::Question;
+use crate::Told;
+use crate::auctions::ask_auction;
 use crate::events::take_event;
 use model::Order;
 ghost use mathlib.Core.Path.{_≡_};
 ghost use Rattle.book.specs.Rows.{tradesOf};
-ghost use Rattle.lent.specs.Calls.{eventCall, eventLeft};
+ghost use Rattle.lent.specs.Calls.{eventCall, eventLeft, questionCall, questionLeft};
 
 // What is handed back.
 pub struct HandedBack {
@@ -23,4 +26,11 @@ pub fn take_on_sixteen(book: [Order; 16], trades: &mut [[u64; 4]], event: Event)
         book: places,
         answer,
     }
+}
+
+pub fn ask_on_sixteen(book: [Order; 16], prices: &mut [u64], question: Question) -> Told
+    ensures { λ r. ⌜ questionLeft r (now (prices .exit)) ≡ questionCall question book (now (prices .entry)) ⌝ }
+{
+    let places = book;
+    ask_auction(&places, prices, question)
 }

@@ -54,8 +54,8 @@ Arg = RefT (List Order) × (ℕ × (Order × Unit {0}))
 abbrev stayed : Stays (put.ended .signature .params) (put.ended .kept)
 stayed = (stay-slice (0 ∷ []) tt (plain (λ _. T.the-row)), (stay-none (λ _. usize) yes, (stay-none (λ _. T.the-row) yes, tt)))
 
-module _ {M : Type 1} (𝓤 : URA M) (H : Heap 𝓤) (A : Atoms 𝓤) (W : Given 𝓤 H A) (mem : Memory → SProp 𝓤) (run : Routine
-    → Fun 𝓤) (κ : Lft) (q : Share) (b o : ℕ) (γ : GName) (ys : List Order) (i : ℕ) (d : Order)
+module _ {M : Type 1} (𝓤 : URA M) (H : Heap 𝓤) (A : Atoms 𝓤) (W : Given 𝓤 H A) (mem : Memory → SProp 𝓤)
+    (run : Routine → Fun 𝓤) (κ : Lft) (q : Share) (b o : ℕ) (γ : GName) (ys : List Order) (i : ℕ) (d : Order)
     (gn : Room T.the-row (length ys)) (gi : i < 2 ^ 64) (gd : Is T.the-row d (T′.lowered d ∷ [])) where
   abbrev x : List Order → RefT (List Order)
   x l = record { ptr = (b, o); name = γ; now = l }

@@ -1,7 +1,9 @@
--- `lent::auctions::ask_auction` meets its contract: a walk of its steps by hand. The local array is a row of elements (`fresh-row`). The book
--- is only read: one copy of its slice goes to `load`, one is kept. The calls, of which only the contracts are known, are carried by
--- `places-on`, `load-from-shared` and `look-on-row`: of the rows the first k are lent (`row-cut`). `question-said` turns what the call says of the rows into what the contract says of the
--- book. Assumes nothing.
+-- `lent::auctions::ask_auction` meets its contract: a walk of its steps by hand. The local array is a row of elements
+-- (`fresh-row`). The book is only read: one copy of its slice goes to `load`, one is kept. The calls, of which only the contracts
+-- are known, are carried by `places-on`, `load-from-shared` and `look-on-row`: of the rows the first k are lent (`row-cut`).
+-- `question-said` turns what the call says of the rows into what the contract says of the book. The numbers in a walk are places
+-- in the list of what is had: the locals from the last one down to the result, two items each, then tokens, slices and the
+-- question. A step puts what it gives in front. Assumes nothing.
 use mathlib.Core.Path.{_≡_, refl, subst}
 use Prim.Native.Nat.{ℕ, _<_, _^_}
 use mathlib.Core.List.{List, [], _∷_, _++_}
@@ -86,8 +88,8 @@ module _ {M : Type 1} (𝓤 : URA M) (H : Heap 𝓤) (A : Atoms 𝓤) (W : Given
   typed-answer : (r : Told) (v : Val) → Is B.the-row r (v ∷ []) → Holds (hasTy B′.mir v) × WT v
   typed-answer r v is = EL.lawful B.the-type B′.the-laws 𝓤 H A W tt .typed r (v ∷ []) is .0
 
-module _ {M : Type 1} (𝓤 : URA M) (H : Heap 𝓤) (A : Atoms 𝓤) (W : Given 𝓤 H A) (at-mem : Memory → SProp 𝓤) (run : Routine
-    → Fun 𝓤) (κ κ₁ : Lft) (q q₁ : Share) (b o : ℕ) (γ : GName) (ys : List Order) (x : RefT (List ℕ)) (y : Question) (v : Val)
+module _ {M : Type 1} (𝓤 : URA M) (H : Heap 𝓤) (A : Atoms 𝓤) (W : Given 𝓤 H A) (at-mem : Memory → SProp 𝓤)
+    (run : Routine → Fun 𝓤) (κ κ₁ : Lft) (q q₁ : Share) (b o : ℕ) (γ : GName) (ys : List Order) (x : RefT (List ℕ)) (y : Question) (v : Val)
     (gb : Room T.the-row (length ys)) (gl : Room u64 (length (now x))) (is-q : Is Q.the-row y (v ∷ [])) where
   abbrev n : ℕ
   n = length ys
@@ -216,8 +218,8 @@ module _ {M : Type 1} (𝓤 : URA M) (H : Heap 𝓤) (A : Atoms 𝓤) (W : Given
         keep ! (3 ∷ 4 ∷ 2 ∷ 1 ∷ 0 ∷ []) $
         by ! (exits (r .0) w (r .1) (e .0) (question-said ys (fresh 4096) (length-fresh 4096) (now x) (r .1) y (r .0) (e .1))))))))))))))))))))))))))
 
-module _ {M : Type 1} (𝓤 : URA M) (H : Heap 𝓤) (A : Atoms 𝓤) (W : Given 𝓤 H A) (at-mem : Memory → SProp 𝓤) (run : Routine
-    → Fun 𝓤) (𝓣 : Tables 𝓤 H) (known-places : Triple 𝓤 (𝓣 .C #places) (Places 𝓤 H A)) (known-load : Triple 𝓤 (𝓣 .C #load) (Load 𝓤 H A))
+module _ {M : Type 1} (𝓤 : URA M) (H : Heap 𝓤) (A : Atoms 𝓤) (W : Given 𝓤 H A) (at-mem : Memory → SProp 𝓤)
+    (run : Routine → Fun 𝓤) (𝓣 : Tables 𝓤 H) (known-places : Triple 𝓤 (𝓣 .C #places) (Places 𝓤 H A)) (known-load : Triple 𝓤 (𝓣 .C #load) (Load 𝓤 H A))
     (known-work : Triple 𝓤 (𝓣 .C #work) (OnRows 𝓤 H A)) where
   abbrev value : Question → Val
   value = EL.val Q.the-type Q′.the-laws

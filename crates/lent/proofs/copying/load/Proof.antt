@@ -34,5 +34,5 @@ load-spec 𝓤 H 𝓜 𝓖 𝓡 =
     (λ o v is. LL.lawful T.the-type T′.the-laws 𝓤 H (𝓖 .A) (givenOf 𝓤 H 𝓜 𝓖) .typed o _ is .0)
     (cited 𝓤 H (Read T.the-row (Array u64 5) T.the-row (λ o. o) rowOf free 𝓤 H (𝓖 .A)) 𝓜 𝓡 code.env #read read-def.routine code.calls-lent·place
     (read-thm.met 𝓤 H 𝓜 𝓖 𝓡))
-    (cited 𝓤 H (Write T.the-row (Array u64 5) T.the-row (λ o. o) rowOf free 𝓤 H
-    (𝓖 .A)) 𝓜 𝓡 code.env #write write-def.routine code.calls-book·put-order (write-thm.met 𝓤 H 𝓜 𝓖 𝓡)))
+    (cited 𝓤 H (Write T.the-row (Array u64 5) T.the-row (λ o. o) rowOf free 𝓤 H (𝓖 .A)) 𝓜 𝓡 code.env #write write-def.routine code.calls-book·put-order
+    (write-thm.met 𝓤 H 𝓜 𝓖 𝓡)))

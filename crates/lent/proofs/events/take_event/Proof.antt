@@ -1,8 +1,10 @@
--- `lent::events::take_event` meets its contract: a walk of its steps by hand. The book's borrow is opened (`opens-slice`) and is a row of
--- elements, like the local array (`fresh-row`). The calls, of which only the contracts are known, are carried by `places-on`, `load-from-row`,
--- `call-on-row` and `store-to-row`: of the rows the first k are lent
--- (`row-cut`) and joined to the rest again (`row-joined`). Then the borrow is closed at the book as it was stored (`closes-slice`). `event-said` turns what the call
--- did to the rows into what the contract says of the book. Assumes nothing.
+-- `lent::events::take_event` meets its contract: a walk of its steps by hand. The book's borrow is opened (`opens-slice`) and is
+-- a row of elements, like the local array (`fresh-row`). The calls, of which only the contracts are known, are carried by
+-- `places-on`, `load-from-row`, `call-on-row` and `store-to-row`: of the rows the first k are lent (`row-cut`) and joined to the
+-- rest again (`row-joined`). Then the borrow is closed at the book as it was stored (`closes-slice`). `event-said` turns what the
+-- call did to the rows into what the contract says of the book. The numbers in a walk are places in the list of what is had: the
+-- locals from the last one down to the result, two items each, then tokens, slices and the question. A step puts what it gives in
+-- front. Assumes nothing.
 use mathlib.Core.Path.{_≡_, refl, sym, _∙_, ap, subst}
 use Prim.Native.Nat.{ℕ, _<_, _^_}
 use mathlib.Core.List.{List, [], _∷_, _++_}
@@ -95,8 +97,8 @@ module _ {M : Type 1} (𝓤 : URA M) (H : Heap 𝓤) (A : Atoms 𝓤) (W : Given
   typed-answer : (r : Answer) (v : Val) → Is B.the-row r (v ∷ []) → Holds (hasTy B′.mir v) × WT v
   typed-answer r v is = EL.lawful B.the-type B′.the-laws 𝓤 H A W tt .typed r (v ∷ []) is .0
 
-module _ {M : Type 1} (𝓤 : URA M) (H : Heap 𝓤) (A : Atoms 𝓤) (W : Given 𝓤 H A) (at-mem : Memory → SProp 𝓤) (run : Routine
-    → Fun 𝓤) (κ κ₁ : Lft) (q q₁ : Share) (b o : ℕ) (γ : GName) (ys : List Order) (x : RefT (List (List ℕ))) (y : Event) (v : Val)
+module _ {M : Type 1} (𝓤 : URA M) (H : Heap 𝓤) (A : Atoms 𝓤) (W : Given 𝓤 H A) (at-mem : Memory → SProp 𝓤)
+    (run : Routine → Fun 𝓤) (κ κ₁ : Lft) (q q₁ : Share) (b o : ℕ) (γ : GName) (ys : List Order) (x : RefT (List (List ℕ))) (y : Event) (v : Val)
     (gb : Room T.the-row (length ys)) (gl : Room (Array u64 4) (length (now x))) (is-q : Is Q.the-row y (v ∷ [])) where
   abbrev n : ℕ
   n = length ys
@@ -265,8 +267,8 @@ module _ {M : Type 1} (𝓤 : URA M) (H : Heap 𝓤) (A : Atoms 𝓤) (W : Given
         (event-said ys (fresh 4096) (length-fresh 4096) (r .1 .0) (rest ys) (now x) (r .1 .1) y (r .0) (e .0 ∙ length-lent ys)
         (e .1 .1)))))))))))))))))))))))))))))))))))
 
-module _ {M : Type 1} (𝓤 : URA M) (H : Heap 𝓤) (A : Atoms 𝓤) (W : Given 𝓤 H A) (at-mem : Memory → SProp 𝓤) (run : Routine
-    → Fun 𝓤) (𝓣 : Tables 𝓤 H) (known-places : Triple 𝓤 (𝓣 .C #places) (Places 𝓤 H A)) (known-load : Triple 𝓤 (𝓣 .C #load) (Load 𝓤 H A))
+module _ {M : Type 1} (𝓤 : URA M) (H : Heap 𝓤) (A : Atoms 𝓤) (W : Given 𝓤 H A) (at-mem : Memory → SProp 𝓤)
+    (run : Routine → Fun 𝓤) (𝓣 : Tables 𝓤 H) (known-places : Triple 𝓤 (𝓣 .C #places) (Places 𝓤 H A)) (known-load : Triple 𝓤 (𝓣 .C #load) (Load 𝓤 H A))
     (known-work : Triple 𝓤 (𝓣 .C #work) (OnRows 𝓤 H A)) (known-store : Triple 𝓤 (𝓣 .C #store) (Store 𝓤 H A)) where
   abbrev value : Event → Val
   value = EL.val Q.the-type Q′.the-laws

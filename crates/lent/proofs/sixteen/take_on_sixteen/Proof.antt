@@ -1,6 +1,8 @@
--- `lent::sixteen::take_on_sixteen` meets its contract: a walk of its steps by hand. The array that was passed by value is copied into a local,
--- which is a row of elements (`array-row`); the row is lent to `take_event`, of which only the contract is known, for a lifetime that is made
--- for the call (`call-on-row`); it comes back and is read whole (`row-array`). Assumes nothing.
+-- `lent::sixteen::take_on_sixteen` meets its contract: a walk of its steps by hand. The array that was passed by value is copied
+-- into a local, which is a row of elements (`array-row`); the row is lent to `take_event`, of which only the contract is known,
+-- for a lifetime that is made for the call (`call-on-row`); it comes back and is read whole (`row-array`). The numbers in a walk
+-- are places in the list of what is had: the locals from the last one down to the result, two items each, then tokens, slices and
+-- the question. A step puts what it gives in front. Assumes nothing.
 use mathlib.Core.Path.{_≡_, refl, sym, _∙_, subst}
 use Prim.Native.Nat.{ℕ}
 use mathlib.Core.List.{List, [], _∷_, map}
@@ -24,16 +26,16 @@ use types.Run.{look, init, forget, stop, hop, fld, from, load, lit, addr, of-opd
 use sound.WpLaws.{fmOf, WpFn-mono}
 use denote.Exit.{yes}
 use denote.RattleType.{RattleType, owns}
-use denote.Laws.{Is, Tells, Makes, shows}
+use denote.Laws.{Is, shows}
 use denote.Shadow.{shadow}
-use denote.Array.{Array, each, array-vals, array-tells, array-lawful, array-makes}
+use denote.Array.{Array, each}
 use denote.Builtin.{u64}
 use denote.Enum.Laws as EL
 use denote.Index.{row}
 use denote.Ref.{RefT, now}
 use denote.Slice.{sliceVal, MutSlice, Room, finally, slice-vals, mut-slice-tells}
 use denote.Signature.{plain}
-use denote.Steps.{only, owned, peeks, nothing}
+use denote.Steps.{owned, peeks, nothing}
 use denote.Struct.Laws as LL
 use denote.Triple.Entry.{onEntry}
 use denote.Triple.Spec.{Meets, tripleOf}
@@ -54,6 +56,7 @@ use Rattle.lent.proofs.Answer as B
 use Rattle.lent.proofs.Answer.Laws as B′
 use Rattle.lent.proofs.sixteen.HandedBack as O
 use Rattle.lent.proofs.sixteen.HandedBack.Laws as O′
+use Rattle.lent.proofs.ByValue.{Places, vals, m, told-book, made-book, typed-book}
 use Rattle.lent.proofs.OnRows.{array-row, row-array}
 use Rattle.lent.proofs.RowCall.{Call, called-back, to-row, call-on-row}
 use Rattle.lent.proofs.events.take_event.Symbol as take-def
@@ -64,29 +67,11 @@ use Rattle.lent.proofs.sixteen.take_on_sixteen as this
 use Rattle.lent.proofs.sixteen.take_on_sixteen.Statement as stated
 use Rattle.lent.proofs.sixteen.take_on_sixteen.Code as code
 
--- the array's type, its machine value, and a row of the trade list
-abbrev Places : RattleType
-Places = Array T.the-row 16
-
-abbrev vals : List Order → List Val
-vals = array-vals (LL.vals T.the-type T′.the-laws)
-
-abbrev m : List Order → Val
-m zs = only (vals zs)
-
+-- a row of the trade list
 abbrev Trade : RattleType
 Trade = Array u64 4
 
-told-book : Tells Places (Is Places) vals
-told-book = array-tells T.the-row (LL.vals T.the-type T′.the-laws) (LL.tells T.the-type T′.the-laws) 16
-
 module _ {M : Type 1} (𝓤 : URA M) (H : Heap 𝓤) (A : Atoms 𝓤) (W : Given 𝓤 H A) where
-  made-book : Makes 𝓤 H A Places (Is Places)
-  made-book = array-makes 𝓤 H A W T.the-row (LL.makes T.the-type T′.the-plain 𝓤 H A) 16
-
-  typed-book : (ys : List Order) (v : Val) → Is Places ys (v ∷ []) → Holds (hasTy (tyArray T′.mir 16) v) × WT v
-  typed-book ys v is = array-lawful 𝓤 H A W T.the-row (LL.lawful T.the-type T′.the-laws 𝓤 H A W) 16 .typed ys (v ∷ []) is .0
-
   typed-event : (y : Event) (v : Val) → Is Q.the-row y (v ∷ []) → Holds (hasTy Q′.mir v) × WT v
   typed-event y v is = EL.lawful Q.the-type Q′.the-laws 𝓤 H A W tt .typed y (v ∷ []) is .0
 
@@ -132,8 +117,8 @@ back-is r w zs is-r is-zs = (
 abbrev stayed : Stays (this.ended .signature .params) (this.ended .kept)
 stayed = (stay-dropped (plain (λ _. Places)) yes, (gave-slice (0 ∷ []) tt (plain (λ _. Trade)), (stay-dropped (plain (λ _. Q.the-row)) yes, tt)))
 
-module _ {M : Type 1} (𝓤 : URA M) (H : Heap 𝓤) (A : Atoms 𝓤) (W : Given 𝓤 H A) (at-mem : Memory → SProp 𝓤) (run : Routine
-    → Fun 𝓤) (κ : Lft) (q : Share) (ys : List Order) (x : RefT (List (List ℕ))) (y : Event) (v : Val)
+module _ {M : Type 1} (𝓤 : URA M) (H : Heap 𝓤) (A : Atoms 𝓤) (W : Given 𝓤 H A) (at-mem : Memory → SProp 𝓤)
+    (run : Routine → Fun 𝓤) (κ : Lft) (q : Share) (ys : List Order) (x : RefT (List (List ℕ))) (y : Event) (v : Val)
     (is-ys : Is Places ys (vals ys)) (gl : Room Trade (length (now x))) (is-y : Is Q.the-row y (v ∷ [])) where
   len : length ys ≡ 16
   len = is-ys .1 .0 .1
@@ -216,8 +201,8 @@ module _ {M : Type 1} (𝓤 : URA M) (H : Heap 𝓤) (A : Atoms 𝓤) (W : Given
         move ! (6 ∷ 7 ∷ []) $ free1 ! $ move ! (4 ∷ 5 ∷ []) $ free1 ! $ move ! (2 ∷ 3 ∷ []) $ free1 ! $ free0 ! $
         keep ! (1 ∷ 0 ∷ []) $ by ! (exits (r .0) w (r .1 .0) (r .1 .1) is-r is-zs (e .1 .0) (e .1 .1))))))))))))))))))
 
-module _ {M : Type 1} (𝓤 : URA M) (H : Heap 𝓤) (A : Atoms 𝓤) (W : Given 𝓤 H A) (at-mem : Memory → SProp 𝓤) (run : Routine
-    → Fun 𝓤) (𝓣 : Tables 𝓤 H) (known : Triple 𝓤 (𝓣 .C #take) (Take 𝓤 H A)) where
+module _ {M : Type 1} (𝓤 : URA M) (H : Heap 𝓤) (A : Atoms 𝓤) (W : Given 𝓤 H A) (at-mem : Memory → SProp 𝓤)
+    (run : Routine → Fun 𝓤) (𝓣 : Tables 𝓤 H) (known : Triple 𝓤 (𝓣 .C #take) (Take 𝓤 H A)) where
   abbrev value : Event → Val
   value = EL.val Q.the-type Q′.the-laws
 
