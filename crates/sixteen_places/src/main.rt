@@ -1,10 +1,12 @@
-// Document 01's session on a book of sixteen order records. Each reply is printed as the rehearsal program prints it, and the
-// book after the orders of the opening call, before the cancels, and at the end.
+// Document 01's session on a book of sixteen order records. Each reply is printed as the rehearsal program prints it; besides, the
+// book after the orders of the opening call with the auction's report and prices then, before the cancels, and at the end.
 mod printing;
 
 use book::places::free_place;
 use lent::Answer;
 use lent::Event;
+use lent::Question;
+use lent::sixteen::ask_on_sixteen;
 use lent::sixteen::take_on_sixteen;
 use model::Asked;
 use model::Day;
@@ -12,6 +14,7 @@ use model::OpenReply;
 use model::Order;
 use printing::print_answer;
 use printing::print_book;
+use printing::print_told;
 ghost use mathlib.Core.Path.{_≡_};
 ghost use Rattle.book.specs.Rows.{tradesOf};
 ghost use Rattle.lent.specs.Calls.{eventCall};
@@ -78,6 +81,24 @@ fn cancel(s: Stand, account: u64, number: u64) -> Stand {
     )
 }
 
+// What an auction held now would do, with room for eight prices.
+fn ask(s: Stand, question: Question) {
+    let mut prices = [0u64; 8];
+    let book = s.book;
+    let told = ask_on_sixteen(book, &mut prices, question);
+    print_told(told, &prices);
+}
+
+fn ask_report(s: Stand) {
+    let day = s.day;
+    ask(s, Question::Report(day));
+}
+
+fn ask_prices(s: Stand, asked: u64) {
+    let day = s.day;
+    ask(s, Question::Prices { day, asked });
+}
+
 fn asked(side: u64, kind: u64, account: u64, quantity: u64, price: u64) -> Asked {
     Asked {
         side,
@@ -111,6 +132,8 @@ fn main() {
     s = enter(s, asked(0, 0, 7, 200, 1010));
     s = enter(s, asked(1, 0, 8, 300, 990));
     print_book(s);
+    ask_report(s);
+    ask_prices(s, 1);
     s = wait(s, 33_600);
     s = cancel(s, 7, 1);
     s = wait(s, 34_200);

@@ -1,8 +1,10 @@
-// What the program prints: an answer's lines, and a line for each order of the book.
+// What the program prints: an answer's lines, what an auction is told, and the orders of the book.
 use crate::Stand;
 use lent::Answer;
 use lent::Event;
-use model::Order;
+use lent::Told;
+use model::ListReply;
+use model::ReportReply;
 use text::printing::put_cancel;
 use text::printing::put_clock;
 use text::printing::put_open;
@@ -69,21 +71,66 @@ pub fn print_answer(event: Event, answer: Answer, trades: &[[u64; 4]])
     write_out(&out[..], n);
 }
 
-// `B`, then side, account, shares left, price and number.
-fn print_place(o: Order) {
+// A letter and the first n of the numbers.
+fn print_line(letter: u8, n: usize, numbers: [u64; 5])
+    requires { ⌜ n ≤ 5 ⌝ }
+{
     let mut out = io::buffer();
-    let numbers = [o.side, o.account, o.left, o.price, o.number];
-    let n = put_reply(&mut out[..], 0, b'B', 5, numbers);
-    write_out(&out[..], n);
+    let end = put_reply(&mut out[..], 0, letter, n, numbers);
+    write_out(&out[..], end);
 }
 
+// `R`, then price and volume.
+fn print_report(reply: ReportReply) {
+    match reply {
+        ReportReply::Refused(n) => print_line(b'X', 1, [n, 0, 0, 0, 0]),
+        ReportReply::Priced {
+            price,
+            volume,
+            surplus: _,
+        } => print_line(b'R', 2, [price, volume, 0, 0, 0]),
+    }
+}
+
+// `P` and a price, for the first n of the list.
+fn print_prices(prices: &[u64], n: usize) {
+    let mut i: usize = 0;
+    while i < n {
+        if prices.len() <= i {
+            return;
+        }
+        let numbers = [prices[i], 0, 0, 0, 0];
+        print_line(b'P', 1, numbers);
+        i += 1;
+    }
+}
+
+// The prices that were listed, then `N` and the next one due.
+fn print_list(reply: ListReply, prices: &[u64]) {
+    match reply {
+        ListReply::Refused(n) => print_line(b'X', 1, [n, 0, 0, 0, 0]),
+        ListReply::Listed { count, next } => {
+            print_prices(prices, count);
+            print_line(b'N', 1, [next, 0, 0, 0, 0]);
+        }
+    }
+}
+
+pub fn print_told(told: Told, prices: &[u64]) {
+    match told {
+        Told::Reported(reply) => print_report(reply),
+        Told::Listed(reply) => print_list(reply, prices),
+    }
+}
+
+// `B`, then side, account, shares left, price and number, for each order of the book.
 pub fn print_book(s: Stand) {
     let book = s.book;
     let mut i: usize = 0;
     while i < 16 {
         let o = book[i];
         if o.number != 0 {
-            print_place(o);
+            print_line(b'B', 5, [o.side, o.account, o.left, o.price, o.number]);
         }
         i += 1;
     }

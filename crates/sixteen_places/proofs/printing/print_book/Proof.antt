@@ -19,8 +19,8 @@ mul-o c = search needs
 array-copy-out-o : tie.Need-array-copy-out-o Inv-loop μ-loop
 array-copy-out-o c = search needs
 
-print-place-requires : tie.Need-print-place-requires Inv-loop μ-loop
-print-place-requires c κs = search needs
+print-line-requires : tie.Need-print-line-requires Inv-loop μ-loop
+print-line-requires c κs = search needs
 
 add-i : tie.Need-add-i Inv-loop μ-loop
 add-i c = search needs
@@ -43,7 +43,7 @@ print-book-spec =
     loop-holds
     mul-o
     array-copy-out-o
-    print-place-requires
+    print-line-requires
     add-i
     loop-less
     loop-again

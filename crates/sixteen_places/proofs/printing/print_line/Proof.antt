@@ -1,11 +1,9 @@
 -- A line fits the buffer. Assumes nothing.
-use mathlib.Core.List.{[], _∷_}
 use native.Mathlib.Omega.{arith}
-use Rattle.text.proofs.Printed.{reply-fits}
-use Rattle.sixteen_places.proofs.Fits.{line-fits}
+use Rattle.sixteen_places.proofs.Fits.{line-fits, reply-short}
 use borrow.Author.Needs.{needs}
-use Rattle.sixteen_places.proofs.printing.print_place.Statement.{statement}
-use Rattle.sixteen_places.proofs.printing.print_place.Tie as tie
+use Rattle.sixteen_places.proofs.printing.print_line.Statement.{statement}
+use Rattle.sixteen_places.proofs.printing.print_line.Tie as tie
 
 buffer-requires : tie.Need-buffer-requires
 buffer-requires c κs = search needs
@@ -21,14 +19,14 @@ slice-aggregate-write-out c = search needs
 
 write-out-requires : tie.Need-write-out-requires
 write-out-requires c κs =
-    let o = c .before .before .before .before .before .args .o in
-    line-fits (c .before .before .put-reply .ensures) (omega (arith, reply-fits 66 (o .side ∷ o .account ∷ o .left ∷ o .price ∷ o .number ∷ []))) (omega arith)
+    let a = c .before .before .before .before .before .args in
+    line-fits (c .before .before .put-reply .ensures) (reply-short (a .letter) (a .n) (a .numbers) (search needs)) (omega arith)
 
 returns : tie.Need-returns
 returns c = search needs
 
-pub print-place-spec : {M : Type 1} → statement M
-print-place-spec =
+pub print-line-spec : {M : Type 1} → statement M
+print-line-spec =
     tie.close
     (tie.spec
     buffer-requires
