@@ -1,4 +1,4 @@
-// What the program prints: an answer's lines, what an auction is told, and the orders of the book.
+// What the program prints: an answer's lines, what is told of an auction, and the orders of the book.
 use crate::Stand;
 use lent::Answer;
 use lent::Event;
@@ -12,7 +12,7 @@ use text::printing::put_order;
 use text::printing::put_reply;
 use text::printing::put_trades;
 ghost use mathlib.Core.Path.{_≡_};
-ghost use Prim.Native.Nat.{_+_, _≤_};
+ghost use Prim.Native.Nat.{_≤_};
 ghost use lib.ListN.{length};
 
 // The first n bytes go to standard output.

@@ -22,7 +22,10 @@ put-trades-requires : tie.Need-put-trades-requires
 put-trades-requires c κs = search needs
 
 put-clock-requires : tie.Need-put-clock-requires
-put-clock-requires c κs = room-behind (c .before .before .before .before .before .before .before .before .before .before .args .trades .now) (c .before .before .before .before .at-most-sixteen .result) (c .before .before .before .put-trades .ensures) (c .before .before .before .before .at-most-sixteen .ensures) (omega arith) (omega arith)
+put-clock-requires c κs =
+    let s = c .before .before .before .before .before .before .before .before .before .before .args in
+    let n = c .before .before .before .before .at-most-sixteen in
+    room-behind (s .trades .now) (n .result) (c .before .before .before .put-trades .ensures) (n .ensures) (omega arith) (omega arith)
 
 enum-known-answer-3 : tie.Need-enum-known-answer-3
 enum-known-answer-3 c = search needs
@@ -34,7 +37,10 @@ put-trades-requires-2 : tie.Need-put-trades-requires-2
 put-trades-requires-2 c κs = search needs
 
 put-order-requires : tie.Need-put-order-requires
-put-order-requires c κs = room-behind (c .before .before .before .before .before .before .before .before .before .before .args .trades .now) (c .before .before .before .before .at-most-sixteen2 .result) (c .before .before .before .put-trades2 .ensures) (c .before .before .before .before .at-most-sixteen2 .ensures) (omega arith) (omega arith)
+put-order-requires c κs =
+    let s = c .before .before .before .before .before .before .before .before .before .before .args in
+    let n = c .before .before .before .before .at-most-sixteen2 in
+    room-behind (s .trades .now) (n .result) (c .before .before .before .put-trades2 .ensures) (n .ensures) (omega arith) (omega arith)
 
 enum-known-answer-4 : tie.Need-enum-known-answer-4
 enum-known-answer-4 c = search needs
@@ -55,15 +61,23 @@ same-length-2 : tie.Need-same-length-2
 same-length-2 c = search needs
 
 returns-2 : tie.Need-returns-2
-returns-2 c = line-fits (c .before .before .put-clock .ensures) (clock-fits _)
-    (room-behind (c .before .before .before .before .before .before .before .before .before .before .before .before .before .args .trades .now) (c .before .before .before .before .before .before .before .at-most-sixteen .result) (c .before .before .before .before .before .before .put-trades .ensures) (c .before .before .before .before .before .before .before .at-most-sixteen .ensures) (omega arith) (omega arith))
+returns-2 c =
+    let s = c .before .before .before .before .before .before .before .before .before .before .before .before .before .args in
+    let n = c .before .before .before .before .before .before .before .at-most-sixteen in
+    let w = c .before .before .before .before .before .before .put-trades .ensures in
+    line-fits (c .before .before .put-clock .ensures) (clock-fits _)
+    (room-behind (s .trades .now) (n .result) w (n .ensures) (omega arith) (omega arith))
 
 same-length-3 : tie.Need-same-length-3
 same-length-3 c = search needs
 
 returns-3 : tie.Need-returns-3
-returns-3 c = line-fits (c .before .before .put-order .ensures) (order-fits _)
-    (room-behind (c .before .before .before .before .before .before .before .before .before .before .before .before .before .args .trades .now) (c .before .before .before .before .before .before .before .at-most-sixteen2 .result) (c .before .before .before .before .before .before .put-trades2 .ensures) (c .before .before .before .before .before .before .before .at-most-sixteen2 .ensures) (omega arith) (omega arith))
+returns-3 c =
+    let s = c .before .before .before .before .before .before .before .before .before .before .before .before .before .args in
+    let n = c .before .before .before .before .before .before .before .at-most-sixteen2 in
+    let w = c .before .before .before .before .before .before .put-trades2 .ensures in
+    line-fits (c .before .before .put-order .ensures) (order-fits _)
+    (room-behind (s .trades .now) (n .result) w (n .ensures) (omega arith) (omega arith))
 
 same-length-4 : tie.Need-same-length-4
 same-length-4 c = search needs
