@@ -1,0 +1,95 @@
+-- Each arm is the call on rows of its kind of event. Assumes nothing.
+use Rattle.lent.proofs.ByKind.{opened, moved, entered, cancelled}
+use borrow.Author.Needs.{needs}
+use Rattle.lent.proofs.events.answer_event.Statement.{statement}
+use Rattle.lent.proofs.events.answer_event.Tie as tie
+
+enum-known-event : tie.Need-enum-known-event
+enum-known-event c = search needs
+
+open-day-requires : tie.Need-open-day-requires
+open-day-requires c κs = search needs
+
+enum-known-event-2 : tie.Need-enum-known-event-2
+enum-known-event-2 c = search needs
+
+move-clock-requires : tie.Need-move-clock-requires
+move-clock-requires c κs = search needs
+
+enum-known-event-3 : tie.Need-enum-known-event-3
+enum-known-event-3 c = search needs
+
+enter-order-requires : tie.Need-enter-order-requires
+enter-order-requires c κs = search needs
+
+enum-known-event-4 : tie.Need-enum-known-event-4
+enum-known-event-4 c = search needs
+
+cancel-order-requires : tie.Need-cancel-order-requires
+cancel-order-requires c κs = search needs
+
+same-length : tie.Need-same-length
+same-length c = search needs
+
+returns : tie.Need-returns
+returns c =
+    let a = c .before .before .before .before .before .before .args in
+    opened (a .event) (a .rows .now) (c .before .open-day .last .1 .1 .0) (a .trades .now) (c .before .before .before .before .event .given .1)
+    (c .before .open-day .ensures)
+
+same-length-2 : tie.Need-same-length-2
+same-length-2 c = search needs
+
+same-length-3 : tie.Need-same-length-3
+same-length-3 c = search needs
+
+returns-2 : tie.Need-returns-2
+returns-2 c =
+    let a = c .before .before .before .before .before .before .before .before .args in
+    moved (a .event) (a .rows .now) (c .before .before .move-clock .last .1 .1 .0) (a .trades .now) (c .before .before .move-clock .last .1 .1 .1 .0)
+    (c .before .before .before .before .before .before .event2 .given .1) (c .before .before .move-clock .ensures)
+
+same-length-4 : tie.Need-same-length-4
+same-length-4 c = search needs
+
+same-length-5 : tie.Need-same-length-5
+same-length-5 c = search needs
+
+returns-3 : tie.Need-returns-3
+returns-3 c =
+    let a = c .before .before .before .before .before .before .before .before .args in
+    entered (a .event) (a .rows .now) (c .before .before .enter-order .last .1 .1 .0) (a .trades .now)
+    (c .before .before .enter-order .last .1 .1 .1 .0) (c .before .before .before .before .before .before .event3 .given .1)
+    (c .before .before .enter-order .ensures)
+
+same-length-6 : tie.Need-same-length-6
+same-length-6 c = search needs
+
+returns-4 : tie.Need-returns-4
+returns-4 c =
+    let a = c .before .before .before .before .before .before .args in
+    cancelled (a .event) (a .rows .now) (c .before .cancel-order .last .1 .0) (a .trades .now) (c .before .before .before .before .event4 .given .1)
+    (c .before .cancel-order .ensures)
+
+pub answer-event-spec : {M : Type 1} → statement M
+answer-event-spec =
+    tie.close
+    (tie.spec
+    enum-known-event
+    open-day-requires
+    enum-known-event-2
+    move-clock-requires
+    enum-known-event-3
+    enter-order-requires
+    enum-known-event-4
+    cancel-order-requires
+    same-length
+    returns
+    same-length-2
+    same-length-3
+    returns-2
+    same-length-4
+    same-length-5
+    returns-3
+    same-length-6
+    returns-4)

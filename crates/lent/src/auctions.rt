@@ -1,0 +1,31 @@
+// The calls that only ask, on a lent slice of order records: the auction report and the price list.
+use crate::Question;
+use crate::Told;
+use crate::copying::load;
+use crate::copying::places;
+use day::auctions::list_auction;
+use day::auctions::report_auction;
+use model::Order;
+ghost use mathlib.Core.Path.{_≡_};
+ghost use Rattle.book.specs.Rows.{bookOf};
+ghost use Rattle.lent.specs.Calls.{questionCall, questionLeft};
+
+// The call on rows that a question asks for.
+fn answer_question(rows: &[[u64; 5]], prices: &mut [u64], question: Question) -> Told
+    ensures { λ r. ⌜ questionLeft r (now (prices .exit)) ≡ questionCall question (bookOf (now (rows .entry))) (now (prices .entry)) ⌝ }
+{
+    match question {
+        Question::Report(day) => Told::Reported(report_auction(day, rows)),
+        Question::Prices { day, asked } => Told::Listed(list_auction(day, rows, asked, prices)),
+    }
+}
+
+// A book of more places than a day can have is answered as one of no place.
+pub fn ask_auction(book: &[Order], prices: &mut [u64], question: Question) -> Told
+    ensures { λ r. ⌜ questionLeft r (now (prices .exit)) ≡ questionCall question (now (book .entry)) (now (prices .entry)) ⌝ }
+{
+    let mut rows = [[0u64; 5]; 4096];
+    let k = places(book.len());
+    load(book, &mut rows, k);
+    answer_question(&rows[..k], prices, question)
+}

@@ -1,0 +1,36 @@
+// A book of sixteen places by value, for code that does not lend: it is handed over with an event, and comes back with the answer,
+// or with a question. Whoever calls this needs no proof by hand.
+use crate::Answer;
+use crate::Event;
+use crate::Question;
+use crate::Told;
+use crate::auctions::ask_auction;
+use crate::events::take_event;
+use model::Order;
+ghost use mathlib.Core.Path.{_≡_};
+ghost use Rattle.book.specs.Rows.{tradesOf};
+ghost use Rattle.lent.specs.Calls.{eventCall, eventLeft, questionCall, questionLeft};
+
+// What is handed back.
+pub struct HandedBack {
+    pub book: [Order; 16],
+    pub answer: Answer,
+}
+
+pub fn take_on_sixteen(book: [Order; 16], trades: &mut [[u64; 4]], event: Event) -> HandedBack
+    ensures { λ r. ⌜ eventLeft (r .answer) (r .book) (now (trades .exit)) ≡ eventCall event book (tradesOf (now (trades .entry))) ⌝ }
+{
+    let mut places = book;
+    let answer = take_event(&mut places, trades, event);
+    HandedBack {
+        book: places,
+        answer,
+    }
+}
+
+pub fn ask_on_sixteen(book: [Order; 16], prices: &mut [u64], question: Question) -> Told
+    ensures { λ r. ⌜ questionLeft r (now (prices .exit)) ≡ questionCall question book (now (prices .entry)) ⌝ }
+{
+    let places = book;
+    ask_auction(&places, prices, question)
+}

@@ -1,0 +1,34 @@
+-- What is printed fits the buffer: a line, of a letter and up to five numbers, and a line behind sixteen trades. Assumes nothing.
+use Prim.Native.Nat.{ℕ, _+_, _≤_}
+use mathlib.Core.Path.{_≡_}
+use mathlib.Core.List.{List}
+use native.Mathlib.Omega.{arith}
+use lib.ListN.{length, take, length-take}
+use Rattle.model.specs.Lines.{reply, tradeLines}
+use Rattle.book.specs.Rows.{tradesOf}
+use Rattle.text.specs.Printing.{Wrote}
+use Rattle.text.proofs.Printed.{put-long, reply-fits}
+use Rattle.text.proofs.Replied.{trades-room}
+
+pub line-fits :
+    {out text out′ : List ℕ} {at p : ℕ}
+    → Wrote out at text out′ p
+    → length text ≤ 110
+    → at + 110 ≤ length out
+    → p ≤ length out′
+line-fits w h r = omega (arith, w .place, put-long w, h, r)
+
+pub reply-short : (letter n : ℕ) (numbers : List ℕ) → n ≤ 5 → length (reply letter (take n numbers)) ≤ 110
+reply-short letter n numbers h =
+    omega (arith, reply-fits letter (take n numbers), length-take n numbers, h)
+
+pub room-behind :
+    (rows : List (List ℕ)) (n : ℕ) {out out′ : List ℕ} {p : ℕ}
+    → Wrote out 0 (tradeLines (take n (tradesOf rows))) out′ p
+    → n ≤ 16
+    → length rows ≡ 16
+    → 4096 ≤ length out
+    → p + 110 ≤ length out′
+room-behind rows n w h e r =
+    let f : n ≤ length rows = omega (arith, h, e) in
+    omega (arith, trades-room rows n w f, put-long w, h, r)
