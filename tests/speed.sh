@@ -4,7 +4,7 @@
 set -u
 cd "$(dirname "$0")/.." || exit 2
 program=target/bin/rehearse
-folder=target/speed
+folder=target/busy-day
 lines=100000
 export PYTHONDONTWRITEBYTECODE=1
 
