@@ -1,11 +1,12 @@
--- Laws of the parts of a list that a test keeps, of what holds for each element, and of totals.
+-- Laws of the parts of a list that a test keeps, of what holds for each element, of totals, and of a list written over another.
 use Prim.Native.Nat.{ℕ, zero, suc, _+_, _≤_, _<_}
 use mathlib.Core.Path.{_≡_, refl, ap, _∙_}
 use mathlib.Core.Bool.{Bool, true, false, cond, _&&_}
-use mathlib.Core.List.{List, [], _∷_}
+use mathlib.Core.List.{List, [], _∷_, _++_}
 use native.Mathlib.Omega.{arith}
-use native.Mathlib.Nat.{not-suc-le-zero, le-of-suc-le-suc}
+use native.Mathlib.Nat.{not-suc-le-zero, le-of-suc-le-suc, add-zero, add-suc, suc-add}
 use lib.ListN.{length, getD, set}
+use lib.Seq.{sets}
 use Rattle.model.specs.Lists.{keep, total}
 use Rattle.book.specs.Standing.{Each}
 
@@ -128,3 +129,10 @@ module _ {A : Type 0} where
   total-set f [] i x d h = absurd (not-suc-le-zero h)
   total-set f (y ∷ xs) zero x d h = omega arith
   total-set f (y ∷ xs) (suc i) x d h = omega (arith, total-set f xs i x d (le-of-suc-le-suc h))
+
+-- ---- one list written over another
+
+-- in two runs, one behind the other
+pub sets-more : (l xs ys : List ℕ) (i : ℕ) → sets (sets l i xs) (i + length xs) ys ≡ sets l i (xs ++ ys)
+sets-more l [] ys i = rw add-zero
+sets-more l (x ∷ xs) ys i = rw (add-suc, ← suc-add) (sets-more (set l i x) xs ys (suc i))

@@ -29,8 +29,8 @@ use Rattle.book.specs.Rows.{orderOf, bookOf, tradeOf, tradesOf}
 use Rattle.day.specs.Promises.{openLeft, left, cancelLeft}
 use Rattle.model.proofs.Bools.{not-both}
 use Rattle.text.specs.Printing.{Wrote}
-use Rattle.text.proofs.Printed.{and-then, put-long}
-use Rattle.text.proofs.Replied.{trades-fit, refusal-fits, open-fits, clock-fits, order-fits, cancel-fits}
+use Rattle.text.proofs.Printed.{and-then, line-within}
+use Rattle.text.proofs.Replied.{refusal-fits, open-fits, clock-fits, order-fits, cancel-fits}
 use Rattle.text.proofs.Lent.{answered, orderText, clockText, open-answer, order-answer, clock-answer}
 use Rattle.desk.specs.declared.Answered.{Answered}
 use Rattle.desk.specs.Desks.{deskOf, tradesLeft, Leaves, Answering}
@@ -83,26 +83,6 @@ module _ (d : Day) (rows trades rows′ trades′ : List (List ℕ)) where
   pub clock-made :
       (t : ℕ) {r : ClockAnswer} → left r rows′ trades′ ≡ clockCall d t (bookOf rows) (tradesOf trades) → r .made ≤ length trades′
   clock-made t {r} = made-within (λ x. x .made) _ r rows′ trades′ (clock-holds d t (bookOf rows) (tradesOf trades))
-
--- their lines take 86 bytes each at most
-pub behind-trades :
-    (trades : List (List ℕ)) (made : ℕ) {before after : List ℕ} {at p : ℕ}
-    → made ≤ length trades
-    → Wrote before at (tradeLines (take made (tradesOf trades))) after p
-    → p ≤ at + 86 * made
-behind-trades trades made h w =
-    let n : length (tradesOf trades) ≡ length trades = length-map trades tradeOf in
-    let k : length (take made (tradesOf trades)) ≡ made = length-take-le made (tradesOf trades) (omega arith) in
-    omega (arith, w .place, trades-fit (take made (tradesOf trades)))
-
--- where there is room for a line, the text ends in the buffer
-pub within :
-    {before text after : List ℕ} {p q : ℕ}
-    → Wrote before p text after q
-    → length text ≤ 110
-    → p + 110 ≤ length before
-    → q ≤ length after
-within w h room = omega (arith, w .place, put-long w)
 
 -- ---- answers
 
@@ -175,7 +155,7 @@ module _ {before after : List ℕ} {at : ℕ} where
         → Wrote before at (refusalLine 17) after (r .next)
         → Leaves (onDesk f (deskOf begun d rows)) before at rows after r
     unfolding onDesk
-    no-day f r h e g w = leaves {desk = none} (rw e) w (within w (refusal-fits 17) h) (rw (g, e))
+    no-day f r h e g w = leaves {desk = none} (rw e) w (line-within w (refusal-fits 17) h) (rw (g, e))
 
     -- 16: the desk stays
     pub no-line :
@@ -186,7 +166,7 @@ module _ {before after : List ℕ} {at : ℕ} where
         → Wrote before at (refusalLine 16) after (r .next)
         → Leaves (answer Malformed (deskOf begun d rows)) before at rows after r
     unfolding answer
-    no-line r h f g w = leaves refl w (within w (refusal-fits 16) h) (rw (f, g))
+    no-line r h f g w = leaves refl w (line-within w (refusal-fits 16) h) (rw (f, g))
 
     module _ (rows′ : List (List ℕ)) (next : ℕ) where
       module _
@@ -204,7 +184,7 @@ module _ {before after : List ℕ} {at : ℕ} where
             → Leaves (openAnswer close mark (deskOf begun d rows)) before at rows′ after (record { begun = true; day = fresh; next = next })
             × (true ≡ false → (fresh ≡ d) × (bookOf rows′ ≡ bookOf rows))
         unfolding opened
-        opening-made fresh f = (leaves opening w (within w (open-fits reply) h) (rw f), not-begun)
+        opening-made fresh f = (leaves opening w (line-within w (open-fits reply) h) (rw f), not-begun)
 
         pub opening-refused :
             (m : ℕ)
@@ -215,7 +195,7 @@ module _ {before after : List ℕ} {at : ℕ} where
         opening-refused m f =
             let g : openCall close mark (bookOf rows) .reply ≡ OpenReply.the-variants.Refused m = sym (ap (λ (o : OpenOutcome). o .reply) e) ∙ f in
             let k : bookOf rows′ ≡ bookOf rows = ap (λ (o : OpenOutcome). o .book) e ∙ open-stays close mark (bookOf rows) m g in
-            (leaves opening w (within w (open-fits reply) h) (rw f (same-desk begun d rows rows′ k)), λ b. (refl, k))
+            (leaves opening w (line-within w (open-fits reply) h) (rw f (same-desk begun d rows rows′ k)), λ b. (refl, k))
 
       pub cancel-answered :
           (account number : ℕ) (reply : CancelReply)
@@ -226,7 +206,7 @@ module _ {before after : List ℕ} {at : ℕ} where
           → Leaves (onDesk (cancelAnswer account number) (deskOf begun d rows)) before at rows′ after (record { begun = true; day = d; next = next })
           × (true ≡ false → (d ≡ d) × (bookOf rows′ ≡ bookOf rows))
       unfolding onDesk cancelAnswer
-      cancel-answered account number reply h o e w = (leaves (rw (o, ← e)) w (within w (cancel-fits number reply) h) refl, not-begun)
+      cancel-answered account number reply h o e w = (leaves (rw (o, ← e)) w (line-within w (cancel-fits number reply) h) refl, not-begun)
 
       module _
           (trades trades′ : List (List ℕ)) (n : length trades ≡ 2_048) (o : begun ≡ true)
@@ -243,7 +223,7 @@ module _ {before after : List ℕ} {at : ℕ} where
               leaves
               (rw o (order-answer (tradesOf trades) (length-map trades tradeOf ∙ n) (record { day = d; book = bookOf rows }) a
               ∙ sym (ap (λ (x : Outcome OrderAnswer). orderText (take (x .answer .made) (x .trades)) (x .answer) (x .book)) e)))
-              (and-then v w) (within w (order-fits (r .reply)) h) refl;
+              (and-then v w) (line-within w (order-fits (r .reply)) h) refl;
           idle = not-begun;
           list = rw o (ap (λ (x : Outcome OrderAnswer). x .trades) e);
         }
@@ -260,7 +240,7 @@ module _ {before after : List ℕ} {at : ℕ} where
               leaves
               (rw o (clock-answer (tradesOf trades) (length-map trades tradeOf ∙ n) (record { day = d; book = bookOf rows }) t
               ∙ sym (ap (λ (x : Outcome ClockAnswer). clockText (take (x .answer .made) (x .trades)) (x .answer) (x .book)) e)))
-              (and-then v w) (within w (clock-fits (r .reply)) h) refl;
+              (and-then v w) (line-within w (clock-fits (r .reply)) h) refl;
           idle = not-begun;
           list = rw o (ap (λ (x : Outcome ClockAnswer). x .trades) e);
         }

@@ -31,11 +31,12 @@ use Rattle.model.proofs.Rules.{hit}
 use Rattle.book.specs.Rows.{bookOf, tradesOf}
 use Rattle.text.specs.Printing.{Wrote}
 use Rattle.text.proofs.Lent.{answered}
+use Rattle.text.proofs.Printed.{line-within}
 use Rattle.text.proofs.Replied.{refusal-fits}
 use Rattle.desk.specs.declared.Answered.{Answered}
 use Rattle.desk.specs.Desks.{deskOf, asksDay, asksUnsound, tradesLeft, Leaves, Answering}
 use Rattle.desk.specs.OneLine.{fits}
-use Rattle.desk.proofs.Answers.{within, leaves}
+use Rattle.desk.proofs.Answers.{leaves}
 
 -- ---- the memory
 
@@ -127,7 +128,7 @@ module _ (d : Day) (rows trades : List (List ℕ)) {out out′ : List ℕ} (r : 
 
   module _ (e : r .begun ≡ true) where
     stays : {a : Session.Answered} → a ≡ answered (refusalLine 15) (some s) → Leaves a out 0 rows out′ r
-    stays g = leaves g w (within w (refusal-fits 15) h) (rw (e, f))
+    stays g = leaves g w (line-within w (refusal-fits 15) h) (rw (e, f))
 
     on-open : (c : Command) → asksUnsound c (some s) ≡ true → Answering c true d out 0 rows trades rows trades out′ r
     unfolding answer onDesk asksUnsound asksDay

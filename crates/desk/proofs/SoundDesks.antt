@@ -17,6 +17,7 @@ use Rattle.book.specs.Rows.{bookOf}
 use Rattle.text.specs.Answers.{deskAfter}
 use Rattle.demands.specs.Pricing.{Sound}
 use Rattle.demands.proofs.Demands.{keeping}
+use Rattle.demands.proofs.Pricings.{not-unsound}
 use Rattle.desk.specs.Desks.{deskOf, SoundDesk, notSound, asksDay, asksUnsound}
 
 and-none : (b : Bool) → (b && false) ≡ false
@@ -25,9 +26,8 @@ and-none false = refl
 
 -- a desk that is known to be sound would pass the test, whatever is asked of it
 tested : (k : Option Desk) → SoundDesk k → notSound k ≡ false
-unfolding unsound
 tested none s = refl
-tested (some k) s = rw (s .0, s .1)
+tested (some k) s = not-unsound (k .day) (k .book) s
 
 pub never-15 : (c : Command) (k : Option Desk) → SoundDesk k → asksUnsound c k ≡ false
 unfolding asksUnsound

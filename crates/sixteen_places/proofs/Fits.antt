@@ -1,4 +1,4 @@
--- What is printed fits the buffer: a line, of a letter and up to five numbers, and a line behind sixteen trades. Assumes nothing.
+-- What is printed fits the buffer: a line of a letter and up to five numbers, also behind sixteen trades. Assumes nothing.
 use Prim.Native.Nat.{ℕ, _+_, _≤_}
 use mathlib.Core.Path.{_≡_}
 use mathlib.Core.List.{List}
@@ -9,14 +9,6 @@ use Rattle.book.specs.Rows.{tradesOf}
 use Rattle.text.specs.Printing.{Wrote}
 use Rattle.text.proofs.Printed.{put-long, reply-fits}
 use Rattle.text.proofs.Replied.{trades-room}
-
-pub line-fits :
-    {out text out′ : List ℕ} {at p : ℕ}
-    → Wrote out at text out′ p
-    → length text ≤ 110
-    → at + 110 ≤ length out
-    → p ≤ length out′
-line-fits w h r = omega (arith, w .place, put-long w, h, r)
 
 pub reply-short : (letter n : ℕ) (numbers : List ℕ) → n ≤ 5 → length (reply letter (take n numbers)) ≤ 110
 reply-short letter n numbers h =

@@ -3,7 +3,7 @@ use Prim.Native.Nat.{ℕ, zero, suc, _+_, _*_, _/_, _%_, _^_, _≤_, _<_}
 use mathlib.Core.Path.{_≡_, refl, sym, ap, subst, _∙_}
 use mathlib.Core.Bool.{Bool, true, false, cond}
 use mathlib.Core.List.{List, [], _∷_, _++_, append-assoc, append-nil}
-use native.Mathlib.Nat.{div-lt-iff-lt-mul, pow-suc, le-refl, add-zero, add-suc, suc-add}
+use native.Mathlib.Nat.{div-lt-iff-lt-mul, pow-suc, le-refl, add-zero}
 use native.Mathlib.Numerals.{add-one}
 use native.Mathlib.Omega.{arith}
 use lib.Dec.{ltb, lit<}
@@ -11,13 +11,10 @@ use lib.ListN.{length, take, drop, getD, set, length-append}
 use lib.Seq.{sets, length-sets, sets-eq, take-suc, take-at, length-take-le}
 use borrow.Author.Tests.{lt-ltb, le-ltb}
 use Rattle.model.specs.Lines.{digits, spaced, reply}
+use Rattle.book.proofs.Lists.{sets-more}
 use Rattle.text.specs.Printing.{Wrote}
 
 -- ---- one behind the other
-
-sets-more : (l xs ys : List ℕ) (i : ℕ) → sets (sets l i xs) (i + length xs) ys ≡ sets l i (xs ++ ys)
-sets-more l [] ys i = rw add-zero
-sets-more l (x ∷ xs) ys i = rw (add-suc, ← suc-add) (sets-more (set l i x) xs ys (suc i))
 
 module _ {out : List ℕ} {at : ℕ} where
   pub nothing-put : Wrote out at [] out at
@@ -39,6 +36,15 @@ module _ {out : List ℕ} {at : ℕ} where
 -- what is put changes no length
 pub put-long : {out : List ℕ} {at : ℕ} {xs out′ : List ℕ} {p : ℕ} → Wrote out at xs out′ p → length out′ ≡ length out
 put-long {out} {at} {xs} w = ap length (w .bytes) ∙ length-sets out at xs
+
+-- where there is room for a line, the text ends in the buffer
+pub line-within :
+    {out text out′ : List ℕ} {at p : ℕ}
+    → Wrote out at text out′ p
+    → length text ≤ 110
+    → at + 110 ≤ length out
+    → p ≤ length out′
+line-within w h room = omega (arith, w .place, put-long w)
 
 -- what was put at the front of a buffer that holds it is what stands there
 pub put-shown : {out text out′ : List ℕ} {p : ℕ} → Wrote out 0 text out′ p → length text ≤ length out → take p out′ ≡ text

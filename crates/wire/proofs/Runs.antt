@@ -4,10 +4,11 @@ use Prim.Native.Nat.{ℕ, zero, suc, _+_, _*_, _-_, _≤_, _<_}
 use mathlib.Core.Path.{_≡_, refl, sym, _∙_}
 use mathlib.Core.List.{List, [], _∷_, _++_, append-assoc, append-nil}
 use native.Mathlib.Omega.{arith}
-use native.Mathlib.Nat.{add-zero, zero-add, add-suc, suc-add, add-assoc, mul-suc, mul-zero, sub-zero, add-comm}
+use native.Mathlib.Nat.{add-zero, zero-add, add-assoc, mul-suc, mul-zero, sub-zero, add-comm}
 use native.Mathlib.Numerals.{add-one}
 use lib.ListN.{length, getD, take, drop, set, length-append, length-set}
 use lib.Seq.{sets, sets-eq, length-sets, drop-cons, drop-drop, drop-length, drop-append-add, take-all, take-suc-set, append-snoc}
+use Rattle.book.proofs.Lists.{sets-more}
 use Rattle.wire.specs.Layout.{parts, flat, over}
 
 place-next : (at size i : ℕ) → at + size * (i + 1) ≡ at + size * i + size
@@ -56,11 +57,6 @@ module _ {A : Type 0} (f : List ℕ → A) (size : ℕ) (b : List ℕ) (at : ℕ
       rw (z, t, append-nil) at (l .same)
 
 -- ---- writing
-
--- a run of stores after a run of stores is one run
-sets-more : (l xs ys : List ℕ) (i : ℕ) → sets (sets l i xs) (i + length xs) ys ≡ sets l i (xs ++ ys)
-sets-more l [] ys i = rw add-zero
-sets-more l (x ∷ xs) ys i = rw (add-suc, ← suc-add) (sets-more (set l i x) xs ys (suc i))
 
 sets-on : (l xs ys : List ℕ) (i n : ℕ) → length xs ≡ n → sets (sets l i xs) (i + n) ys ≡ sets l i (xs ++ ys)
 sets-on l xs ys i n e = rw (← e) (sets-more l xs ys i)

@@ -1,6 +1,7 @@
 -- A line fits the buffer. Assumes nothing.
 use native.Mathlib.Omega.{arith}
-use Rattle.sixteen_places.proofs.Fits.{line-fits, reply-short}
+use Rattle.text.proofs.Printed.{line-within}
+use Rattle.sixteen_places.proofs.Fits.{reply-short}
 use borrow.Author.Needs.{needs}
 use Rattle.sixteen_places.proofs.printing.print_line.Statement.{statement}
 use Rattle.sixteen_places.proofs.printing.print_line.Tie as tie
@@ -20,7 +21,7 @@ slice-aggregate-write-out c = search needs
 write-out-requires : tie.Need-write-out-requires
 write-out-requires c κs =
     let a = c .before .before .before .before .before .args in
-    line-fits (c .before .before .put-reply .ensures) (reply-short (a .letter) (a .n) (a .numbers) (search needs)) (omega arith)
+    line-within (c .before .before .put-reply .ensures) (reply-short (a .letter) (a .n) (a .numbers) (search needs)) (omega arith)
 
 returns : tie.Need-returns
 returns c = search needs

@@ -1,7 +1,8 @@
 -- What is put fits: the trades first, then a line. Assumes nothing.
 use native.Mathlib.Omega.{arith}
 use Rattle.text.proofs.Replied.{open-fits, clock-fits, order-fits, cancel-fits}
-use Rattle.sixteen_places.proofs.Fits.{line-fits, room-behind}
+use Rattle.text.proofs.Printed.{line-within}
+use Rattle.sixteen_places.proofs.Fits.{room-behind}
 use borrow.Author.Needs.{needs}
 use Rattle.sixteen_places.proofs.printing.put_answer.Statement.{statement}
 use Rattle.sixteen_places.proofs.printing.put_answer.Tie as tie
@@ -55,7 +56,7 @@ same-length : tie.Need-same-length
 same-length c = search needs
 
 returns : tie.Need-returns
-returns c = line-fits (c .before .before .put-open .ensures) (open-fits _) (omega arith)
+returns c = line-within (c .before .before .put-open .ensures) (open-fits _) (omega arith)
 
 same-length-2 : tie.Need-same-length-2
 same-length-2 c = search needs
@@ -65,7 +66,7 @@ returns-2 c =
     let s = c .before .before .before .before .before .before .before .before .before .before .before .before .before .args in
     let n = c .before .before .before .before .before .before .before .at-most-sixteen in
     let w = c .before .before .before .before .before .before .put-trades .ensures in
-    line-fits (c .before .before .put-clock .ensures) (clock-fits _)
+    line-within (c .before .before .put-clock .ensures) (clock-fits _)
     (room-behind (s .trades .now) (n .result) w (n .ensures) (omega arith) (omega arith))
 
 same-length-3 : tie.Need-same-length-3
@@ -76,14 +77,14 @@ returns-3 c =
     let s = c .before .before .before .before .before .before .before .before .before .before .before .before .before .args in
     let n = c .before .before .before .before .before .before .before .at-most-sixteen2 in
     let w = c .before .before .before .before .before .before .put-trades2 .ensures in
-    line-fits (c .before .before .put-order .ensures) (order-fits _)
+    line-within (c .before .before .put-order .ensures) (order-fits _)
     (room-behind (s .trades .now) (n .result) w (n .ensures) (omega arith) (omega arith))
 
 same-length-4 : tie.Need-same-length-4
 same-length-4 c = search needs
 
 returns-4 : tie.Need-returns-4
-returns-4 c = line-fits (c .before .before .put-cancel .ensures) (cancel-fits _ _) (omega arith)
+returns-4 c = line-within (c .before .before .put-cancel .ensures) (cancel-fits _ _) (omega arith)
 
 pub put-answer-spec : {M : Type 1} → statement M
 put-answer-spec =
