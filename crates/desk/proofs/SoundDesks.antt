@@ -1,7 +1,7 @@
 -- A sound desk stays sound, whatever a line asks for: a new day is sound, and every call keeps it so. Assumes nothing.
 use Prim.Native.Nat.{ℕ}
 use mathlib.Core.Path.{_≡_, refl, subst}
-use mathlib.Core.Bool.{Bool, true, false, _&&_}
+use mathlib.Core.Bool.{Bool, true, false, and-false}
 use mathlib.Core.List.{List, [], _∷_}
 use mathlib.Core.Option.{Option, none, some}
 use native.Mathlib.Omega.{arith}
@@ -20,10 +20,6 @@ use Rattle.demands.proofs.Demands.{keeping}
 use Rattle.demands.proofs.Pricings.{not-unsound}
 use Rattle.desk.specs.Desks.{deskOf, SoundDesk, notSound, asksDay, asksUnsound}
 
-and-none : (b : Bool) → (b && false) ≡ false
-and-none true = refl
-and-none false = refl
-
 -- a desk that is known to be sound would pass the test, whatever is asked of it
 tested : (k : Option Desk) → SoundDesk k → notSound k ≡ false
 tested none s = refl
@@ -31,7 +27,7 @@ tested (some k) s = not-unsound (k .day) (k .book) s
 
 pub never-15 : (c : Command) (k : Option Desk) → SoundDesk k → asksUnsound c k ≡ false
 unfolding asksUnsound
-never-15 c k s = rw (tested k s) (and-none (asksDay c))
+never-15 c k s = rw (tested k s, and-false)
 
 -- what is asked of the day, where 15 is not due
 pub asked-sound : (k : Option Desk) {c x : Command} → c ≡ x → asksUnsound c k ≡ false → asksUnsound x k ≡ false
