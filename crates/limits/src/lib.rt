@@ -51,14 +51,14 @@ pub fn in_band(close: u64, price: u64) -> bool
     true
 }
 
-// A buy is at most the higher of 105% of its base, rounded down to whole fen, and base + 10 (3.3.13).
+// A buy is at most the higher of 105% of its base and base + 10 (3.3.13).
 pub fn buy_in_range(base: u64, price: u64) -> bool
     ensures { λ r. ⌜ r ≡ (isPrice base && isPrice price && buyInRange base price) ⌝ }
 {
     if !are_prices(base, price) {
         return false;
     }
-    if price <= base * 105 / 100 {
+    if 100 * price <= 105 * base {
         return true;
     }
     if price <= base + 10 {
@@ -67,14 +67,14 @@ pub fn buy_in_range(base: u64, price: u64) -> bool
     false
 }
 
-// A sell is at least the lower of 95% of its base, rounded up to whole fen, and base - 10. Below 10 fen that is no bound.
+// A sell is at least the lower of 95% of its base and base - 10. Below 10 fen that is no bound.
 pub fn sell_in_range(base: u64, price: u64) -> bool
     ensures { λ r. ⌜ r ≡ (isPrice base && isPrice price && sellInRange base price) ⌝ }
 {
     if !are_prices(base, price) {
         return false;
     }
-    if (base * 95 + 99) / 100 <= price {
+    if 95 * base <= 100 * price {
         return true;
     }
     if base <= 10 {

@@ -1,4 +1,4 @@
--- `limits::buy_in_range` meets its contract: a percentage rounded down answers as the exact comparison does, then the ten ticks. Assumes nothing.
+-- `limits::buy_in_range` meets its contract: two products compared, then the ten ticks. Assumes nothing.
 use mathlib.Core.Path.{_≡_, sym, _∙_}
 use mathlib.Core.Bool.{true, _&&_}
 use borrow.Author.Needs.{needs}
@@ -24,6 +24,9 @@ prices c = sym (c .before .are-prices .ensures) ∙ not-false _ (c .if1 .left)
 mul-if2 : tie.Need-mul-if2
 mul-if2 c = omega (arith, small-both _ _ (prices c))
 
+mul-if2-2 : tie.Need-mul-if2-2
+mul-if2-2 c = omega (arith, small-both _ _ (prices c))
+
 returns-2 : tie.Need-returns-2
 returns-2 c =
     let a = c .before .before .before .args in
@@ -44,4 +47,4 @@ returns-4 c =
 
 pub buy-in-range-spec : {M : Type 1} → statement M
 buy-in-range-spec =
-    tie.close (tie.spec are-prices-requires returns mul-if2 returns-2 add-if3 returns-3 returns-4)
+    tie.close (tie.spec are-prices-requires returns mul-if2 mul-if2-2 returns-2 add-if3 returns-3 returns-4)

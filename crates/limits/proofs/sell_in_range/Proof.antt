@@ -1,4 +1,4 @@
--- `limits::sell_in_range` meets its contract: a percentage rounded up answers as the exact comparison does, then the ten ticks. Assumes nothing.
+-- `limits::sell_in_range` meets its contract: two products compared, then the ten ticks. Assumes nothing.
 use mathlib.Core.Path.{_≡_, sym, _∙_}
 use mathlib.Core.Bool.{true, _&&_}
 use borrow.Author.Needs.{needs}
@@ -24,8 +24,8 @@ prices c = sym (c .before .are-prices .ensures) ∙ not-false _ (c .if1 .left)
 mul-if2 : tie.Need-mul-if2
 mul-if2 c = omega (arith, small-both _ _ (prices c))
 
-add-if2 : tie.Need-add-if2
-add-if2 c = omega (arith, small-both _ _ (prices c))
+mul-if2-2 : tie.Need-mul-if2-2
+mul-if2-2 c = omega (arith, small-both _ _ (prices c))
 
 returns-2 : tie.Need-returns-2
 returns-2 c =
@@ -53,4 +53,4 @@ returns-5 c =
 pub sell-in-range-spec : {M : Type 1} → statement M
 sell-in-range-spec =
     tie.close
-    (tie.spec are-prices-requires returns mul-if2 add-if2 returns-2 returns-3 sub-if4 returns-4 returns-5)
+    (tie.spec are-prices-requires returns mul-if2 mul-if2-2 returns-2 returns-3 sub-if4 returns-4 returns-5)
