@@ -166,7 +166,7 @@ static uint8_t *damaged_byte(int which, uint64_t *number) {
 /* ---- the comparison */
 
 uint64_t passed, failed;
-static uint64_t told[CALLS][19];
+static uint64_t told[CALLS][16];
 
 static bool guard_differs(int slice) {
     size_t behind = GUARD + length_of(&lent, slice);
@@ -223,7 +223,7 @@ void expect(const char *what, uint64_t got, uint64_t want) {
 void print_told(void) {
     for (int which = 0; which < CALLS; which++) {
         printf("%s:", calls[which].name);
-        for (int r = 0; r < 19; r++)
+        for (int r = 0; r < 16; r++)
             if (told[which][r]) printf(" %llu times %d", (unsigned long long)told[which][r], r);
         printf("\n");
     }

@@ -20,8 +20,9 @@ uint64_t engine_clock(struct lent *m, const uint64_t *asked);  /* time */
 uint64_t engine_report(struct lent *m, const uint64_t *asked);
 uint64_t engine_list(struct lent *m, const uint64_t *asked); /* price */
 
-/* On how many more small books the engine also tries all 999,999 prices, and how often it then found that it had left one out. */
-extern uint64_t engine_tries_left, engine_tries_differed;
+/* On how many more small books the engine also tries all 999,999 prices, how often it then found that it had left one out, and
+ * how often buys reached sells and the tie rules did not leave exactly one price. */
+extern uint64_t engine_tries_left, engine_tries_differed, engine_undecided;
 
 /* The number at the i-th 8 bytes, least byte first. */
 uint64_t number_at(const uint8_t *b, size_t i);

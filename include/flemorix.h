@@ -56,7 +56,6 @@ enum flemorix_refusal {
     FLEMORIX_ROOM = 13,      /* the event's trades outnumber the lent trade list */
     FLEMORIX_OPENING = 14,   /* opening: close not 1 to 999,999, mark not 0 or 1, places not 1 to 4,096, or day not 64 bytes */
     FLEMORIX_UNSOUND = 15,   /* day not sound or not 64 bytes, or places not 1 to 4,096 */
-    FLEMORIX_UNDECIDED = 18, /* buys reach sells, yet not exactly one price is left */
 };
 
 /* Opens a day: every place of the book becomes free, and the day's bytes are the new day. Reply: the refusal alone. 14. */
@@ -74,12 +73,12 @@ uint64_t flemorix_cancel(const uint8_t *day, size_t day_length, uint8_t *book, s
                          size_t reply_length, uint64_t account, uint64_t number);
 
 /* Moves the clock, and holds the auctions that it passes; after the closing one the book is empty. Their trades stand at the
- * front of the trade list. Reply: the phase of the new time, and how many trades. 15, 1, 18, 13. */
+ * front of the trade list. Reply: the phase of the new time, and how many trades. 15, 1, 13. */
 uint64_t flemorix_clock(uint8_t *day, size_t day_length, uint8_t *book, size_t book_length, uint8_t *trades,
                         size_t trades_length, uint8_t *reply, size_t reply_length, uint64_t time);
 
 /* What an auction held now would do. Reply: price, volume, and surplus in two's complement; all 0 where no price qualifies.
- * 15, 18. */
+ * 15. */
 uint64_t flemorix_report(const uint8_t *day, size_t day_length, const uint8_t *book, size_t book_length, uint8_t *reply,
                          size_t reply_length);
 

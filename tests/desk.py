@@ -114,8 +114,7 @@ class Auction:
             least = min((badness(p) for p in left), default=0)
             left = [p for p in left if badness(p) == least]
         reach = any(b.price >= s.price for b in self.buys for s in self.sells)
-        if reach and len(left) != 1:
-            raise Refused(18)
+        assert not reach or len(left) == 1, "buys reach sells, yet not exactly one price is left"
         return left[0] if left else None
 
     def pairs(self, p):

@@ -14,7 +14,7 @@ use Rattle.book.specs.Standing.{Price}
 use Rattle.model.specs.declared.Order.{Order}
 use Rattle.model.specs.Auction.{prices, demand, supply, volume, buysAbove, sellsBelow, buysAt, sellsAt, mostTrades, betterFill, oneSideFills, qualifies}
 use Rattle.auction.specs.Rule.{Most, BetterFills, OneFills, Qualifies}
-use Rattle.model.proofs.Bools.{not-both, and-left, and-right, and-both}
+use Rattle.model.proofs.Bools.{not-both, and-left, and-right, and-both, not-true-false}
 use Rattle.auction.proofs.Sides.{demand-falls, supply-rises, above-is, below-is, demand-splits, supply-splits}
 use Rattle.auction.proofs.Runs.{all-run, run-all}
 
@@ -207,3 +207,33 @@ told-test os {p} k =
     and-both
     (and-both (and-both (le-leb 1 (volume os p) (k .trades)) (most-tests os p (k .most))) (better-tests os p (k .better)))
     (one-tests os p (k .one-side))
+
+-- so that of the tests the second gives the others, and is with a volume of at least 1 the whole test
+pub second-tests :
+    (os : List Order) {p : ℕ}
+    → Price p
+    → 1 ≤ volume os p
+    → betterFill os p ≡ true
+    → (mostTrades os p ≡ true) × (oneSideFills os p ≡ true)
+second-tests os {p} k v b =
+    let h = second-gives-all os k v (better-told os p b) in
+    (most-tests os p (h .0), one-tests os p (h .1))
+
+pub second-alone : (os : List Order) {p : ℕ} → Price p → qualifies os p ≡ (leb 1 (volume os p) && betterFill os p)
+unfolding qualifies
+second-alone os {p} k = go (leb 1 (volume os p) && betterFill os p) refl
+  where
+    second : Bool
+    second = leb 1 (volume os p) && betterFill os p
+
+    go : (b : Bool) → second ≡ b → qualifies os p ≡ b
+    go true e =
+        let v = and-left (leb 1 (volume os p)) (betterFill os p) e in
+        let b = and-right (leb 1 (volume os p)) (betterFill os p) e in
+        let h = second-tests os k (leb-true 1 (volume os p) v) b in
+        and-both (and-both (and-both v (h .0)) b) (h .1)
+    go false e =
+        not-true-false
+        (λ t.
+        let q = test-told os k t in
+        not-both (and-both (le-leb 1 (volume os p) (q .trades)) (better-tests os p (q .better))) e)

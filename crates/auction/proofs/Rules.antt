@@ -1,5 +1,5 @@
 -- The price rule whole: the list names the prices that qualify, it is empty exactly when no buy reaches a sell, and
--- otherwise exactly one price is left; so an auction is never undecided.
+-- otherwise exactly one price is left.
 use Prim.Native.Nat.{ℕ, _+_, _-_, _<_, _≤_}
 use mathlib.Core.Path.{_≡_, refl, ap, _∙_}
 use mathlib.Core.Logic.{_⊎_, inl, inr, ⊎-elim, _↔_}
@@ -18,7 +18,7 @@ use Rattle.model.specs.Lists.{keep, any, among, from}
 use Rattle.model.specs.Figures.{reference}
 use Rattle.model.specs.Auction.{prices, qualifies, qualifying, leastDifference, leftBy}
 use Rattle.model.specs.Sound.{crosses}
-use Rattle.model.specs.ClockCall.{auctionPrice, undecided}
+use Rattle.model.specs.ClockCall.{auctionPrice}
 use Rattle.model.specs.AuctionCalls.{due}
 use Rattle.book.specs.Standing.{Standing}
 use Rattle.auction.specs.Spans.{turnOf, flatter, nearestIn}
@@ -193,15 +193,6 @@ module _ (os : List Order) (s : Standing os) where
         none = λ ref e. none-left-over e ref;
         among-them = left-qualifies;
       }
-
-  -- ---- what the calls ask
-  pub never-undecided : (d : Day) → undecided d os ≡ false
-  unfolding undecided
-  never-undecided d = go (crosses os) refl
-    where
-      go : (b : Bool) → crosses os ≡ b → b && not (eqb (length (leftBy os (reference d))) 1) ≡ false
-      go true e = rw (one-left e (reference d) .1)
-      go false e = refl
 
   -- the auction's price qualifies, or is 0 and buys do not reach sells
   pub auction-price-cases :

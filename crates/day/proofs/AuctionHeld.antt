@@ -19,8 +19,8 @@ use Rattle.model.specs.Sound.{crosses}
 use Rattle.model.specs.Pairing.{tradesAt}
 use Rattle.model.specs.Refusals.{_when_, firstOf}
 use Rattle.model.specs.Calls.{written}
-use Rattle.model.specs.ClockCall.{auctionPrice, auctionTrades, undecided, hold, start}
-use Rattle.model.proofs.Rules.{hit, skip}
+use Rattle.model.specs.ClockCall.{auctionPrice, auctionTrades, hold, start}
+use Rattle.model.proofs.Rules.{hit}
 use Rattle.book.specs.Rows.{bookOf, tradesOf, tradeRows}
 use Rattle.book.specs.Standing.{Standing}
 use Rattle.book.specs.Writing.{front}
@@ -49,18 +49,13 @@ module _ (d : Day) (book : List Order) (s : Standing book) {c : Bool} (e : c ≡
 -- ---- what it is refused for
 
 module _ (d : Day) (book : List Order) (room : ℕ) where
-  pub auction-undecided : undecided d book ≡ true → 18 ≡ firstOf (auctionRules d book room)
+  pub auction-room : room < length (auctionTrades d book) → 13 ≡ firstOf (auctionRules d book room)
   unfolding auctionRules
-  auction-undecided u = sym (hit 18 _ u)
+  auction-room h = sym (hit 13 _ (lt-ltb room (length (auctionTrades d book)) h))
 
-  module _ (u : undecided d book ≡ false) where
-    pub auction-room : room < length (auctionTrades d book) → 13 ≡ firstOf (auctionRules d book room)
-    unfolding auctionRules
-    auction-room h = sym (skip 18 _ u ∙ hit 13 _ (lt-ltb room (length (auctionTrades d book)) h))
-
-    pub auction-none : length (auctionTrades d book) ≤ room → 0 ≡ firstOf (auctionRules d book room)
-    unfolding auctionRules firstOf _when_
-    auction-none h = rw (u, le-ltb room (length (auctionTrades d book)) h)
+  pub auction-none : length (auctionTrades d book) ≤ room → 0 ≡ firstOf (auctionRules d book room)
+  unfolding auctionRules firstOf _when_
+  auction-none h = rw (le-ltb room (length (auctionTrades d book)) h)
 
 -- ---- room in the day's figures
 

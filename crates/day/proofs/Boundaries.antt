@@ -1,5 +1,5 @@
 -- The boundaries that a move of the clock passes: whatever they are, one auction and one lapse do what the definitions do one
--- boundary after the other, and no auction on the way is undecided. Assumes nothing.
+-- boundary after the other. Assumes nothing.
 use Prim.Native.Nat.{ℕ, _+_, _≤_, _<_}
 use mathlib.Core.Path.{_≡_, refl, sym, ap, _∙_}
 use mathlib.Core.Bool.{Bool, true, false, cond, _&&_, _||_}
@@ -20,14 +20,14 @@ use Rattle.model.specs.Matching.{settle}
 use Rattle.model.specs.Figures.{tally, reference}
 use Rattle.model.specs.Sound.{crosses}
 use Rattle.model.specs.Calls.{cleared}
-use Rattle.model.specs.ClockCall.{auctionPrice, auctionTrades, Held, hold, pass, through, stuck, start, moved}
+use Rattle.model.specs.ClockCall.{auctionPrice, auctionTrades, Held, hold, pass, through, start, moved}
 use Rattle.book.specs.Standing.{Each, Standing}
 use Rattle.book.proofs.Lists.{each}
 use Rattle.book.proofs.Kept.{free-number, standing-settle, standing-cleared}
 use Rattle.book.proofs.Queues.{on-live}
 use Rattle.book.proofs.Settlements.{settle-none}
 use Rattle.book.proofs.Crossing.{SellsAbove, not-crossed}
-use Rattle.auction.proofs.Rules.{never-undecided, none-left-over}
+use Rattle.auction.proofs.Rules.{none-left-over}
 use Rattle.pairing.proofs.Auctions.{auction-uncrosses}
 use Rattle.day.specs.declared.Passed.{Passed}
 use Rattle.day.specs.declared.Passed.the-variants.{Nothing, Auction, Lapse}
@@ -154,27 +154,10 @@ module _ (old new : ℕ) where
   through-past [] p h s = refl
   through-past (b ∷ bs) p h s = ap (through old new bs) (one-more b p h s) ∙ through-past bs (passedBy old new b p) h s
 
-  -- no auction on the way is undecided
-  never-stuck : (bs : List Boundary) (h : Held) → Standing (h .book) → stuck old new bs h ≡ false
-  unfolding stuck pass
-  never-stuck [] h s = refl
-  never-stuck (b ∷ bs) h s = rw (never-undecided (h .book) s (h .day)) (go (passes (b .second) old new) (λ k. never-stuck bs k))
-    where
-      go :
-          (t : Bool)
-          → ((k : Held) → Standing (k .book) → stuck old new bs k ≡ false)
-          → ((t && false) || stuck old new bs (cond t (hold b h) h)) ≡ false
-      go true more = more (hold b h) (quiet-hold b h s .stands)
-      go false more = more h s
-
 module _ (d : Day) (t : ℕ) (book : List Order) (s : Standing book) where
   pub moved-past : moved d t book ≡ past (passed (d .time) t boundaries Nothing) (start d book)
   unfolding moved past start
   moved-past = through-past (d .time) t boundaries Nothing (start d book) s
-
-  pub not-stuck : stuck (d .time) t boundaries (start d book) ≡ false
-  unfolding start
-  not-stuck = never-stuck (d .time) t boundaries (start d book) s
 
 -- ---- what is passed, as the code finds it
 

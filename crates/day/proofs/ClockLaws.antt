@@ -21,7 +21,6 @@ use Rattle.model.proofs.Rules.{hit, skip, Numbered, NoneHolds, none-holds}
 use Rattle.book.specs.Rows.{bookOf, rowsOf, tradeOf, tradesOf}
 use Rattle.book.specs.Standing.{Standing}
 use Rattle.book.proofs.Memory.{book-rows}
-use Rattle.auction.proofs.Rules.{never-undecided}
 use Rattle.day.specs.declared.Passage.{Passage}
 use Rattle.day.specs.declared.Passed.{Passed}
 use Rattle.day.specs.declared.Passed.the-variants.{Nothing, Auction, Lapse}
@@ -29,7 +28,7 @@ use Rattle.day.specs.Promises.{left}
 use Rattle.day.specs.Ready.{Ready}
 use Rattle.day.specs.Moving.{passed, auctioned, past, auctionRules, reached}
 use Rattle.day.proofs.Readiness.{ready-if}
-use Rattle.day.proofs.Boundaries.{moved-past, not-stuck}
+use Rattle.day.proofs.Boundaries.{moved-past}
 
 -- ---- the trades of what is passed
 
@@ -85,10 +84,10 @@ module _ (d : Day) (t : ℕ) (book : List Order) (room : ℕ) where
         stands : Standing book
         stands = ready-if d book u .stands
 
-        -- neither sound nor time nor an undecided auction is in the way
+        -- neither soundness nor the time is in the way
         by-room : rules ≡ firstOf (13 when (ltb room (length (moved d t book .trades))) ∷ [])
         unfolding clockRules isTime
-        by-room = skip 15 _ u ∙ skip 1 _ (rw (le-leb t 86_399 h, le-ltb t (d .time) l)) ∙ skip 18 _ (not-stuck d t book stands)
+        by-room = skip 15 _ u ∙ skip 1 _ (rw (le-leb t 86_399 h, le-ltb t (d .time) l))
 
         module _ {p : Passed} (e : p ≡ passed (d .time) t boundaries Nothing) where
           pub clock-idle : p ≡ Nothing → 0 ≡ rules
@@ -103,13 +102,12 @@ module _ (d : Day) (t : ℕ) (book : List Order) (room : ℕ) where
           unfolding auctionRules
           clock-auction n f =
               f
-              ∙ skip 18 _ (never-undecided book stands d)
               ∙ ap (λ (ts : List Trade). firstOf (13 when (ltb room (length ts)) ∷ [])) (sym (moved-trades d t book stands e n))
               ∙ sym by-room
 
   numbered : Numbered (clockRules d t book room)
   unfolding clockRules _when_
-  numbered = (eqb-false 15 0 refl, (eqb-false 1 0 refl, (eqb-false 18 0 refl, (eqb-false 13 0 refl, tt))))
+  numbered = (eqb-false 15 0 refl, (eqb-false 1 0 refl, (eqb-false 13 0 refl, tt)))
 
   module _ {n : ℕ} (e : n ≡ rules) (z : n ≡ 0) where
     none : NoneHolds (clockRules d t book room)
@@ -121,7 +119,7 @@ module _ (d : Day) (t : ℕ) (book : List Order) (room : ℕ) where
 
     pub move-fits : length (moved d t book .trades) ≤ room
     unfolding clockRules _when_
-    move-fits = ltb-false room (length (moved d t book .trades)) (none .1 .1 .1 .0)
+    move-fits = ltb-false room (length (moved d t book .trades)) (none .1 .1 .0)
 
 -- ---- what the boundaries come to
 

@@ -13,7 +13,7 @@ use Rattle.model.specs.Choice.{if_then_else_}
 use Rattle.model.specs.Clock.{passes}
 use Rattle.model.specs.Refusals.{Rule, _when_}
 use Rattle.model.specs.Calls.{Outcome, written}
-use Rattle.model.specs.ClockCall.{auctionTrades, undecided, Held, hold}
+use Rattle.model.specs.ClockCall.{auctionTrades, Held, hold}
 use Rattle.day.specs.declared.Passage.{Passage}
 use Rattle.day.specs.declared.Passed.{Passed}
 use Rattle.day.specs.declared.Passed.the-variants.{Nothing, Auction, Lapse}
@@ -44,7 +44,7 @@ past Lapse h = auctioned true h
 
 -- the rules of an auction held now, for a trade list of so many places
 unfoldable pub auctionRules : Day → List Order → ℕ → List Rule
-auctionRules d book room = 18 when (undecided d book) ∷ 13 when (ltb room (length (auctionTrades d book))) ∷ []
+auctionRules d book room = 13 when (ltb room (length (auctionTrades d book))) ∷ []
 
 -- what is handed back and left behind: figures, number of trades, book, and the trades at the front of the lent list
 unfoldable pub reached : Held → List Trade → Outcome Passage

@@ -1,7 +1,6 @@
 // A move of the clock: what it passes on the way, and what that does to day, book and trade list.
 use crate::Passage;
 use crate::Passed;
-use crate::auctions::is_undecided;
 use crate::figures::day_at;
 use crate::figures::reference_of;
 use crate::figures::tally_trades;
@@ -100,14 +99,11 @@ fn auction_trades(d: Day, rows: &[[u64; 5]], trades: &mut [[u64; 4]], room: usiz
     pair_at(rows, &mut *trades, room, price)
 }
 
-// 18: undecided. 13: more trades than the list has room for; a first pass counts them and writes nothing.
+// 13: more trades than the list has room for; a first pass counts them and writes nothing.
 fn auction_refusal(d: Day, rows: &[[u64; 5]], trades: &mut [[u64; 4]]) -> u64
     requires { ⌜ Standing (bookOf (now rows)) ⌝ }
     ensures { λ r. ⌜ (r ≡ firstOf (auctionRules d (bookOf (now (rows .entry))) (length (now (trades .entry))))) × (now (trades .exit) ≡ now (trades .entry)) ⌝ }
 {
-    if is_undecided(d, rows) {
-        return 18;
-    }
     let counted = auction_trades(d, rows, &mut *trades, 0);
     if trades.len() < counted {
         return 13;
@@ -115,8 +111,8 @@ fn auction_refusal(d: Day, rows: &[[u64; 5]], trades: &mut [[u64; 4]]) -> u64
     0
 }
 
-// On a sound day, 1: the time. 18 and 13: by the first auction on the way. No other has trades: after an auction no buy
-// reaches a sell.
+// On a sound day, 1: the time. 13: by the first auction on the way. No other has trades: after an auction no buy reaches a
+// sell.
 fn clock_refusal(d: Day, time: u64, rows: &[[u64; 5]], trades: &mut [[u64; 4]]) -> u64
     requires { ⌜ unsound d (bookOf (now rows)) ≡ false ⌝ }
     ensures { λ r. ⌜ (r ≡ firstOf (clockRules d time (bookOf (now (rows .entry))) (length (now (trades .entry))))) × (now (trades .exit) ≡ now (trades .entry)) ⌝ }

@@ -52,7 +52,7 @@ module _ (d : Day) (book : List Order) (k : Sound d book) where
 
   clock-not-15 : (t room : ℕ) → firstOf (clockRules d t book room) ≡ 15 → ⊥
   unfolding clockRules _when_
-  clock-not-15 t room = behind _ (other 1 refl, (other 18 refl, (other 13 refl, tt)))
+  clock-not-15 t room = behind _ (other 1 refl, (other 13 refl, tt))
 
 pub event-not-15 : (e : Event) (s : Desk) → Sound (s .day) (s .book) → getD (answered e s) 0 0 ≡ 15 → ⊥
 unfolding answered orderNumbers cancelNumbers clockNumbers entered

@@ -1,15 +1,18 @@
 -- The three demands: each record of specs/ that is put together from several files. Demand 1 is in Refusals, the runs of
 -- demand 2 in Runs, the starred table in Stars. Assumes nothing.
 use Rattle.demands.specs.Pricing.{Pricing}
+use Rattle.demands.specs.Conditions.{Conditions}
+use Rattle.auction.proofs.Conditions.{second-tests, second-alone}
+use Rattle.auction.proofs.Rules.{price-rule}
 use Rattle.demands.specs.Keeping.{Keeping}
 use Rattle.demands.specs.Entering.{Entering}
 use Rattle.demands.specs.Totalling.{Totalling}
 use Rattle.demands.specs.Owning.{OwnOnly}
-use Rattle.demands.proofs.Pricings.{sound-stands, listing, called, one, trades-there, report-decided}
+use Rattle.demands.proofs.Pricings.{sound-stands, listing, called, one, trades-there}
 use Rattle.demands.proofs.Fresh.{open-fresh}
 use Rattle.demands.proofs.Cancelled.{cancel-kept}
 use Rattle.demands.proofs.Entered.{order-kept}
-use Rattle.demands.proofs.Moved.{move-auctions, clock-kept, clock-decided}
+use Rattle.demands.proofs.Moved.{move-auctions, clock-kept}
 use Rattle.demands.proofs.Entries.{accepted}
 use Rattle.demands.proofs.Totals.{order-totals, clock-totals}
 use Rattle.demands.proofs.Owns.{cancel-own}
@@ -50,6 +53,18 @@ pricing =
       one-left = λ d book s. one book (sound-stands d book s);
       trades-there = λ d book s. trades-there book (sound-stands d book s) d;
       auctions = move-auctions;
-      report-decided = report-decided;
-      clock-decided = clock-decided;
+    }
+
+pub conditions : Conditions
+conditions =
+    record {
+      one-test =
+          λ d book s.
+          let rule = price-rule book (sound-stands d book s) in
+          record {
+            gives-all = λ p k. second-tests book k;
+            alone = λ p k. second-alone book k;
+            no-gap = rule .no-gap;
+            least-no-gap = rule .least-no-gap;
+          };
     }

@@ -1,4 +1,4 @@
--- A move of the clock keeps a sound day sound, through the auctions that it passes, and is never undecided. Assumes nothing.
+-- A move of the clock keeps a sound day sound, through the auctions that it passes. Assumes nothing.
 use Prim.Native.Nat.{ℕ, _+_, _≤_, _<_}
 use mathlib.Core.Path.{_≡_, refl, sym, _∙_}
 use mathlib.Core.Logic.{_⊎_, ⊎-elim}
@@ -20,7 +20,7 @@ use Rattle.model.specs.Figures.{at, tally}
 use Rattle.model.specs.Sound.{hasPlaces, sound, crosses}
 use Rattle.model.specs.Refusals.{_when_, firstOf, unsound}
 use Rattle.model.specs.Calls.{cleared}
-use Rattle.model.specs.ClockCall.{auctionPrice, auctionTrades, undecided, Held, hold, pass, through, stuck, start, moved, clockRules, clockCall}
+use Rattle.model.specs.ClockCall.{auctionPrice, auctionTrades, Held, hold, pass, through, start, moved, clockRules, clockCall}
 use Rattle.model.proofs.Bools.{not-both}
 use Rattle.book.specs.Standing.{Price, Standing}
 use Rattle.book.proofs.Lists.{each}
@@ -28,7 +28,6 @@ use Rattle.book.proofs.Kept.{standing-settle}
 use Rattle.soundness.specs.SoundDay.{Empty, SoundDay}
 use Rattle.soundness.proofs.SoundDays.{sound-day, day-sound, few-places}
 use Rattle.auction.specs.Rule as Rule
-use Rattle.auction.proofs.Rules.{never-undecided}
 use Rattle.pairing.proofs.Auctions.{auction-priced, auction-shares, auction-cases, auction-uncrosses}
 use Rattle.demands.specs.Pricing.{Sound, EachAuction}
 use Rattle.demands.proofs.FirstRules.{gives-none, first-gives}
@@ -119,17 +118,6 @@ module _ (old new : ℕ) where
   through-fit [] h f = f
   through-fit (b ∷ bs) h f = through-fit bs (pass old new b h) (pass-fit b h f)
 
-  pub never-stuck : (bs : List Boundary) (h : Held) → Fit h → stuck old new bs h ≡ false
-  unfolding stuck
-  never-stuck [] h f = refl
-  never-stuck (b ∷ bs) h f =
-      rw (never-undecided (h .book) (fit-stands h f) (h .day), never-stuck bs (pass old new b h) (pass-fit b h f))
-      (go (passes (b .second) old new))
-    where
-      go : (p : Bool) → (p && false) || false ≡ false
-      go true = refl
-      go false = refl
-
   pub each-auction : (bs : List Boundary) (h : Held) → Fit h → EachAuction old new bs h
   each-auction [] h f = tt
   each-auction (b ∷ bs) h f = (
@@ -216,9 +204,6 @@ module _ (d : Day) (book : List Order) (s : Sound d book) where
   unfolding start
   start-fit = record { many = s .0; whole = whole-of d book (sound-day d book (s .1)) }
 
-  pub move-decided : (t : ℕ) → stuck (d .time) t boundaries (start d book) ≡ false
-  move-decided t = never-stuck (d .time) t boundaries (start d book) start-fit
-
   pub move-auctions : (t : ℕ) → EachAuction (d .time) t boundaries (start d book)
   move-auctions t = each-auction (d .time) t boundaries (start d book) start-fit
 
@@ -283,39 +268,3 @@ module _ (d : Day) (book : List Order) (s : Sound d book) where
         clock-cases d t book lent (λ o. Sound (o .answer .day) (o .book))
         (λ z. let h = moves z in moved-sound t (h .0) (h .1))
         (λ _. s)
-
--- ---- 18 is never given: 15 comes first, and from a sound day no auction on the way is undecided
-
-module _ (d : Day) (t : ℕ) (book : List Order) (room : ℕ) where
-  clock-number :
-      unsound d book ≡ false
-      → stuck (d .time) t boundaries (start d book) ≡ false
-      → firstOf (clockRules d t book room)
-      ≡ cond (not (isTime t) || ltb t (d .time)) 1 (cond (ltb room (length (moved d t book .trades))) 13 0)
-  unfolding clockRules firstOf _when_
-  clock-number u h = rw (u, h)
-
-  unsound-number : unsound d book ≡ true → firstOf (clockRules d t book room) ≡ 15
-  unfolding clockRules firstOf _when_
-  unsound-number u = rw u
-
-pub clock-decided :
-    (d : Day) (t : ℕ) (book : List Order) (lent : List Trade)
-    → clockCall d t book lent .answer .reply ≡ ClockReply.the-variants.Refused 18
-    → ⊥
-clock-decided d t book lent e = go (unsound d book) refl
-  where
-    given : firstOf (clockRules d t book (length lent)) ≡ 18
-    given = first-gives 18 (clockRules d t book (length lent)) (clock-refuses d t book lent .refuses 18 .0 e)
-
-    numbers : (b c : Bool) → _≡_ {A = ℕ} (cond b 1 (cond c 13 0)) 18 → ⊥
-    numbers true c h = omega arith
-    numbers false true h = omega arith
-    numbers false false h = omega arith
-
-    go : (b : Bool) → unsound d book ≡ b → ⊥
-    go true u = let h = unsound-number d t book (length lent) u in omega (arith, given)
-    go false u =
-        let h = move-decided d book (sound-if d book u) t in
-        numbers (not (isTime t) || ltb t (d .time)) (ltb (length lent) (length (moved d t book .trades)))
-        (sym (clock-number d t book (length lent) u h) ∙ given)

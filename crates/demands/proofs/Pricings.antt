@@ -10,17 +10,15 @@ use lib.Dec.{ltb}
 use borrow.Author.Tests.{ltb-true, ltb-false, not-false}
 use Rattle.model.specs.declared.Order.{Order}
 use Rattle.model.specs.declared.Day.{Day}
-use Rattle.model.specs.declared.ReportReply as ReportReply
 use Rattle.model.specs.Lists.{any, from, among}
 use Rattle.model.specs.Matching.{settle}
 use Rattle.model.specs.Figures.{reference}
 use Rattle.model.specs.Auction.{qualifying, leftBy}
 use Rattle.model.specs.Sound.{hasPlaces, sound, crosses}
 use Rattle.model.specs.Refusals.{_when_, firstOf, unsound}
-use Rattle.model.specs.ClockCall.{auctionPrice, auctionTrades, undecided}
-use Rattle.model.specs.AuctionCalls.{due, reportRules, reportCall, listRules, listCall}
+use Rattle.model.specs.ClockCall.{auctionPrice, auctionTrades}
+use Rattle.model.specs.AuctionCalls.{due, listRules, listCall}
 use Rattle.model.proofs.Bools.{and-left, and-right, not-both, true-or-false, and-both}
-use Rattle.model.proofs.Rules.{hit, skip}
 use Rattle.book.specs.Standing.{Standing}
 use Rattle.book.proofs.Crossing.{uncrossed, not-crossed}
 use Rattle.book.proofs.Kept.{standing-settle}
@@ -30,12 +28,10 @@ use Rattle.auction.specs.Spans.{ends}
 use Rattle.auction.proofs.Runs.{run-length, run-at}
 use Rattle.auction.proofs.Spanning.{Spans, span-law}
 use Rattle.auction.proofs.Writing.{due-none, due-all, due-from}
-use Rattle.auction.proofs.Rules.{listed-qualifies, qualifies-listed, due-names, qualifying-rises, no-cross-empty, empty-no-cross, one-left, never-undecided}
+use Rattle.auction.proofs.Rules.{listed-qualifies, qualifies-listed, due-names, qualifying-rises, no-cross-empty, empty-no-cross, one-left}
 use Rattle.pairing.proofs.Auctioned.{buys-filled, sells-filled}
 use Rattle.pairing.proofs.Auctions.{auction-trades-are, auction-filled, auction-priced, auction-cases, auction-uncrosses}
 use Rattle.demands.specs.Pricing.{Sound, Listing, Called, OneLeft, TradesThere}
-use Rattle.demands.proofs.FirstRules.{first-gives}
-use Rattle.demands.proofs.Refusals.{report-refuses}
 
 -- ---- a sound day
 
@@ -138,25 +134,3 @@ called d book s asked lent =
       told = rw (not-unsound d book s);
       written = rw (not-unsound d book s);
     }
-
--- 15 comes first, and a sound day is never undecided
-report-number : (d : Day) (book : List Order) → (firstOf (reportRules d book) ≡ 15) ⊎ (firstOf (reportRules d book) ≡ 0)
-unfolding reportRules
-report-number d book = go (unsound d book) refl
-  where
-    nothing : firstOf [] ≡ 0
-    nothing = unfold firstOf in refl
-
-    go :
-        (b : Bool)
-        → unsound d book ≡ b
-        → (firstOf (15 when (unsound d book) ∷ 18 when (undecided d book) ∷ []) ≡ 15)
-        ⊎ (firstOf (15 when (unsound d book) ∷ 18 when (undecided d book) ∷ []) ≡ 0)
-    go true u = inl (hit 15 (18 when (undecided d book) ∷ []) u)
-    go false u =
-        inr (skip 15 (18 when (undecided d book) ∷ []) u ∙ skip 18 [] (never-undecided book (sound-stands d book (sound-if d book u)) d) ∙ nothing)
-
-pub report-decided : (d : Day) (book : List Order) → reportCall d book ≡ ReportReply.the-variants.Refused 18 → ⊥
-report-decided d book e =
-    let h : firstOf (reportRules d book) ≡ 18 = first-gives 18 (reportRules d book) (report-refuses d book .refuses 18 .0 e) in
-    ⊎-elim (λ k. absurd (omega arith)) (λ k. absurd (omega arith)) (report-number d book)

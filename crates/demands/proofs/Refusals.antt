@@ -123,7 +123,7 @@ module _ (d : Day) (account number : ℕ) (book : List Order) where
 module _ (d : Day) (t : ℕ) (book : List Order) (lent : List Trade) where
   pub clock-numbers : Numbers (clockRules d t book (length lent))
   unfolding clockRules _when_
-  clock-numbers = (real 15 refl, (real 1 refl, (real 18 refl, (real 13 refl, tt))))
+  clock-numbers = (real 15 refl, (real 1 refl, (real 13 refl, tt)))
 
   clock-apart : (n : ℕ) → ClockReply.the-variants.Moved (phaseAt t) (length (moved d t book .trades)) ≡ ClockReply.the-variants.Refused n → ⊥
   clock-apart n e = let z : _≡_ {A = ℕ} 0 1 = cc in omega arith
@@ -149,7 +149,7 @@ module _ (d : Day) (t : ℕ) (book : List Order) (lent : List Trade) where
 module _ (d : Day) (book : List Order) where
   report-numbers : Numbers (reportRules d book)
   unfolding reportRules _when_
-  report-numbers = (real 15 refl, (real 18 refl, tt))
+  report-numbers = (real 15 refl, tt)
 
   report-apart : (n : ℕ) → reportAt (auctionPrice d book) book ≡ ReportReply.the-variants.Refused n → ⊥
   unfolding reportAt

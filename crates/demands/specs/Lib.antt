@@ -1,6 +1,7 @@
 -- The three demands, stated over the model's definitions. Each statement can be read without its proof.
 pub mod Refusing
 pub mod Pricing
+pub mod Conditions
 pub mod Keeping
 pub mod Running
 pub mod Entering

@@ -8,8 +8,6 @@ use lib.ListN.{length, getD, take, drop}
 use Rattle.model.specs.declared.Order.{Order}
 use Rattle.model.specs.declared.Trade.{Trade}
 use Rattle.model.specs.declared.Day.{Day}
-use Rattle.model.specs.declared.ClockReply as ClockReply
-use Rattle.model.specs.declared.ReportReply as ReportReply
 use Rattle.model.specs.declared.ListReply as ListReply
 use Rattle.model.specs.declared.Boundary.{Boundary}
 use Rattle.model.specs.Lists.{among}
@@ -20,8 +18,8 @@ use Rattle.model.specs.Figures.{reference}
 use Rattle.model.specs.Auction.{volume, qualifying, leftBy}
 use Rattle.model.specs.Pairing.{cut}
 use Rattle.model.specs.Sound.{hasPlaces, sound}
-use Rattle.model.specs.ClockCall.{auctionPrice, auctionTrades, Held, pass, start, clockCall}
-use Rattle.model.specs.AuctionCalls.{due, reportCall, listCall}
+use Rattle.model.specs.ClockCall.{auctionPrice, auctionTrades, Held, pass, start}
+use Rattle.model.specs.AuctionCalls.{due, listCall}
 use Rattle.book.specs.Standing.{Each}
 use Rattle.auction.specs.Rule.{Qualifies, Rising}
 use Rattle.pairing.specs.Granted.{granted}
@@ -84,9 +82,3 @@ pub record Pricing : Type 0 where
   pub one-left : (d : Day) (book : List Order) → Sound d book → (qualifying book ≡ [] → ⊥) → (ref : ℕ) → OneLeft book ref
   pub trades-there : (d : Day) (book : List Order) → Sound d book → TradesThere d book (auctionTrades d book)
   pub auctions : (d : Day) (book : List Order) → Sound d book → (t : ℕ) → EachAuction (d .time) t boundaries (start d book)
-  -- 18 is never given, from any day
-  pub report-decided : (d : Day) (book : List Order) → reportCall d book ≡ ReportReply.the-variants.Refused 18 → ⊥
-  pub clock-decided :
-      (d : Day) (t : ℕ) (book : List Order) (lent : List Trade)
-      → clockCall d t book lent .answer .reply ≡ ClockReply.the-variants.Refused 18
-      → ⊥

@@ -159,8 +159,8 @@ pub check-orders :
     × (numbers (orderRules d a book n)
     ≡ 15 ∷ 2 ∷ 3 ∷ 4 ∷ 5 ∷ 6 ∷ 7 ∷ 8 ∷ 9 ∷ 10 ∷ 11 ∷ 13 ∷ [])
     × (numbers (cancelRules d m n book) ≡ 15 ∷ 4 ∷ 12 ∷ [])
-    × (numbers (clockRules d m book n) ≡ 15 ∷ 1 ∷ 18 ∷ 13 ∷ [])
-    × (numbers (reportRules d book) ≡ 15 ∷ 18 ∷ [])
+    × (numbers (clockRules d m book n) ≡ 15 ∷ 1 ∷ 13 ∷ [])
+    × (numbers (reportRules d book) ≡ 15 ∷ [])
     × (numbers (listRules d book) ≡ 15 ∷ [])
 unfolding openRules orderRules cancelRules clockRules reportRules listRules _when_
 check-orders d a m n book = (refl, refl, refl, refl, refl, refl)

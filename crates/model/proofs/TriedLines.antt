@@ -20,7 +20,7 @@ use Rattle.model.specs.Entry.{bestWithin, entryPrice, opposite, entryTra
 use Rattle.model.specs.Sound.{hasPlaces, isMark, mayStand, soundFigures, isFree, isOrder, ownNumbers, isEmpty, crosses, between, sharesFit, pricesFit, turnoverFits, sound}
 use Rattle.model.specs.Refusals.{_when_, firstOf, unsound}
 use Rattle.model.specs.Calls.{written, openRules, cleared, openCall, orderRules, ended, placed, entered, orderCall, isOwn, cancelRules, cancelCall}
-use Rattle.model.specs.ClockCall.{pass, through, stuck, start, moved, clockRules, clockCall}
+use Rattle.model.specs.ClockCall.{pass, through, start, moved, clockRules, clockCall}
 use Rattle.model.specs.Replies.{restingOf, withdrawnOf, entryNumbers}
 use Rattle.model.specs.Lines.{onto, linesOf, ontoWord, wordsOf, isDigit, valueFrom, bare, numberOf, numbersOf, commandOf, wordsCommand, lineCommand, digits, spaced, reply, refusalLine, tradeLines, openLine, clockLine, orderLine, cancelLine, Line}
 use Rattle.model.specs.Session.{lentPlaces, lentTrades, opened, openAnswer, clockAnswer, orderAnswer, cancelAnswer, onDesk, answer, answers, Desk, Answered, session}
@@ -445,5 +445,5 @@ pub lines-tried :
     ≡ bytes "D\nX 16\nK 1 0\nX 16\nX 16\n")
     × (length lentPlaces ≡ 1_024)
     × (length lentTrades ≡ 2_048)
-unfolding keep all any total among once different isTime closed laterRows holding rowAt phaseAt takesOrders takesCancels continuous passes boundaries free isLive standsOn better ahead insert inPriority queue other headPrice best meets within fiveBest atFiveBest tradeWith sweep filled levels lastPrice firstPrice isIn filledOf lessBy settle rest isPrice isQuantity inBand buyInRange sellInRange inRange freshDay at nextNumber issue money tally reference bestWithin entryPrice opposite entryTrades restPrice base hasPlaces isMark mayStand soundFigures isFree isOrder ownNumbers isEmpty crosses between sharesFit pricesFit turnoverFits sound _when_ firstOf unsound written openRules cleared openCall orderRules ended placed entered orderCall isOwn cancelRules cancelCall pass through stuck start moved clockRules clockCall restingOf withdrawnOf entryNumbers onto linesOf ontoWord wordsOf isDigit valueFrom bare numberOf numbersOf commandOf wordsCommand lineCommand digits spaced reply refusalLine tradeLines openLine clockLine orderLine cancelLine lentPlaces lentTrades opened openAnswer clockAnswer orderAnswer cancelAnswer onDesk answer answers session replies bytes
+unfolding keep all any total among once different isTime closed laterRows holding rowAt phaseAt takesOrders takesCancels continuous passes boundaries free isLive standsOn better ahead insert inPriority queue other headPrice best meets within fiveBest atFiveBest tradeWith sweep filled levels lastPrice firstPrice isIn filledOf lessBy settle rest isPrice isQuantity inBand buyInRange sellInRange inRange freshDay at nextNumber issue money tally reference bestWithin entryPrice opposite entryTrades restPrice base hasPlaces isMark mayStand soundFigures isFree isOrder ownNumbers isEmpty crosses between sharesFit pricesFit turnoverFits sound _when_ firstOf unsound written openRules cleared openCall orderRules ended placed entered orderCall isOwn cancelRules cancelCall pass through start moved clockRules clockCall restingOf withdrawnOf entryNumbers onto linesOf ontoWord wordsOf isDigit valueFrom bare numberOf numbersOf commandOf wordsCommand lineCommand digits spaced reply refusalLine tradeLines openLine clockLine orderLine cancelLine lentPlaces lentTrades opened openAnswer clockAnswer orderAnswer cancelAnswer onDesk answer answers session replies bytes
 lines-tried = (refl, refl, refl, refl)

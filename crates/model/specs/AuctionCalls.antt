@@ -12,12 +12,12 @@ use Rattle.model.specs.Choice.{if_then_else_}
 use Rattle.model.specs.Lists.{keep}
 use Rattle.model.specs.Auction.{volume, qualifying, surplus}
 use Rattle.model.specs.Refusals.{Rule, _when_, firstOf, unsound}
-use Rattle.model.specs.ClockCall.{auctionPrice, undecided}
+use Rattle.model.specs.ClockCall.{auctionPrice}
 
 -- ---- the report
 
 unfoldable pub reportRules : Day → List Order → List Rule
-reportRules d book = 15 when (unsound d book) ∷ 18 when (undecided d book) ∷ []
+reportRules d book = 15 when (unsound d book) ∷ []
 
 -- price, volume and surplus; all zero when nothing qualifies
 unfoldable pub reportAt : ℕ → List Order → ReportReply.ReportReply

@@ -1,6 +1,6 @@
 -- The clock call: only it moves time. It goes through the boundaries that it passes, in time order.
 use Prim.Native.Nat.{ℕ}
-use mathlib.Core.Bool.{Bool, false, not, _&&_, _||_}
+use mathlib.Core.Bool.{not, _||_}
 use mathlib.Core.List.{List, [], _∷_, _++_}
 use lib.ListN.{length, getD}
 use lib.Dec.{ltb, eqb}
@@ -16,7 +16,6 @@ use Rattle.model.specs.Matching.{settle}
 use Rattle.model.specs.Figures.{at, tally, reference}
 use Rattle.model.specs.Auction.{leftBy}
 use Rattle.model.specs.Pairing.{tradesAt}
-use Rattle.model.specs.Sound.{crosses}
 use Rattle.model.specs.Refusals.{Rule, _when_, firstOf, unsound}
 use Rattle.model.specs.Calls.{Outcome, written, cleared}
 
@@ -27,10 +26,6 @@ auctionPrice d book = getD (leftBy book (reference d)) 0 0
 -- no qualifying price: no trade
 unfoldable pub auctionTrades : Day → List Order → List Trade
 auctionTrades d book = if eqb (auctionPrice d book) 0 then [] else tradesAt (auctionPrice d book) book
-
--- buys reach sells, yet not exactly one price is left
-unfoldable pub undecided : Day → List Order → Bool
-undecided d book = crosses book && not (eqb (length (leftBy book (reference d))) 1)
 
 -- a day and its book in the middle of a clock call, with the call's trades so far
 pub record Held : Type 0 where
@@ -56,12 +51,6 @@ unfoldable pub through : ℕ → ℕ → List Boundary → Held → Held
 through old new [] h = h
 through old new (b ∷ bs) h = through old new bs (pass old new b h)
 
--- whether an auction on the way is undecided
-unfoldable pub stuck : ℕ → ℕ → List Boundary → Held → Bool
-stuck old new [] h = false
-stuck old new (b ∷ bs) h =
-    (passes (b .second) old new && undecided (h .day) (h .book)) || stuck old new bs (pass old new b h)
-
 unfoldable pub start : Day → List Order → Held
 start d book = record { day = d; book = book; trades = [] }
 
@@ -72,7 +61,6 @@ unfoldable pub clockRules : Day → ℕ → List Order → ℕ → List Rule
 clockRules d t book room =
     15 when (unsound d book)
     ∷ 1 when (not (isTime t) || ltb t (d .time))
-    ∷ 18 when (stuck (d .time) t boundaries (start d book))
     ∷ 13 when (ltb room (length (moved d t book .trades)))
     ∷ []
 

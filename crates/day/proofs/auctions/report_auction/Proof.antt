@@ -1,21 +1,22 @@
--- `day::auctions::report_auction` meets its contract: refused, or the report at the price that is left. Assumes nothing.
+-- `day::auctions::report_auction` meets its contract: 15, or the report at the price that is left. Assumes nothing.
 use borrow.Author.Needs.{needs}
-use Rattle.day.specs.Ready.{Ready}
+use borrow.Author.Tests.{not-true, not-false}
 use Rattle.book.specs.Rows.{bookOf}
-use Rattle.day.proofs.Readiness.{ready-if}
-use Rattle.day.proofs.AuctionLaws.{price-found, report-refused, report-sound, report-accepted}
+use Rattle.day.specs.Ready.{Ready}
+use Rattle.day.proofs.Readiness.{is-unsound, not-unsound, ready}
+use Rattle.day.proofs.AuctionLaws.{price-found, report-refused, report-accepted}
 use Rattle.day.proofs.auctions.report_auction.Statement.{statement}
 use Rattle.day.proofs.auctions.report_auction.Tie as tie
 
-report-refusal-requires : tie.Need-report-refusal-requires
-report-refusal-requires c κs = search needs
+is-sound-requires : tie.Need-is-sound-requires
+is-sound-requires c κs = search needs
 
 returns : tie.Need-returns
-returns c = report-refused _ _ (c .before .report-refusal .ensures) (c .if1 .taken)
+returns c = report-refused _ _ (is-unsound _ _ (c .before .is-sound .ensures) (not-true _ (c .if1 .taken)))
 
--- not refused, so the day is sound
+-- past the test the day is sound
 sound : (c : tie.Else1) → Ready (c .before .before .args .d) (bookOf (c .before .before .args .rows .now))
-sound c = ready-if _ _ (report-sound _ _ (c .before .report-refusal .ensures) (c .if1 .left))
+sound c = ready _ _ (c .before .is-sound .ensures) (not-false _ (c .if1 .left))
 
 reference-of-requires : tie.Need-reference-of-requires
 reference-of-requires c κs = search needs
@@ -28,7 +29,8 @@ report-at-requires c κs = sound (c .before .before) .stands
 
 returns-2 : tie.Need-returns-2
 returns-2 c =
-    report-accepted _ _ (c .before .before .before .before .report-refusal .ensures) (c .before .before .before .if1 .left)
+    let u = c .before .before .before in
+    report-accepted _ _ (not-unsound _ _ (u .before .is-sound .ensures) (not-false _ (u .if1 .left)))
     (price-found _ _ (c .before .before .reference-of .ensures) (c .before .auction-price .ensures))
     (c .report-at .ensures)
 
@@ -36,7 +38,7 @@ pub report-auction-spec : {M : Type 1} → statement M
 report-auction-spec =
     tie.close
     (tie.spec
-    report-refusal-requires
+    is-sound-requires
     returns
     reference-of-requires
     auction-price-requires

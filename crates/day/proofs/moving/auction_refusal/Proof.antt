@@ -1,21 +1,13 @@
 -- `day::moving::auction_refusal` meets its contract: each return is a law of the rules; the list is only counted into. Assumes nothing.
-use mathlib.Core.Path.{_≡_, refl, sym, ap, _∙_}
+use mathlib.Core.Path.{_≡_, ap, _∙_}
 use native.Mathlib.Omega.{arith}
 use lib.ListN.{length}
 use Rattle.book.specs.Rows.{bookOf}
 use Rattle.book.proofs.Written.{front-zero}
-use Rattle.day.proofs.AuctionHeld.{auction-undecided, auction-room, auction-none}
+use Rattle.day.proofs.AuctionHeld.{auction-room, auction-none}
 use borrow.Author.Needs.{needs}
 use Rattle.day.proofs.moving.auction_refusal.Statement.{statement}
 use Rattle.day.proofs.moving.auction_refusal.Tie as tie
-
-is-undecided-requires : tie.Need-is-undecided-requires
-is-undecided-requires c κs = search needs
-
-returns : tie.Need-returns
-returns c =
-    let a = c .before .before .args in
-    (auction-undecided (a .d) (bookOf (a .rows .now)) _ (sym (c .before .is-undecided .ensures) ∙ c .if1 .taken), refl)
 
 auction-trades-requires : tie.Need-auction-trades-requires
 auction-trades-requires c κs = search needs
@@ -23,39 +15,31 @@ auction-trades-requires c κs = search needs
 same-length : tie.Need-same-length
 same-length c = search needs
 
-returns-2 : tie.Need-returns-2
-returns-2 c =
-    let u = c .before .before .before .before in
-    let a = u .before .before .args in
+returns : tie.Need-returns
+returns c =
     let e = c .before .before .auction-trades in
+    let a = c .before .before .before .before .args in
     let k : e .last .1 .1 .0 ≡ a .trades .now = e .ensures .1 ∙ front-zero _ _ in
-    let l : length (e .last .1 .1 .0) ≡ length (a .trades .now) = ap length k in (
-      auction-room (a .d) (bookOf (a .rows .now)) _ (sym (u .before .is-undecided .ensures) ∙ u .if1 .left) (omega (arith, e .ensures .0)),
-      k,
-    )
+    let l : length (e .last .1 .1 .0) ≡ length (a .trades .now) = ap length k in
+    (auction-room (a .d) (bookOf (a .rows .now)) _ (omega (arith, e .ensures .0)), k)
 
 same-length-2 : tie.Need-same-length-2
 same-length-2 c = search needs
 
-returns-3 : tie.Need-returns-3
-returns-3 c =
-    let u = c .before .before .before .before in
-    let a = u .before .before .args in
+returns-2 : tie.Need-returns-2
+returns-2 c =
     let e = c .before .before .auction-trades in
+    let a = c .before .before .before .before .args in
     let k : e .last .1 .1 .0 ≡ a .trades .now = e .ensures .1 ∙ front-zero _ _ in
-    let l : length (e .last .1 .1 .0) ≡ length (a .trades .now) = ap length k in (
-      auction-none (a .d) (bookOf (a .rows .now)) _ (sym (u .before .is-undecided .ensures) ∙ u .if1 .left) (omega (arith, e .ensures .0)),
-      k,
-    )
+    let l : length (e .last .1 .1 .0) ≡ length (a .trades .now) = ap length k in
+    (auction-none (a .d) (bookOf (a .rows .now)) _ (omega (arith, e .ensures .0)), k)
 
 pub auction-refusal-spec : {M : Type 1} → statement M
 auction-refusal-spec =
     tie.close
     (tie.spec
-    is-undecided-requires
-    returns
     auction-trades-requires
     same-length
-    returns-2
+    returns
     same-length-2
-    returns-3)
+    returns-2)
