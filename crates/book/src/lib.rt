@@ -41,7 +41,7 @@ pub fn put_order(rows: &mut [[u64; 5]], place: usize, o: Order)
 }
 
 // The trade at a place of the trade list.
-pub fn trade_at(trades: &[[u64; 4]], place: usize) -> Trade
+pub fn trade_at(trades: &[[u64; 6]], place: usize) -> Trade
     requires { ⌜ place < length (now trades) ⌝ }
     ensures { λ r. ⌜ r ≡ tradeOf (getD (now (trades .entry)) place []) ⌝ }
 {
@@ -51,13 +51,22 @@ pub fn trade_at(trades: &[[u64; 4]], place: usize) -> Trade
         quantity: row[1],
         buyer: row[2],
         seller: row[3],
+        buyerleft: row[4],
+        sellerleft: row[5],
     }
 }
 
-pub fn put_trade(trades: &mut [[u64; 4]], place: usize, t: Trade)
+pub fn put_trade(trades: &mut [[u64; 6]], place: usize, t: Trade)
     requires { ⌜ place < length (now trades) ⌝ }
     ensures { λ _. ⌜ now (trades .exit) ≡ set (now (trades .entry)) place (tradeRow t) ⌝ }
 {
-    let row = [t.price, t.quantity, t.buyer, t.seller];
+    let row = [
+        t.price,
+        t.quantity,
+        t.buyer,
+        t.seller,
+        t.buyerleft,
+        t.sellerleft,
+    ];
     trades[place] = row;
 }

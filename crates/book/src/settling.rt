@@ -17,7 +17,7 @@ use model::Order;
 use model::Trade;
 
 // The trade at its place of the list, while there is room: a first pass with no room only counts.
-pub fn put_trade_below(trades: &mut [[u64; 4]], room: usize, place: usize, t: Trade)
+pub fn put_trade_below(trades: &mut [[u64; 6]], room: usize, place: usize, t: Trade)
     requires { ⌜ room ≤ length (now trades) ⌝ }
     ensures { λ _. ⌜ now (trades .exit) ≡ put room place t (now (trades .entry)) ⌝ }
 {
@@ -53,7 +53,7 @@ fn left_by(number: u64, t: Trade, left: u64) -> u64
 }
 
 // What the first n trades leave of them.
-fn left_after(trades: &[[u64; 4]], n: usize, number: u64, left: u64) -> u64
+fn left_after(trades: &[[u64; 6]], n: usize, number: u64, left: u64) -> u64
     requires { ⌜ n ≤ length (now trades) ⌝ }
     ensures { λ r. ⌜ r ≡ left - filledOf number (tradesOf (take n (now (trades .entry)))) ⌝ }
 {
@@ -67,7 +67,7 @@ fn left_after(trades: &[[u64; 4]], n: usize, number: u64, left: u64) -> u64
 }
 
 // An order after the first n trades: its place is free once nothing is left.
-fn settled(o: Order, trades: &[[u64; 4]], n: usize) -> Order
+fn settled(o: Order, trades: &[[u64; 6]], n: usize) -> Order
     requires { ⌜ n ≤ length (now trades) ⌝ }
     ensures { λ r. ⌜ r ≡ lessBy (filledOf (o .number) (tradesOf (take n (now (trades .entry))))) o ⌝ }
 {
@@ -85,7 +85,7 @@ fn settled(o: Order, trades: &[[u64; 4]], n: usize) -> Order
 }
 
 // Every place after the first n trades of the list.
-fn settle_places(rows: &mut [[u64; 5]], trades: &[[u64; 4]], n: usize)
+fn settle_places(rows: &mut [[u64; 5]], trades: &[[u64; 6]], n: usize)
     requires { ⌜ n ≤ length (now trades) ⌝ }
     ensures { λ _. ⌜ now (rows .exit) ≡ rowsOf (settle (tradesOf (take n (now (trades .entry)))) (bookOf (now (rows .entry)))) ⌝ }
 {
@@ -98,7 +98,7 @@ fn settle_places(rows: &mut [[u64; 5]], trades: &[[u64; 4]], n: usize)
 }
 
 // The book after the first n trades of the list; where there are none, no place is looked at.
-pub fn settle_rows(rows: &mut [[u64; 5]], trades: &[[u64; 4]], n: usize)
+pub fn settle_rows(rows: &mut [[u64; 5]], trades: &[[u64; 6]], n: usize)
     requires { ⌜ n ≤ length (now trades) ⌝ }
     requires { ⌜ Each Fair (bookOf (now rows)) ⌝ }
     ensures { λ _. ⌜ bookOf (now (rows .exit)) ≡ settle (tradesOf (take n (now (trades .entry)))) (bookOf (now (rows .entry))) ⌝ }

@@ -3,7 +3,7 @@
 use Prim.Native.Nat.{ℕ, _+_, _*_, _^_, _≤_, _<_}
 use mathlib.Core.Path.{_≡_, refl, sym, ap, _∙_}
 use mathlib.Core.Logic.{⊎-elim}
-use mathlib.Core.Bool.{Bool, true, false}
+use mathlib.Core.Bool.{Bool, false}
 use mathlib.Core.List.{List, []}
 use native.Mathlib.Nat.{mul-le-mul-right}
 use native.Mathlib.Omega.{arith}
@@ -30,7 +30,7 @@ use Rattle.day.specs.Promises.{left}
 use Rattle.day.specs.Ready.{Ready}
 use Rattle.day.specs.Moving.{auctioned, auctionRules, reached}
 use Rattle.day.proofs.AuctionLaws.{price-found}
-use Rattle.day.proofs.Boundaries.{no-trades}
+use Rattle.pairing.proofs.Auctions.{uncrossed-none}
 
 -- ---- its trades
 
@@ -40,7 +40,7 @@ module _ (d : Day) (book : List Order) (s : Standing book) {r p : ℕ} (er : r �
 
 module _ (d : Day) (book : List Order) (s : Standing book) {c : Bool} (e : c ≡ crosses book) (n : c ≡ false) where
   none : auctionTrades d book ≡ []
-  none = no-trades d book s (sym e ∙ n)
+  none = uncrossed-none book s d (sym e ∙ n)
 
   -- none are made, and none are written
   pub none-made : (room : ℕ) (lent : List (List ℕ)) → (0 ≡ length (auctionTrades d book)) × (lent ≡ front room (tradeRows (auctionTrades d book)) lent)

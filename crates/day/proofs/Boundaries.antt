@@ -2,14 +2,13 @@
 -- boundary after the other. Assumes nothing.
 use Prim.Native.Nat.{ℕ, _+_, _≤_, _<_}
 use mathlib.Core.Path.{_≡_, refl, sym, ap, _∙_}
-use mathlib.Core.Bool.{Bool, true, false, cond, _&&_, _||_}
+use mathlib.Core.Bool.{Bool, true, false, cond, _||_}
 use mathlib.Core.List.{List, [], _∷_, _++_, append-nil}
 use lib.ListN.{length, drop, getD, drop-of-length-le}
 use lib.Seq.{drop-cons}
 use lib.Dec.{leb}
 use borrow.Author.Tests.{le-ltb, lt-ltb}
 use native.Mathlib.Numerals.{add-one}
-use native.Mathlib.Omega.{arith}
 use Rattle.model.specs.declared.Order.{Order}
 use Rattle.model.specs.declared.Trade.{Trade}
 use Rattle.model.specs.declared.Day.{Day}
@@ -17,18 +16,17 @@ use Rattle.model.specs.declared.Boundary.{Boundary}
 use Rattle.model.specs.Clock.{passes, boundaries}
 use Rattle.model.specs.Book.{free, standsOn}
 use Rattle.model.specs.Matching.{settle}
-use Rattle.model.specs.Figures.{tally, reference}
+use Rattle.model.specs.Figures.{tally}
 use Rattle.model.specs.Sound.{crosses}
 use Rattle.model.specs.Calls.{cleared}
-use Rattle.model.specs.ClockCall.{auctionPrice, auctionTrades, Held, hold, pass, through, start, moved}
+use Rattle.model.specs.ClockCall.{auctionTrades, Held, hold, pass, through, start, moved}
 use Rattle.book.specs.Standing.{Each, Standing}
 use Rattle.book.proofs.Lists.{each}
 use Rattle.book.proofs.Kept.{free-number, standing-settle, standing-cleared}
 use Rattle.book.proofs.Queues.{on-live}
 use Rattle.book.proofs.Settlements.{settle-none}
 use Rattle.book.proofs.Crossing.{SellsAbove, not-crossed}
-use Rattle.auction.proofs.Rules.{none-left-over}
-use Rattle.pairing.proofs.Auctions.{auction-uncrosses}
+use Rattle.pairing.proofs.Auctions.{auction-uncrosses, uncrossed-none}
 use Rattle.day.specs.declared.Passed.{Passed}
 use Rattle.day.specs.declared.Passed.the-variants.{Nothing, Auction, Lapse}
 use Rattle.day.specs.Moving.{andThen, passedBy, passed, auctioned, past}
@@ -62,10 +60,6 @@ record Quiet (h : Held) : Type 0 where
   stands : Standing (h .book)
   apart : crosses (h .book) ≡ false
 
-pub no-trades : (d : Day) (book : List Order) → Standing book → crosses book ≡ false → auctionTrades d book ≡ []
-unfolding auctionTrades auctionPrice
-no-trades d book s c = rw (none-left-over book s c (reference d))
-
 -- with every place cleared, or as it is
 abbrev lapsed : Bool → Held → Held
 lapsed lapse h = record { day = h .day; book = cond lapse (cleared (h .book)) (h .book); trades = h .trades }
@@ -73,7 +67,7 @@ lapsed lapse h = record { day = h .day; book = cond lapse (cleared (h .book)) (h
 hold-quiet : (b : Boundary) (h : Held) → Quiet h → hold b h ≡ lapsed (b .lapse) h
 unfolding hold
 hold-quiet b h q =
-    let none : auctionTrades (h .day) (h .book) ≡ [] = no-trades (h .day) (h .book) (q .stands) (q .apart) in
+    let none : auctionTrades (h .day) (h .book) ≡ [] = uncrossed-none (h .book) (q .stands) (h .day) (q .apart) in
     let day : tally (auctionTrades (h .day) (h .book)) (h .day) ≡ h .day =
     ap (λ (ts : List Trade). tally ts (h .day)) none ∙ sym (tally-zero (h .day) [] 0 refl) in
     let book : settle (auctionTrades (h .day) (h .book)) (h .book) ≡ h .book =

@@ -33,19 +33,21 @@ five (a ∷ b ∷ c ∷ d ∷ []) h = absurd (omega arith)
 five (a ∷ b ∷ c ∷ d ∷ e ∷ []) h = refl
 five (a ∷ b ∷ c ∷ d ∷ e ∷ f ∷ r) h = absurd (omega arith)
 
-four : (r : List ℕ) → length r ≡ 4 → tradeRow (tradeOf r) ≡ r
-four [] h = absurd (omega arith)
-four (a ∷ []) h = absurd (omega arith)
-four (a ∷ b ∷ []) h = absurd (omega arith)
-four (a ∷ b ∷ c ∷ []) h = absurd (omega arith)
-four (a ∷ b ∷ c ∷ d ∷ []) h = refl
-four (a ∷ b ∷ c ∷ d ∷ e ∷ r) h = absurd (omega arith)
+six : (r : List ℕ) → length r ≡ 6 → tradeRow (tradeOf r) ≡ r
+six [] h = absurd (omega arith)
+six (a ∷ []) h = absurd (omega arith)
+six (a ∷ b ∷ []) h = absurd (omega arith)
+six (a ∷ b ∷ c ∷ []) h = absurd (omega arith)
+six (a ∷ b ∷ c ∷ d ∷ []) h = absurd (omega arith)
+six (a ∷ b ∷ c ∷ d ∷ e ∷ []) h = absurd (omega arith)
+six (a ∷ b ∷ c ∷ d ∷ e ∷ f ∷ []) h = refl
+six (a ∷ b ∷ c ∷ d ∷ e ∷ f ∷ g ∷ r) h = absurd (omega arith)
 
 abbrev pub Places : List (List ℕ) → Type 0
 Places rows = Each (λ r. length r ≡ 5) rows
 
 abbrev pub Trades : List (List ℕ) → Type 0
-Trades rows = Each (λ r. length r ≡ 4) rows
+Trades rows = Each (λ r. length r ≡ 6) rows
 
 places-back : (rows : List (List ℕ)) → Places rows → rowsOf (bookOf rows) ≡ rows
 places-back [] e = refl
@@ -55,7 +57,7 @@ places-back (r ∷ rows) (h, e) =
 trades-back : (rows : List (List ℕ)) → Trades rows → tradeRows (tradesOf rows) ≡ rows
 trades-back [] e = refl
 trades-back (r ∷ rows) (h, e) =
-    ap (λ (x : List ℕ). x ∷ tradeRows (tradesOf rows)) (four r h) ∙ ap (λ (l : List (List ℕ)). r ∷ l) (trades-back rows e)
+    ap (λ (x : List ℕ). x ∷ tradeRows (tradesOf rows)) (six r h) ∙ ap (λ (l : List (List ℕ)). r ∷ l) (trades-back rows e)
 
 pub same-places : (m n : List (List ℕ)) → Places m → Places n → bookOf m ≡ bookOf n → m ≡ n
 same-places m n a b e = sym (places-back m a) ∙ ap rowsOf e ∙ places-back n b

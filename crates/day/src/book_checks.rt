@@ -56,7 +56,7 @@ fn is_outside(rows: &[[u64; 5]], d: Day, phase: u64, a: Asked) -> bool
 
 // 9: outside the range. 10: no free place. 11: no number left. 13: more trades than the list has room for; a first pass counts
 // them and writes nothing.
-pub fn book_refusal(rows: &[[u64; 5]], trades: &mut [[u64; 4]], d: Day, phase: u64, a: Asked) -> u64
+pub fn book_refusal(rows: &[[u64; 5]], trades: &mut [[u64; 6]], d: Day, phase: u64, a: Asked) -> u64
     requires { ⌜ Standing (bookOf (now rows)) ⌝ }
     requires { ⌜ phase ≡ phaseAt (d .time) ⌝ }
     requires { ⌜ isPrice (reference d) ≡ true ⌝ }

@@ -26,7 +26,7 @@ ghost use Rattle.day.specs.Promises.{left, orderRefused};
 ghost use Rattle.day.specs.Ready.{Taken};
 
 // The number of the first rule that holds on a sound day, or 0. The trade list is only counted into.
-fn order_refusal(rows: &[[u64; 5]], trades: &mut [[u64; 4]], d: Day, a: Asked) -> u64
+fn order_refusal(rows: &[[u64; 5]], trades: &mut [[u64; 6]], d: Day, a: Asked) -> u64
     requires { ⌜ unsound d (bookOf (now rows)) ≡ false ⌝ }
     ensures { λ r. ⌜ (r ≡ firstOf (orderRules d a (bookOf (now (rows .entry))) (length (now (trades .entry))))) × (now (trades .exit) ≡ now (trades .entry)) ⌝ }
 {
@@ -72,7 +72,7 @@ fn place_rest(rows: &mut [[u64; 5]], a: Asked, number: u64, q: u64, p: u64)
 }
 
 // An order that is not refused.
-fn enter(rows: &mut [[u64; 5]], trades: &mut [[u64; 4]], d: Day, a: Asked) -> OrderAnswer
+fn enter(rows: &mut [[u64; 5]], trades: &mut [[u64; 6]], d: Day, a: Asked) -> OrderAnswer
     requires { ⌜ Taken d a (bookOf (now rows)) (length (now trades)) ⌝ }
     ensures { λ r. ⌜ left r (now (rows .exit)) (now (trades .exit)) ≡ entered d a (bookOf (now (rows .entry))) (tradesOf (now (trades .entry))) ⌝ }
 {
@@ -108,7 +108,7 @@ fn refused(d: Day, n: u64) -> OrderAnswer
 }
 
 // On a day that its caller has shown to be sound: it is not tested again.
-pub fn enter_sound(d: Day, a: Asked, rows: &mut [[u64; 5]], trades: &mut [[u64; 4]]) -> OrderAnswer
+pub fn enter_sound(d: Day, a: Asked, rows: &mut [[u64; 5]], trades: &mut [[u64; 6]]) -> OrderAnswer
     requires { ⌜ unsound d (bookOf (now rows)) ≡ false ⌝ }
     ensures { λ r. ⌜ left r (now (rows .exit)) (now (trades .exit)) ≡ orderCall d a (bookOf (now (rows .entry))) (tradesOf (now (trades .entry))) ⌝ }
 {
@@ -120,7 +120,7 @@ pub fn enter_sound(d: Day, a: Asked, rows: &mut [[u64; 5]], trades: &mut [[u64; 
 }
 
 // 15: not sound.
-pub fn enter_order(d: Day, a: Asked, rows: &mut [[u64; 5]], trades: &mut [[u64; 4]]) -> OrderAnswer
+pub fn enter_order(d: Day, a: Asked, rows: &mut [[u64; 5]], trades: &mut [[u64; 6]]) -> OrderAnswer
     ensures { λ r. ⌜ left r (now (rows .exit)) (now (trades .exit)) ≡ orderCall d a (bookOf (now (rows .entry))) (tradesOf (now (trades .entry))) ⌝ }
 {
     if !is_sound(d, rows) {

@@ -51,7 +51,7 @@ pub fn reference_of(day: Day) -> u64
 }
 
 // Shares and money of the first n trades of the list.
-fn totals_of(trades: &[[u64; 4]], n: usize) -> Totals
+fn totals_of(trades: &[[u64; 6]], n: usize) -> Totals
     requires { ⌜ n ≤ length (now trades) ⌝ }
     requires { ⌜ filled (tradesOf (take n (now trades))) < 2 ^ 64 ⌝ }
     requires { ⌜ money (tradesOf (take n (now trades))) < 2 ^ 64 ⌝ }
@@ -70,7 +70,7 @@ fn totals_of(trades: &[[u64; 4]], n: usize) -> Totals
 }
 
 // The figures with the first n trades of the list added.
-pub fn tally_trades(day: Day, trades: &[[u64; 4]], n: usize) -> Day
+pub fn tally_trades(day: Day, trades: &[[u64; 6]], n: usize) -> Day
     requires { ⌜ n ≤ length (now trades) ⌝ }
     requires { ⌜ day .shares + filled (tradesOf (take n (now trades))) < 2 ^ 64 ⌝ }
     requires { ⌜ day .turnover + money (tradesOf (take n (now trades))) < 2 ^ 64 ⌝ }

@@ -87,7 +87,7 @@ fn passed(old: u64, new: u64) -> Passed
 
 // The trades of an auction held now: all are counted, and written while there is room. No price is looked for where no buy
 // reaches a sell.
-fn auction_trades(d: Day, rows: &[[u64; 5]], trades: &mut [[u64; 4]], room: usize) -> usize
+fn auction_trades(d: Day, rows: &[[u64; 5]], trades: &mut [[u64; 6]], room: usize) -> usize
     requires { ⌜ Standing (bookOf (now rows)) ⌝ }
     requires { ⌜ room ≤ length (now trades) ⌝ }
     ensures { λ r. ⌜ (r ≡ length (auctionTrades d (bookOf (now (rows .entry))))) × (now (trades .exit) ≡ front room (tradeRows (auctionTrades d (bookOf (now (rows .entry))))) (now (trades .entry))) ⌝ }
@@ -100,7 +100,7 @@ fn auction_trades(d: Day, rows: &[[u64; 5]], trades: &mut [[u64; 4]], room: usiz
 }
 
 // 13: more trades than the list has room for; a first pass counts them and writes nothing.
-fn auction_refusal(d: Day, rows: &[[u64; 5]], trades: &mut [[u64; 4]]) -> u64
+fn auction_refusal(d: Day, rows: &[[u64; 5]], trades: &mut [[u64; 6]]) -> u64
     requires { ⌜ Standing (bookOf (now rows)) ⌝ }
     ensures { λ r. ⌜ (r ≡ firstOf (auctionRules d (bookOf (now (rows .entry))) (length (now (trades .entry))))) × (now (trades .exit) ≡ now (trades .entry)) ⌝ }
 {
@@ -113,7 +113,7 @@ fn auction_refusal(d: Day, rows: &[[u64; 5]], trades: &mut [[u64; 4]]) -> u64
 
 // On a sound day, 1: the time. 13: by the first auction on the way. No other has trades: after an auction no buy reaches a
 // sell.
-fn clock_refusal(d: Day, time: u64, rows: &[[u64; 5]], trades: &mut [[u64; 4]]) -> u64
+fn clock_refusal(d: Day, time: u64, rows: &[[u64; 5]], trades: &mut [[u64; 6]]) -> u64
     requires { ⌜ unsound d (bookOf (now rows)) ≡ false ⌝ }
     ensures { λ r. ⌜ (r ≡ firstOf (clockRules d time (bookOf (now (rows .entry))) (length (now (trades .entry))))) × (now (trades .exit) ≡ now (trades .entry)) ⌝ }
 {
@@ -131,7 +131,7 @@ fn clock_refusal(d: Day, time: u64, rows: &[[u64; 5]], trades: &mut [[u64; 4]]) 
 }
 
 // An auction: its trades at the front of the list, off the book, and onto the day's figures.
-fn hold_auction(d: Day, rows: &mut [[u64; 5]], trades: &mut [[u64; 4]]) -> Passage
+fn hold_auction(d: Day, rows: &mut [[u64; 5]], trades: &mut [[u64; 6]]) -> Passage
     requires { ⌜ Ready d (bookOf (now rows)) ⌝ }
     requires { ⌜ length (auctionTrades d (bookOf (now rows))) ≤ length (now trades) ⌝ }
     ensures { λ r. ⌜ left r (now (rows .exit)) (now (trades .exit)) ≡ reached (auctioned false (start d (bookOf (now (rows .entry))))) (tradesOf (now (trades .entry))) ⌝ }
@@ -146,7 +146,7 @@ fn hold_auction(d: Day, rows: &mut [[u64; 5]], trades: &mut [[u64; 4]]) -> Passa
 }
 
 // The boundaries on the way. One auction is held for all of them: a second one would have nothing to trade.
-fn pass_boundaries(d: Day, time: u64, rows: &mut [[u64; 5]], trades: &mut [[u64; 4]]) -> Passage
+fn pass_boundaries(d: Day, time: u64, rows: &mut [[u64; 5]], trades: &mut [[u64; 6]]) -> Passage
     requires { ⌜ Ready d (bookOf (now rows)) ⌝ }
     requires { ⌜ length (moved d time (bookOf (now rows)) .trades) ≤ length (now trades) ⌝ }
     ensures { λ r. ⌜ left r (now (rows .exit)) (now (trades .exit)) ≡ reached (moved d time (bookOf (now (rows .entry)))) (tradesOf (now (trades .entry))) ⌝ }
@@ -174,7 +174,7 @@ fn refused(d: Day, n: u64) -> ClockAnswer
 }
 
 // On a day that its caller has shown to be sound: it is not tested again.
-pub fn move_sound(d: Day, time: u64, rows: &mut [[u64; 5]], trades: &mut [[u64; 4]]) -> ClockAnswer
+pub fn move_sound(d: Day, time: u64, rows: &mut [[u64; 5]], trades: &mut [[u64; 6]]) -> ClockAnswer
     requires { ⌜ unsound d (bookOf (now rows)) ≡ false ⌝ }
     ensures { λ r. ⌜ left r (now (rows .exit)) (now (trades .exit)) ≡ clockCall d time (bookOf (now (rows .entry))) (tradesOf (now (trades .entry))) ⌝ }
 {
@@ -195,7 +195,7 @@ pub fn move_sound(d: Day, time: u64, rows: &mut [[u64; 5]], trades: &mut [[u64; 
 }
 
 // 15: not sound.
-pub fn move_clock(d: Day, time: u64, rows: &mut [[u64; 5]], trades: &mut [[u64; 4]]) -> ClockAnswer
+pub fn move_clock(d: Day, time: u64, rows: &mut [[u64; 5]], trades: &mut [[u64; 6]]) -> ClockAnswer
     ensures { λ r. ⌜ left r (now (rows .exit)) (now (trades .exit)) ≡ clockCall d time (bookOf (now (rows .entry))) (tradesOf (now (trades .entry))) ⌝ }
 {
     if !is_sound(d, rows) {

@@ -8,6 +8,7 @@ use Rattle.demands.specs.Keeping.{Keeping}
 use Rattle.demands.specs.Entering.{Entering}
 use Rattle.demands.specs.Totalling.{Totalling}
 use Rattle.demands.specs.Owning.{OwnOnly}
+use Rattle.demands.specs.Leaving.{Leaving}
 use Rattle.demands.proofs.Pricings.{sound-stands, listing, called, one, trades-there}
 use Rattle.demands.proofs.Fresh.{open-fresh}
 use Rattle.demands.proofs.Cancelled.{cancel-kept}
@@ -17,6 +18,7 @@ use Rattle.demands.proofs.Entries.{accepted}
 use Rattle.demands.proofs.Totals.{order-totals, clock-totals}
 use Rattle.demands.proofs.Owns.{cancel-own}
 use Rattle.demands.proofs.Staying.{order-stays, clock-stays}
+use Rattle.demands.proofs.Leavings.{order-leaves, incoming-leaves, clock-leaves, clock-stands}
 
 -- ---- demand 2
 
@@ -41,6 +43,15 @@ own-only =
       cancel = λ d account number shares book s. cancel-own d account number book s shares;
       order = λ d a book lent s. order-stays book (sound-stands d book s) d a lent;
       clock = λ d t book lent s. clock-stays book (sound-stands d book s) d t lent;
+    }
+
+pub leaving : Leaving
+leaving =
+    record {
+      order = λ d a book lent s. order-leaves d a book s lent;
+      incoming = λ d a book lent e s. incoming-leaves d a book s lent e;
+      clock = λ d t book lent s. clock-leaves d t book (sound-stands d book s) lent;
+      clock-stands = λ d t book lent s. clock-stands d t book (sound-stands d book s) lent;
     }
 
 -- ---- demand 3

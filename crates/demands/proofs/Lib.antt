@@ -22,5 +22,9 @@ pub mod Entries
 pub mod Totals
 pub mod Owns
 pub mod Staying
+pub mod Once
+pub mod SweptLeft
+pub mod PairedLeft
+pub mod Leavings
 pub mod Stars
 pub mod Demands

@@ -1,6 +1,6 @@
 -- An order that no trade names stays as it is: after an order, and after a move of the clock before the close.
 -- Assumes nothing.
-use Prim.Native.Nat.{ℕ, zero, suc, _-_, _≤_, _<_}
+use Prim.Native.Nat.{ℕ, zero, suc, _-_, _<_}
 use mathlib.Core.Path.{_≡_, refl, ap, _∙_}
 use mathlib.Core.Bool.{Bool, true, false, cond, not, _||_}
 use mathlib.Core.List.{List, [], _∷_}
@@ -9,7 +9,7 @@ use native.Mathlib.Omega.{arith}
 use lib.ListN.{length, getD, take, drop}
 use lib.Seq.{getD-set-other, take-at}
 use lib.Dec.{eqb}
-use borrow.Author.Tests.{lt-ltb, not-true}
+use borrow.Author.Tests.{not-true}
 use Rattle.model.specs.declared.Order.{Order}
 use Rattle.model.specs.declared.Asked.{Asked}
 use Rattle.model.specs.declared.Trade.{Trade}
@@ -42,7 +42,7 @@ filled-none : (n : ℕ) (ts : List Trade) → Each (λ (t : Trade). isIn n t ≡
 unfolding filledOf filled total
 filled-none n ts h = rw (keep-none (isIn n) ts h)
 
-settle-at :
+pub settle-at :
     (ts : List Trade) (book : List Order) (i : ℕ)
     → i < length book
     → getD (settle ts book) i free ≡ lessBy (filledOf (getD book i free .number) ts) (getD book i free)
@@ -50,6 +50,22 @@ unfolding settle
 settle-at ts [] i l = absurd (not-suc-le-zero l)
 settle-at ts (o ∷ os) zero l = refl
 settle-at ts (o ∷ os) (suc i) l = settle-at ts os i (le-of-suc-le-suc l)
+
+-- a new rest goes to a free place, so not to one with an order
+pub rest-elsewhere :
+    (x : Order) (os : List Order) (i : ℕ)
+    → i < length os
+    → isLive (getD os i free) ≡ true
+    → getD (rest x os) i free ≡ getD os i free
+unfolding lowestFree
+rest-elsewhere x os i l live =
+    ap (λ (ps : List Order). getD ps i free) (rest-set x os) ∙ getD-set-other os (lowestFree os) i x free elsewhere
+  where
+    elsewhere : i ≡ lowestFree os → ⊥
+    elsewhere e =
+        let inside : lowestFree os < length os = omega arith in
+        let idle : isLive (getD os (lowestFree os) free) ≡ false = not-true _ (first-passes (λ o. not (isLive o)) os inside) in
+        not-both live (ap (λ (k : ℕ). isLive (getD os k free)) e ∙ idle)
 
 module _ (book : List Order) (s : Standing book) where
   settle-stays : (ts : List Trade) → Stays ts book (settle ts book)
@@ -59,22 +75,12 @@ module _ (book : List Order) (s : Standing book) where
       ∙ ap (λ (q : ℕ). lessBy q o) (filled-none (o .number) ts h)
       ∙ less-nothing o (each-at Fair book free (s .fair) i l)
 
-  -- a new rest goes to a free place, so not to this one
   rest-stays : (ts : List Trade) (x : Order) → Stays ts book (rest x (settle ts book))
-  unfolding lowestFree
   rest-stays ts x i l n h =
       let same = settle-stays ts i l n h in
-      ap (λ (os : List Order). getD os i free) (rest-set x (settle ts book))
-      ∙ getD-set-other (settle ts book) (lowestFree (settle ts book)) i x free (elsewhere same)
+      rest-elsewhere x (settle ts book) i (omega (arith, l, settle-length ts book))
+      (ap isLive same ∙ number-live (getD book i free) n)
       ∙ same
-    where
-      elsewhere : getD (settle ts book) i free ≡ getD book i free → i ≡ lowestFree (settle ts book) → ⊥
-      elsewhere same e =
-          let inside : lowestFree (settle ts book) < length (settle ts book) = omega (arith, settle-length ts book) in
-          let idle : isLive (getD (settle ts book) (lowestFree (settle ts book)) free) ≡ false =
-          not-true _ (first-passes (λ o. not (isLive o)) (settle ts book) inside) in
-          let live : isLive (getD book i free) ≡ true = number-live (getD book i free) n in
-          not-both (ap isLive same ∙ live) (ap (λ (k : ℕ). isLive (getD (settle ts book) k free)) e ∙ idle)
 
   placed-stays : (a : Asked) (ts : List Trade) (n q p : ℕ) → Stays ts book (placed a n q p (settle ts book))
   unfolding placed

@@ -7,4 +7,5 @@ pub mod Running
 pub mod Entering
 pub mod Totalling
 pub mod Owning
+pub mod Leaving
 pub mod Starred

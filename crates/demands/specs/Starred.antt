@@ -32,7 +32,7 @@ abbrev pub asked : Tried → Asked
 asked r = record { side = r .side; kind = 0; account = 9; quantity = 100; price = r .price }
 
 abbrev pub lent : List Trade
-lent = record { price = 0; quantity = 0; buyer = 0; seller = 0 } ∷ []
+lent = record { price = 0; quantity = 0; buyer = 0; seller = 0; buyerleft = 0; sellerleft = 0 } ∷ []
 
 abbrev pub Passes : Tried → Type 0
 Passes r = getD (orderNumbers (orderCall (day r) (asked r) (r .book) lent .answer .reply)) 0 0 ≡ r .refusal

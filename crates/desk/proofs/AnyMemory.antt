@@ -49,17 +49,17 @@ module _ (places trades output : ℕ) where
   unfolding fits
   other-trades e n = and-yes _ (eq-eqb places 1_024 e) (and-no _ (ne-eqb trades 2_048 n))
 
-  pub by-output : {r : Bool} → places ≡ 1_024 → trades ≡ 2_048 → r ≡ leb 176_238 output → r ≡ fits places trades output
+  pub by-output : {r : Bool} → places ≡ 1_024 → trades ≡ 2_048 → r ≡ leb 262_254 output → r ≡ fits places trades output
   unfolding fits
   by-output e f g = and-yes _ (eq-eqb places 1_024 e) (and-yes _ (eq-eqb trades 2_048 f) g)
 
-  pub fitting : fits places trades output ≡ true → (places ≡ 1_024) × (trades ≡ 2_048) × (176_238 ≤ output)
+  pub fitting : fits places trades output ≡ true → (places ≡ 1_024) × (trades ≡ 2_048) × (262_254 ≤ output)
   unfolding fits
   fitting e =
       let r = and-right (eqb places 1_024) _ e in (
         eqb-true places 1_024 (and-left (eqb places 1_024) _ e),
-        eqb-true trades 2_048 (and-left (eqb trades 2_048) (leb 176_238 output) r),
-        leb-true 176_238 output (and-right (eqb trades 2_048) (leb 176_238 output) r),
+        eqb-true trades 2_048 (and-left (eqb trades 2_048) (leb 262_254 output) r),
+        leb-true 262_254 output (and-right (eqb trades 2_048) (leb 262_254 output) r),
       )
 
 -- ---- whether 15 is due

@@ -14,7 +14,7 @@ use Rattle.desk.specs.Desks.{Answering}
 
 -- the memory that the program lends: 1,024 places, 2,048 trades, and an output that holds the longest answer
 unfoldable pub fits : ℕ → ℕ → ℕ → Bool
-fits places trades output = eqb places 1_024 && (eqb trades 2_048 && leb 176_238 output)
+fits places trades output = eqb places 1_024 && (eqb trades 2_048 && leb 262_254 output)
 
 -- in such memory the line is answered at the output's front; any other memory is left as it is
 pub record OneLine (l : Line) (begun : Bool) (d : Day) (rows trades : List (List ℕ)) (out : List ℕ) (rows′ trades′ : List (List ℕ)) (out′ : List ℕ) (r : LineAnswer) : Type 0 where

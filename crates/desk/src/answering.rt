@@ -73,12 +73,12 @@ fn answer_move(
     begun: bool,
     d: Day,
     rows: &mut [[u64; 5]],
-    trades: &mut [[u64; 4]],
+    trades: &mut [[u64; 6]],
     time: u64,
     out: &mut [u8],
     at: usize,
 ) -> Answered
-    requires { ⌜ (length (now trades) ≡ 2048) × (at + 176238 ≤ length (now out)) × (notSound (deskOf begun d (now rows)) ≡ false) ⌝ }
+    requires { ⌜ (length (now trades) ≡ 2048) × (at + 262254 ≤ length (now out)) × (notSound (deskOf begun d (now rows)) ≡ false) ⌝ }
     ensures { λ r. ⌜ Answering (Moves time) begun d (now (out .entry)) at (now (rows .entry)) (now (trades .entry)) (now (rows .exit)) (now (trades .exit)) (now (out .exit)) r ⌝ }
 {
     if !begun {
@@ -100,12 +100,12 @@ fn answer_order(
     begun: bool,
     d: Day,
     rows: &mut [[u64; 5]],
-    trades: &mut [[u64; 4]],
+    trades: &mut [[u64; 6]],
     a: Asked,
     out: &mut [u8],
     at: usize,
 ) -> Answered
-    requires { ⌜ (length (now trades) ≡ 2048) × (at + 176238 ≤ length (now out)) × (notSound (deskOf begun d (now rows)) ≡ false) ⌝ }
+    requires { ⌜ (length (now trades) ≡ 2048) × (at + 262254 ≤ length (now out)) × (notSound (deskOf begun d (now rows)) ≡ false) ⌝ }
     ensures { λ r. ⌜ Answering (Enters a) begun d (now (out .entry)) at (now (rows .entry)) (now (trades .entry)) (now (rows .exit)) (now (trades .exit)) (now (out .exit)) r ⌝ }
 {
     if !begun {
@@ -152,12 +152,12 @@ pub fn answer_command(
     begun: bool,
     d: Day,
     rows: &mut [[u64; 5]],
-    trades: &mut [[u64; 4]],
+    trades: &mut [[u64; 6]],
     c: Command,
     out: &mut [u8],
     at: usize,
 ) -> Answered
-    requires { ⌜ (length (now rows) ≡ 1024) × (length (now trades) ≡ 2048) × (at + 176238 ≤ length (now out)) × (asksUnsound c (deskOf begun d (now rows)) ≡ false) ⌝ }
+    requires { ⌜ (length (now rows) ≡ 1024) × (length (now trades) ≡ 2048) × (at + 262254 ≤ length (now out)) × (asksUnsound c (deskOf begun d (now rows)) ≡ false) ⌝ }
     ensures { λ r. ⌜ Answering c begun d (now (out .entry)) at (now (rows .entry)) (now (trades .entry)) (now (rows .exit)) (now (trades .exit)) (now (out .exit)) r ⌝ }
 {
     match c {

@@ -14,14 +14,14 @@ ghost use Rattle.desk.specs.Blocks.{pointOf, Serves};
 pub fn answer_lines(
     from: Progress,
     rows: &mut [[u64; 5]],
-    trades: &mut [[u64; 4]],
+    trades: &mut [[u64; 6]],
     block: &[u8],
     out: &mut [u8],
 ) -> Progress
-    requires { ⌜ (length (now rows) ≡ 1024) × (length (now trades) ≡ 2048) × (176238 ≤ length (now out)) × (from .at ≤ length (now block)) × SoundDesk (deskOf (from .begun) (from .day) (now rows)) ⌝ }
+    requires { ⌜ (length (now rows) ≡ 1024) × (length (now trades) ≡ 2048) × (262254 ≤ length (now out)) × (from .at ≤ length (now block)) × SoundDesk (deskOf (from .begun) (from .day) (now rows)) ⌝ }
     ensures { λ r. ⌜ Serves (now (block .entry)) (pointOf from (now (rows .entry))) (now (out .entry)) (now (rows .exit)) (now (out .exit)) r ⌝ }
 {
-    let room = out.len() - 176238;
+    let room = out.len() - 262254;
     let start = from.day;
     let mut p = Progress {
         begun: from.begun,

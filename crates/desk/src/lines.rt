@@ -21,7 +21,7 @@ fn serves(places: usize, trades: usize, output: usize) -> bool
     if trades != 2048 {
         return false;
     }
-    176238 <= output
+    262254 <= output
 }
 
 // Whether a line asks something of the open day.
@@ -58,7 +58,7 @@ pub fn answer_line(
     begun: bool,
     d: Day,
     rows: &mut [[u64; 5]],
-    trades: &mut [[u64; 4]],
+    trades: &mut [[u64; 6]],
     line: &[u8],
     out: &mut [u8],
 ) -> LineAnswer

@@ -1,5 +1,5 @@
 -- No two differing outcomes meet a call's promise: answer, every place of the lent book, and every row or price of the lent list.
--- A row of the trade list has its four numbers; that is all that is asked of it. Assumes nothing.
+-- A row of the trade list has its six numbers; that is all that is asked of it. Assumes nothing.
 use Prim.Native.Nat.{ℕ}
 use mathlib.Core.Path.{_≡_, sym, ap, _∙_}
 use mathlib.Core.List.{List}

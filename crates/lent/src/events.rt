@@ -15,7 +15,7 @@ ghost use Rattle.day.specs.Promises.{left};
 ghost use Rattle.lent.specs.Calls.{eventCall, eventLeft};
 
 // The call on rows that an event asks for.
-fn answer_event(rows: &mut [[u64; 5]], trades: &mut [[u64; 4]], event: Event) -> Answer
+fn answer_event(rows: &mut [[u64; 5]], trades: &mut [[u64; 6]], event: Event) -> Answer
     ensures { λ r. ⌜ left r (now (rows .exit)) (now (trades .exit)) ≡ eventCall event (bookOf (now (rows .entry))) (tradesOf (now (trades .entry))) ⌝ }
 {
     match event {
@@ -31,7 +31,7 @@ fn answer_event(rows: &mut [[u64; 5]], trades: &mut [[u64; 4]], event: Event) ->
 }
 
 // A book of more places than a day can have is answered as one of no place, and no place of it is set.
-pub fn take_event(book: &mut [Order], trades: &mut [[u64; 4]], event: Event) -> Answer
+pub fn take_event(book: &mut [Order], trades: &mut [[u64; 6]], event: Event) -> Answer
     ensures { λ r. ⌜ eventLeft r (now (book .exit)) (now (trades .exit)) ≡ eventCall event (now (book .entry)) (tradesOf (now (trades .entry))) ⌝ }
 {
     let mut rows = [[0u64; 5]; 4096];

@@ -17,7 +17,7 @@ pub struct HandedBack {
     pub answer: Answer,
 }
 
-pub fn take_on_sixteen(book: [Order; 16], trades: &mut [[u64; 4]], event: Event) -> HandedBack
+pub fn take_on_sixteen(book: [Order; 16], trades: &mut [[u64; 6]], event: Event) -> HandedBack
     ensures { λ r. ⌜ eventLeft (r .answer) (r .book) (now (trades .exit)) ≡ eventCall event book (tradesOf (now (trades .entry))) ⌝ }
 {
     let mut places = book;

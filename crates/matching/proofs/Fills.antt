@@ -29,7 +29,7 @@ held n os = ofNumber n (λ (o : Order). o .left) os
 
 module _ (t : Taker) where
   -- a trade with o is o's, of all numbers but the taker's own
-  is-with : (q n : ℕ) (o : Order) → (n ≡ t .number → ⊥) → isIn n (tradeWith t q o) ≡ eqb (o .number) n
+  pub is-with : (q n : ℕ) (o : Order) → (n ≡ t .number → ⊥) → isIn n (tradeWith t q o) ≡ eqb (o .number) n
   unfolding isIn tradeWith
   is-with q n o h = go (eqb (t .side) 0)
     where

@@ -121,7 +121,15 @@ module _ (t : Taker) (q : ℕ) (o : Order) where
       (n : ℕ)
       → n ≡ min q (o .left)
       → t .side ≡ 0
-      → _≡_ {A = Trade} (record { price = o .price; quantity = n; buyer = t .number; seller = o .number })
+      → _≡_ {A = Trade}
+      (record {
+        price = o .price;
+        quantity = n;
+        buyer = t .number;
+        seller = o .number;
+        buyerleft = q - n;
+        sellerleft = o .left - n;
+      })
       (tradeWith t q o)
   unfolding tradeWith
   trade-buy n e s = rw (eq-eqb (t .side) 0 s, e)
@@ -130,7 +138,15 @@ module _ (t : Taker) (q : ℕ) (o : Order) where
       (n : ℕ)
       → n ≡ min q (o .left)
       → (t .side ≡ 0 → ⊥)
-      → _≡_ {A = Trade} (record { price = o .price; quantity = n; buyer = o .number; seller = t .number })
+      → _≡_ {A = Trade}
+      (record {
+        price = o .price;
+        quantity = n;
+        buyer = o .number;
+        seller = t .number;
+        buyerleft = o .left - n;
+        sellerleft = q - n;
+      })
       (tradeWith t q o)
   unfolding tradeWith
   trade-sell n e s = rw (ne-eqb (t .side) 0 s, e)

@@ -67,7 +67,7 @@ abbrev buy : ℕ → ℕ → Asked
 buy kind limit = record { side = 0; kind = kind; account = 9; quantity = 600; price = limit }
 
 abbrev lent : List Trade
-lent = map (λ (o : Order). record { price = 0; quantity = 0; buyer = 0; seller = 0 }) book
+lent = map (λ (o : Order). record { price = 0; quantity = 0; buyer = 0; seller = 0; buyerleft = 0; sellerleft = 0 }) book
 
 pub record Situation : Type 0 where
   pub kind : ℕ

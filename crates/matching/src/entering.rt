@@ -132,7 +132,7 @@ pub fn price_of_rest(rows: &[[u64; 5]], a: Asked, s: Swept) -> u64
 // while there is room.
 pub fn enter_trades(
     rows: &[[u64; 5]],
-    trades: &mut [[u64; 4]],
+    trades: &mut [[u64; 6]],
     room: usize,
     d: Day,
     phase: u64,

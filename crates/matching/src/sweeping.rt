@@ -63,17 +63,21 @@ fn least(a: u64, b: u64) -> u64
     if a < b { a } else { b }
 }
 
-// The trade with a partner, at the partner's price.
+// The trade with a partner, at the partner's price, and what it leaves of both.
 fn trade_with(t: Taker, left: u64, o: Order) -> Trade
     ensures { λ r. ⌜ r ≡ matching.tradeWith t left o ⌝ }
 {
     let quantity = least(left, o.left);
+    let wanted = left - quantity;
+    let rest = o.left - quantity;
     if t.side == 0 {
         Trade {
             price: o.price,
             quantity,
             buyer: t.number,
             seller: o.number,
+            buyerleft: wanted,
+            sellerleft: rest,
         }
     } else {
         Trade {
@@ -81,6 +85,8 @@ fn trade_with(t: Taker, left: u64, o: Order) -> Trade
             quantity,
             buyer: o.number,
             seller: t.number,
+            buyerleft: rest,
+            sellerleft: wanted,
         }
     }
 }
@@ -114,7 +120,7 @@ fn with_price(s: Swept) -> Swept
 // pass over the book finds the first partner, and one more the next after each trade.
 pub fn sweep(
     rows: &[[u64; 5]],
-    trades: &mut [[u64; 4]],
+    trades: &mut [[u64; 6]],
     room: usize,
     t: Taker,
     quantity: u64,

@@ -34,8 +34,16 @@ use Rattle.model.specs.AuctionCalls.{reportAt, reportRules, listRules}
 use Rattle.model.specs.Replies.{restingOf, withdrawnOf, entryNumbers, openNumbers, orderNumbers, cancelNumbers, clockNumbers, reportNumbers, listNumbers}
 use Rattle.model.proofs.Examples.{order}
 
-abbrev trade : ℕ → ℕ → ℕ → ℕ → Trade
-trade price quantity buyer seller = record { price = price; quantity = quantity; buyer = buyer; seller = seller }
+abbrev trade : ℕ → ℕ → ℕ → ℕ → ℕ → ℕ → Trade
+trade price quantity buyer seller buyerleft sellerleft =
+    record {
+      price = price;
+      quantity = quantity;
+      buyer = buyer;
+      seller = seller;
+      buyerleft = buyerleft;
+      sellerleft = sellerleft;
+    }
 
 -- ---- an order that trades twice, with a trade list of so many places lent
 
@@ -49,7 +57,7 @@ abbrev asked : Asked
 asked = record { side = 0; kind = 0; account = 9; quantity = 250; price = 1001 }
 
 abbrev old : ℕ → Trade
-old n = trade n n n n
+old n = trade n n n n n n
 
 -- one place too few: 13, and nothing is touched. Just enough, or more: the trades stand in front, the rest of the list stays,
 -- and what is left of the order takes the lowest place that is free, here one that its own trades freed
@@ -60,7 +68,7 @@ pub lists-tried :
       book = two;
       trades = old 1 ∷ [];
     })
-    × (orderCall day asked two (old 1 ∷ old 2 ∷ []) .trades ≡ trade 1000 100 3 1 ∷ trade 1001 100 3 2 ∷ [])
+    × (orderCall day asked two (old 1 ∷ old 2 ∷ []) .trades ≡ trade 1000 100 3 1 150 0 ∷ trade 1001 100 3 2 50 0 ∷ [])
     × (orderCall day asked two (old 1 ∷ old 2 ∷ old 3 ∷ [])
     ≡ record {
       answer =
@@ -82,7 +90,7 @@ pub lists-tried :
                 };
           };
       book = order 0 9 50 1001 3 ∷ free ∷ free ∷ [];
-      trades = trade 1000 100 3 1 ∷ trade 1001 100 3 2 ∷ old 3 ∷ [];
+      trades = trade 1000 100 3 1 150 0 ∷ trade 1001 100 3 2 50 0 ∷ old 3 ∷ [];
     })
 unfolding keep all any total least atLeast from among once different isTime closed laterRows holding rowAt phaseAt takesOrders takesCancels continuous passes boundaries free isLive standsOn better ahead insert inPriority queue other headPrice best meets within fiveBest atFiveBest tradeWith sweep filled levels lastPrice firstPrice isIn filledOf lessBy settle rest isPrice isQuantity inBand buyInRange sellInRange inRange freshDay at nextNumber issue money tally reference openPrice closePrice bestWithin entryPrice opposite entryTrades restPrice base hasPlaces isMark mayStand soundFigures isFree isOrder ownNumbers isEmpty crosses between sharesFit pricesFit turnoverFits sound _when_ firstOf unsound written openRules cleared openCall orderRules ended placed entered orderCall isOwn cancelRules cancelCall
 lists-tried = (refl, refl, refl)
@@ -123,9 +131,9 @@ least-tried = (refl, refl, refl)
 
 pub pairing-tried :
     (tradesAt 1000 (order 0 7 100 1001 1 ∷ order 0 7 50 1001 2 ∷ order 1 8 60 1000 3 ∷ order 1 8 41 1000 4 ∷ [])
-    ≡ trade 1000 60 1 3 ∷ trade 1000 40 1 4 ∷ trade 1000 1 2 4 ∷ [])
-    × (tradesAt 1000 (order 0 7 100 1001 1 ∷ order 0 7 50 1001 2 ∷ order 1 8 100 1000 3 ∷ []) ≡ trade 1000 100 1 3 ∷ [])
-    × (tradesAt 990 (order 0 7 200 1010 1 ∷ order 1 8 300 990 2 ∷ []) ≡ trade 990 200 1 2 ∷ [])
+    ≡ trade 1000 60 1 3 40 0 ∷ trade 1000 40 1 4 0 1 ∷ trade 1000 1 2 4 49 0 ∷ [])
+    × (tradesAt 1000 (order 0 7 100 1001 1 ∷ order 0 7 50 1001 2 ∷ order 1 8 100 1000 3 ∷ []) ≡ trade 1000 100 1 3 0 0 ∷ [])
+    × (tradesAt 990 (order 0 7 200 1010 1 ∷ order 1 8 300 990 2 ∷ []) ≡ trade 990 200 1 2 0 100 ∷ [])
     × (tradesAt 1000
     (order 1 8 70 1000 6
     ∷ order 0 7 100 1000 1
@@ -135,7 +143,7 @@ pub pairing-tried :
     ∷ order 0 7 60 1002 2
     ∷ order 0 7 500 999 7
     ∷ [])
-    ≡ trade 1000 30 2 4 ∷ trade 1000 30 2 5 ∷ trade 1000 150 3 5 ∷ trade 1000 70 1 5 ∷ trade 1000 30 1 6 ∷ [])
+    ≡ trade 1000 30 2 4 30 0 ∷ trade 1000 30 2 5 0 220 ∷ trade 1000 150 3 5 0 70 ∷ trade 1000 70 1 5 30 0 ∷ trade 1000 30 1 6 0 40 ∷ [])
 unfolding keep total isLive standsOn better ahead insert inPriority queue sharesOf demand supply volume cut headLess pair tradesAt
 pairing-tried = (refl, refl, refl, refl)
 
@@ -171,7 +179,7 @@ pub prices-tried :
     (openPrice day ≡ 900)
     × (closePrice day ≡ 901)
     × (closePrice (freshDay 1000 1) ≡ 1000)
-    × (tally (trade 7 2 1 2 ∷ trade 8 1 1 3 ∷ []) (freshDay 1000 1)
+    × (tally (trade 7 2 1 2 0 0 ∷ trade 8 1 1 3 0 0 ∷ []) (freshDay 1000 1)
     ≡ record { close = 1000; limited = 1; time = 0; issued = 0; shares = 3; turnover = 22; first = 7; last = 8 })
 unfolding openPrice closePrice reference freshDay tally filled money total firstPrice lastPrice
 prices-tried = (refl, refl, refl, refl)

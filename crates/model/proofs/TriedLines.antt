@@ -78,7 +78,7 @@ abbrev afterOpening : Scene
 afterOpening =
     desk (record { close = 1000; limited = 1; time = 34_200; issued = 2; shares = 200; turnover = 198_000; first = 990; last = 990 })
     (free ∷ order 1 8 100 990 2 ∷ free ∷ [])
-    at ("O 0 1 9 150 1300" says "M 990 100 3 2\nA 3 100 50 0 1"
+    at ("O 0 1 9 150 1300" says "M 990 100 3 2 50 0\nA 3 100 50 0 1"
     ∷ "C 9 3" says "W 3 50"
     ∷ "C 9 3" says "X 12"
     ∷ [])
@@ -200,7 +200,7 @@ abbrev g : Scene
 g =
     desk (untraded 1000 1 34_200 1) (order 1 5 100 1050 1 ∷ free ∷ [])
     at ("O 0 0 7 100 1103" says "X 9"
-    ∷ "O 0 0 7 101 1102" says "M 1050 100 2 1\nA 2 100 1 0 1"
+    ∷ "O 0 0 7 101 1102" says "M 1050 100 2 1 1 0\nA 2 100 1 0 1"
     ∷ [])
 
 -- h: sell base 950
@@ -208,7 +208,7 @@ abbrev h : Scene
 h =
     desk (untraded 1000 1 34_200 1) (order 0 5 100 950 1 ∷ free ∷ [])
     at ("O 1 0 7 100 902" says "X 9"
-    ∷ "O 1 0 7 100 903" says "M 950 100 1 2\nA 2 100 0 0 1"
+    ∷ "O 1 0 7 100 903" says "M 950 100 1 2 0 0\nA 2 100 0 0 1"
     ∷ [])
 
 -- i: buy base 150
@@ -216,7 +216,7 @@ abbrev i : Scene
 i =
     desk (untraded 150 1 34_200 1) (order 1 5 100 150 1 ∷ free ∷ [])
     at ("O 0 0 7 100 161" says "X 9"
-    ∷ "O 0 0 7 100 160" says "M 150 100 2 1\nA 2 100 0 0 1"
+    ∷ "O 0 0 7 100 160" says "M 150 100 2 1 0 0\nA 2 100 0 0 1"
     ∷ [])
 
 -- a sell base of 50: ten fen lower
@@ -224,14 +224,14 @@ abbrev baseOfFifty : Scene
 baseOfFifty =
     desk (untraded 50 0 34_200 1) (order 0 5 100 50 1 ∷ free ∷ [])
     at ("O 1 0 7 100 39" says "X 9"
-    ∷ "O 1 0 7 100 40" says "M 50 100 1 2\nA 2 100 0 0 1"
+    ∷ "O 1 0 7 100 40" says "M 50 100 1 2 0 0\nA 2 100 0 0 1"
     ∷ [])
 
 -- and one of 5: any price
 abbrev baseOfFive : Scene
 baseOfFive =
     desk (untraded 5 0 34_200 1) (order 0 5 100 5 1 ∷ free ∷ [])
-    at ("O 1 0 7 100 1" says "M 5 100 1 2\nA 2 100 0 0 1"
+    at ("O 1 0 7 100 1" says "M 5 100 1 2 0 0\nA 2 100 0 0 1"
     ∷ [])
 
 -- a base from the own side, where the other is empty
@@ -272,7 +272,7 @@ k =
     ∷ order 1 5 100 1004 4
     ∷ free
     ∷ [])
-    at ("O 0 3 9 600 1300" says "M 1001 100 7 1\nM 1002 100 7 2\nM 1003 100 7 3\nM 1004 100 7 4\nM 1005 100 7 5\nA 7 500 0 100 5"
+    at ("O 0 3 9 600 1300" says "M 1001 100 7 1 500 0\nM 1002 100 7 2 400 0\nM 1003 100 7 3 300 0\nM 1004 100 7 4 200 0\nM 1005 100 7 5 100 0\nA 7 500 0 100 5"
     ∷ "C 9 7" says "X 12"
     ∷ [])
 
@@ -288,8 +288,8 @@ l =
     ∷ order 1 5 100 1004 4
     ∷ free
     ∷ [])
-    at ("O 0 4 9 600 1300" says "M 1001 100 7 1\nM 1002 100 7 2\nM 1003 100 7 3\nM 1004 100 7 4\nM 1005 100 7 5\nA 7 500 100 0 5"
-    ∷ "O 1 0 8 100 1005" says "M 1005 100 7 8\nA 8 100 0 0 1"
+    at ("O 0 4 9 600 1300" says "M 1001 100 7 1 500 0\nM 1002 100 7 2 400 0\nM 1003 100 7 3 300 0\nM 1004 100 7 4 200 0\nM 1005 100 7 5 100 0\nA 7 500 100 0 5"
+    ∷ "O 1 0 8 100 1005" says "M 1005 100 7 8 0 0\nA 8 100 0 0 1"
     ∷ [])
 
 -- and within its limit
@@ -304,7 +304,7 @@ lWithin =
     ∷ order 1 5 100 1004 4
     ∷ free
     ∷ [])
-    at ("O 0 4 9 600 1003" says "M 1001 100 7 1\nM 1002 100 7 2\nM 1003 100 7 3\nA 7 300 300 0 3"
+    at ("O 0 4 9 600 1003" says "M 1001 100 7 1 500 0\nM 1002 100 7 2 400 0\nM 1003 100 7 3 300 0\nA 7 300 300 0 3"
     ∷ "C 9 7" says "W 7 300"
     ∷ [])
 
@@ -317,10 +317,10 @@ bestPrices =
     ∷ "O 0 4 9 100 999" says "A 4 0 0 100 0"
     ∷ "O 0 1 9 100 999" says "A 5 0 100 0 0"
     ∷ "C 9 5" says "W 5 100"
-    ∷ "O 0 1 9 150 1300" says "M 1000 100 6 1\nA 6 100 50 0 1"
+    ∷ "O 0 1 9 150 1300" says "M 1000 100 6 1 50 0\nA 6 100 50 0 1"
     ∷ "O 0 2 8 100 1300" says "A 7 0 100 0 0"
     ∷ "O 0 2 8 100 900" says "A 8 0 100 0 0"
-    ∷ "O 1 0 5 300 960" says "M 1000 50 6 9\nM 1000 100 7 9\nA 9 150 150 0 1"
+    ∷ "O 1 0 5 300 960" says "M 1000 50 6 9 0 250\nM 1000 100 7 9 0 150\nA 9 150 150 0 1"
     ∷ [])
 
 -- kind 4 with no trade rests at its own side's best, or at its limit
@@ -330,7 +330,7 @@ ownBest =
     at ("O 0 4 9 100 995" says "A 3 0 100 0 0"
     ∷ "O 0 4 9 100 980" says "A 4 0 100 0 0"
     ∷ "O 1 3 8 300 1" says "X 8"
-    ∷ "O 1 3 8 300 700" says "M 990 100 2 5\nM 990 100 3 5\nM 980 100 4 5\nA 5 300 0 0 2"
+    ∷ "O 1 3 8 300 700" says "M 990 100 2 5 0 200\nM 990 100 3 5 0 100\nM 980 100 4 5 0 0\nA 5 300 0 0 2"
     ∷ [])
 
 -- price, then number; a rest goes to the lowest free place, also one just freed
@@ -338,8 +338,8 @@ abbrev priority : Scene
 priority =
     desk (untraded 1000 1 34_200 4)
     (order 1 5 100 1001 4 ∷ order 1 7 300 1000 2 ∷ order 1 6 100 1000 3 ∷ order 0 8 100 999 1 ∷ free ∷ [])
-    at ("O 0 0 9 450 1000" says "M 1000 300 5 2\nM 1000 100 5 3\nA 5 400 50 0 1"
-    ∷ "O 1 0 4 120 999" says "M 1000 50 5 6\nM 999 70 1 6\nA 6 120 0 0 2"
+    at ("O 0 0 9 450 1000" says "M 1000 300 5 2 150 0\nM 1000 100 5 3 50 0\nA 5 400 50 0 1"
+    ∷ "O 1 0 4 120 999" says "M 1000 50 5 6 0 70\nM 999 70 1 6 30 0\nA 6 120 0 0 2"
     ∷ "C 8 1" says "W 1 30"
     ∷ "C 7 4" says "X 12"
     ∷ "C 0 0" says "X 12"
@@ -351,18 +351,18 @@ abbrev sellLimit : Scene
 sellLimit =
     desk (untraded 1000 1 34_200 1) (order 1 5 100 1000 1 ∷ free ∷ free ∷ [])
     at ("O 1 2 9 100 1010" says "A 2 0 100 0 0"
-    ∷ "O 0 0 8 300 1009" says "M 1000 100 3 1\nA 3 100 200 0 1"
+    ∷ "O 0 0 8 300 1009" says "M 1000 100 3 1 200 0\nA 3 100 200 0 1"
     ∷ "C 8 3" says "W 3 200"
-    ∷ "O 0 0 8 300 1010" says "M 1010 100 4 2\nA 4 100 200 0 1"
+    ∷ "O 0 0 8 300 1010" says "M 1010 100 4 2 200 0\nA 4 100 200 0 1"
     ∷ [])
 
 -- an order stops when its quantity is spent, and takes a last single share
 abbrev spent : Scene
 spent =
     desk (untraded 1000 1 34_200 2) (order 1 5 100 1000 1 ∷ order 1 6 100 1001 2 ∷ free ∷ [])
-    at ("O 0 0 9 100 1001" says "M 1000 100 3 1\nA 3 100 0 0 1"
+    at ("O 0 0 9 100 1001" says "M 1000 100 3 1 0 0\nA 3 100 0 0 1"
     ∷ "O 1 0 5 100 1000" says "A 4 0 100 0 0"
-    ∷ "O 0 0 9 101 1001" says "M 1000 100 5 4\nM 1001 1 5 2\nA 5 101 0 0 2"
+    ∷ "O 0 0 9 101 1001" says "M 1000 100 5 4 1 0\nM 1001 1 5 2 0 99\nA 5 101 0 0 2"
     ∷ "C 6 2" says "W 2 99"
     ∷ [])
 

@@ -125,7 +125,8 @@ refusalLine n = reply (code "X") (n ∷ [])
 
 unfoldable pub tradeLines : List Trade → List ℕ
 tradeLines [] = []
-tradeLines (t ∷ ts) = reply (code "M") (t .price ∷ t .quantity ∷ t .buyer ∷ t .seller ∷ []) ++ tradeLines ts
+tradeLines (t ∷ ts) =
+    reply (code "M") (t .price ∷ t .quantity ∷ t .buyer ∷ t .seller ∷ t .buyerleft ∷ t .sellerleft ∷ []) ++ tradeLines ts
 
 unfoldable pub openLine : OpenReply.OpenReply → List ℕ
 openLine (OpenReply.the-variants.Refused n) = refusalLine n

@@ -26,14 +26,18 @@ fiveBest os = take 5 (once (map (λ o. o .price) os))
 unfoldable pub atFiveBest : List Order → List Order
 atFiveBest os = keep (λ o. among (fiveBest os) (o .price)) os
 
--- the trade of a taker that wants q more with a resting order: at the resting order's price (3.5.3)
+-- the trade of a taker that wants q more with a resting order: at the resting order's price (3.5.3); what is left of either is
+-- what it had, less the quantity
 unfoldable pub tradeWith : Taker → ℕ → Order → Trade
 tradeWith t q o =
+    let n : ℕ = min q (o .left) in
     record {
       price = o .price;
-      quantity = min q (o .left);
+      quantity = n;
       buyer = if eqb (t .side) 0 then t .number else o .number;
       seller = if eqb (t .side) 0 then o .number else t .number;
+      buyerleft = if eqb (t .side) 0 then q - n else o .left - n;
+      sellerleft = if eqb (t .side) 0 then o .left - n else q - n;
     }
 
 -- one resting order after the other, while quantity is left and the price meets the limit

@@ -32,7 +32,7 @@ unfoldable pub lentPlaces : List Order
 lentPlaces = replicate 1_024 free
 
 unfoldable pub lentTrades : List Trade
-lentTrades = replicate 2_048 (record { price = 0; quantity = 0; buyer = 0; seller = 0 })
+lentTrades = replicate 2_048 (record { price = 0; quantity = 0; buyer = 0; seller = 0; buyerleft = 0; sellerleft = 0 })
 
 -- the day and its book, once a day is open
 pub record Desk : Type 0 where

@@ -19,12 +19,14 @@ pub struct Asked {
     pub price: u64,
 }
 
-// A trade. Buyer and seller are order numbers.
+// A trade. Buyer and seller are order numbers; what is left of their orders is counted right after it.
 pub struct Trade {
     pub price: u64,
     pub quantity: u64,
     pub buyer: u64,
     pub seller: u64,
+    pub buyerleft: u64,
+    pub sellerleft: u64,
 }
 
 // An order on its way through the other side: whose number its trades bear, and the price that it goes up or down to.

@@ -56,12 +56,12 @@ priced-last p [] e h q = absurd (omega arith)
 priced-last p (t ∷ ts) e h q = ap (λ q. lastPrice q ts) (e .0) ∙ last-on p ts (e .1)
 
 -- ---- where an order of the book stands
-abbrev Place : Order → Type 0
+abbrev pub Place : Order → Type 0
 Place o =
     ((standsOn 0 o ≡ true) × (standsOn 1 o ≡ false))
     ⊎ (((standsOn 0 o ≡ false) × (standsOn 1 o ≡ true)) ⊎ ((standsOn 0 o ≡ false) × (standsOn 1 o ≡ false) × (o .number ≡ 0)))
 
-place-of : (o : Order) → Fair o → Place o
+pub place-of : (o : Order) → Fair o → Place o
 unfolding standsOn isLive
 place-of o f = elim (ℕ-discrete (o .number) 0) [
   | yes z ↦ inr (inr (rw (eq-eqb (o .number) 0 z), rw (eq-eqb (o .number) 0 z), z))

@@ -15,7 +15,7 @@ use Rattle.model.specs.Choice.{if_then_else_}
 use Rattle.model.specs.Lists.{keep, total}
 use Rattle.model.specs.Book.{isLive, queue, best}
 use Rattle.model.specs.Matching.{filled, firstPrice, lastPrice, settle}
-use Rattle.model.specs.Figures.{money}
+use Rattle.model.specs.Figures.{money, reference}
 use Rattle.model.specs.Auction.{volume}
 use Rattle.model.specs.Pairing.{cut, tradesAt}
 use Rattle.model.specs.Sound.{crosses}
@@ -27,12 +27,17 @@ use Rattle.model.proofs.Bools.{not-both, not-true-false}
 use Rattle.auction.proofs.Sides.{supply-bottom}
 use Rattle.auction.proofs.Conditions.{volume-is}
 use Rattle.auction.proofs.Crossing.{crosses-told, told-crosses, demand-best, supply-best, best-demand, best-supply}
-use Rattle.auction.proofs.Rules.{auction-price-cases}
+use Rattle.auction.proofs.Rules.{auction-price-cases, none-left-over}
 use Rattle.pairing.proofs.Turns.{pairs, cut-nothing, no-buys}
 use Rattle.pairing.proofs.Auctioned.{priced-money, priced-first, priced-last, trades-priced, volume-filled, settled-shares, fewer-than-live}
 use Rattle.pairing.proofs.Uncrossing.{demand-after, supply-after, uncrossed-after}
 
 module _ (book : List Order) (s : Standing book) where
+  -- where no buy reaches a sell there is nothing to trade
+  pub uncrossed-none : (d : Day) → crosses book ≡ false → auctionTrades d book ≡ []
+  unfolding auctionTrades auctionPrice
+  uncrossed-none d c = rw (none-left-over book s c (reference d))
+
   -- nothing is sold at 0, so an auction at 0 has no trade
   no-volume : volume book 0 ≡ 0
   no-volume = omega (arith, volume-is book 0, supply-bottom book s)

@@ -25,7 +25,7 @@ use Rattle.auction.proofs.Conditions.{volume-is}
 use Rattle.pairing.specs.declared.Head.{Head}
 use Rattle.pairing.specs.Heads.{headOf, headPast, waiting}
 use Rattle.pairing.proofs.Turns.{dealt, pairs, turn, no-buys, cut-nothing, cut-short, fewer-trades}
-use Rattle.pairing.proofs.Waiting.{shares, Queued, head-cut, head-shares, past-cut, past-shares, head-ready, waiting-cut}
+use Rattle.pairing.proofs.Waiting.{shares, shareOf, Queued, head-cut, head-shares, past-cut, past-shares, head-ready, waiting-cut}
 
 -- ---- a head as the code finds it
 nobody-next : (after : ℕ) (q : List Order) → nextOf q ≡ Nothing → record { number = 0; left = 0; key = after } ≡ headOf after q
@@ -160,14 +160,22 @@ module _ (book : List Order) (s : Standing book) where
         quantity-some = omega (arith, buy-ready, sell-ready)
 
         abbrev traded : Trade
-        traded = record { price = price; quantity = q; buyer = buy .number; seller = sell .number }
+        traded =
+            record {
+              price = price;
+              quantity = q;
+              buyer = buy .number;
+              seller = sell .number;
+              buyerleft = buy .left - q;
+              sellerleft = sell .left - q;
+            }
 
         -- the next trade, and those that come then
         one-turn : coming book price left buy sell ≡ traded ∷ coming book price (left - q) (headPast q buy (queue 0 book)) (headPast q sell (queue 1 book))
         unfolding dealt
         one-turn =
-            let b : Share = record { number = buy .number; left = min left (buy .left) } in
-            let c : Share = record { number = sell .number; left = min left (sell .left) } in
+            let b : Share = shareOf left buy in
+            let c : Share = shareOf left sell in
             let bs = cut (left - buy .left) (beyond (buy .key) (queue 0 book)) in
             let cs = cut (left - sell .left) (beyond (sell .key) (queue 1 book)) in
             let m : min (min left (buy .left)) (min left (sell .left)) ≡ q = omega arith in

@@ -19,17 +19,17 @@ use Rattle.book.proofs.Queues.{Stands, on-live, on-side, queue-stands, total-qu
 use Rattle.book.proofs.Best.{on-each}
 use Rattle.book.proofs.Shares.{ofNumber, Only, each-only}
 use Rattle.pairing.specs.Granted.{granted}
-use Rattle.pairing.proofs.Turns.{cut-some, cut-nothing, cut-nobody}
+use Rattle.pairing.proofs.Turns.{brings, cut-some, cut-nothing, cut-nobody}
 use Rattle.pairing.proofs.Grants.{kept-next, granted-next, granted-none}
 
 -- ---- how many orders of a list bear a number
-abbrev tick : Bool → ℕ
+abbrev pub tick : Bool → ℕ
 tick b = if b then 1 else 0
 
 unfoldable pub times : ℕ → List Order → ℕ
 times n os = ofNumber n (λ o. 1) os
 
-times-next : (n : ℕ) (o : Order) (os : List Order) → times n (o ∷ os) ≡ tick (eqb (o .number) n) + times n os
+pub times-next : (n : ℕ) (o : Order) (os : List Order) → times n (o ∷ os) ≡ tick (eqb (o .number) n) + times n os
 unfolding times ofNumber total
 times-next n o os = refl
 
@@ -130,7 +130,7 @@ no-grant n v (o ∷ os) e = elim (decLt 0 v) [
   | yes k ↦
       let z : (if eqb (o .number) n then min v (o .left) else 0) ≡ 0 = rw (ne-eqb (o .number) n (e .0)) in
       rw (cut-some v o os k)
-      (omega (arith, granted-next n (record { number = o .number; left = min v (o .left) }) (cut (v - o .left) os), no-grant n (v - o .left) os (e .1)))
+      (omega (arith, granted-next n (brings v o) (cut (v - o .left) os), no-grant n (v - o .left) os (e .1)))
   | no k ↦ let z : v ≡ 0 = omega arith in rw (z, cut-nothing (o ∷ os)) (granted-none n)
 ]
 
@@ -142,7 +142,7 @@ module _ (v : ℕ) (o : Order) (os : List Order) (e : Each (λ p. p .number ≡ 
         let z : (if eqb (o .number) (o .number) then min v (o .left) else 0) ≡ min v (o .left) =
         rw (eq-eqb (o .number) (o .number) refl) in
         rw (cut-some v o os k)
-        (omega (arith, granted-next (o .number) (record { number = o .number; left = min v (o .left) }) (cut (v - o .left) os), no-grant (o .number) (v - o .left) os e))
+        (omega (arith, granted-next (o .number) (brings v o) (cut (v - o .left) os), no-grant (o .number) (v - o .left) os e))
     | no k ↦ let z : v ≡ 0 = omega arith in rw (z, cut-nothing (o ∷ os)) (omega (arith, granted-none (o .number)))
   ]
 
@@ -161,7 +161,7 @@ module _ (v : ℕ) (o : Order) (os : List Order) (e : Each (λ p. p .number ≡ 
             let z : (if eqb (o .number) (p .number) then min v (o .left) else 0) ≡ 0 =
             rw (ne-eqb (o .number) (p .number) (λ y. d (sym y))) in
             rw (cut-some v o os k)
-            (omega (arith, granted-next (p .number) (record { number = o .number; left = min v (o .left) }) (cut (v - o .left) os)))
+            (omega (arith, granted-next (p .number) (brings v o) (cut (v - o .left) os)))
         | no k ↦
             let z : v ≡ 0 = omega arith in
             let y : v - o .left ≡ 0 = omega arith in

@@ -19,7 +19,7 @@ use Rattle.book.specs.Standing.{Each}
 use Rattle.book.proofs.Lists.{total-keep}
 use Rattle.book.proofs.Settlements.{filled-nil, filled-more, part, filled-none, filled-cons}
 use Rattle.pairing.specs.Granted.{held, granted, bought, sold}
-use Rattle.pairing.proofs.Turns.{head-stays, head-goes, one-goes, dealt, pair-turn, pair-no-buy, pair-no-sell, pairs, cut-some, cut-nothing, cut-nobody}
+use Rattle.pairing.proofs.Turns.{brings, less, head-stays, head-goes, one-goes, dealt, pair-turn, pair-no-buy, pair-no-sell, pairs, cut-some, cut-nothing, cut-nobody}
 use Rattle.pairing.proofs.Waiting.{shares}
 
 -- ---- one more of a list
@@ -83,7 +83,7 @@ module _ (n : ℕ) where
         rw (head-stays q s ss l)
         (omega (
           arith,
-          granted-next (record { number = s .number; left = s .left - q }) ss,
+          granted-next (less q s) ss,
           granted-next s ss,
           parts (eqb (s .number) n) q (s .left) h,
         ))
@@ -99,7 +99,7 @@ module _ (n : ℕ) where
 head-held : (q : ℕ) (s : Share) (ss : List Share) → q ≤ s .left → q + held (headLess q s ss) ≡ s .left + held ss
 head-held q s ss h = elim (decLt q (s .left)) [
   | yes l ↦
-      rw (head-stays q s ss l) (omega (arith, held-next (record { number = s .number; left = s .left - q }) ss))
+      rw (head-stays q s ss l) (omega (arith, held-next (less q s) ss))
   | no l ↦ let k : s .left ≤ q = omega arith in rw (head-goes q s ss k) (omega arith)
 ]
 
@@ -199,7 +199,7 @@ cut-held v [] = rw (cut-nobody v) (omega (arith, held-none))
 cut-held v (o ∷ os) = elim (decLt 0 v) [
   | yes k ↦
       rw (cut-some v o os k)
-      (omega (arith, held-next (record { number = o .number; left = min v (o .left) }) (cut (v - o .left) os), cut-held (v - o .left) os))
+      (omega (arith, held-next (brings v o) (cut (v - o .left) os), cut-held (v - o .left) os))
   | no k ↦ let z : v ≡ 0 = omega arith in rw (z, cut-nothing (o ∷ os)) (omega (arith, held-none))
 ]
 

@@ -11,11 +11,18 @@ use Rattle.model.specs.declared.Order.{Order}
 use Rattle.model.specs.declared.Trade.{Trade}
 use Rattle.model.specs.Pairing.{Share, cut, headLess, pair}
 
+-- what an order brings to a volume, and a share of which q have traded
+abbrev pub brings : ℕ → Order → Share
+brings v o = record { number = o .number; left = min v (o .left); whole = o .left }
+
+abbrev pub less : ℕ → Share → Share
+less q s = record { number = s .number; left = s .left - q; whole = s .whole - q }
+
 -- ---- a head that has traded
 pub head-stays :
     (q : ℕ) (s : Share) (ss : List Share)
     → q < s .left
-    → headLess q s ss ≡ record { number = s .number; left = s .left - q } ∷ ss
+    → headLess q s ss ≡ less q s ∷ ss
 unfolding headLess
 head-stays q s ss h = rw (lt-ltb q (s .left) h)
 
@@ -47,7 +54,16 @@ one-goes b s bs ss =
 -- ---- turns enough
 -- the trade of two heads
 unfoldable pub dealt : ℕ → Share → Share → Trade
-dealt p b s = record { price = p; quantity = min (b .left) (s .left); buyer = b .number; seller = s .number }
+dealt p b s =
+    let q : ℕ = min (b .left) (s .left) in
+    record {
+      price = p;
+      quantity = q;
+      buyer = b .number;
+      seller = s .number;
+      buyerleft = b .whole - q;
+      sellerleft = s .whole - q;
+    }
 
 pub pair-turn :
     (n p : ℕ) (b s : Share) (bs ss : List Share)
@@ -116,7 +132,7 @@ turn p b s bs ss =
 pub cut-some :
     (v : ℕ) (o : Order) (os : List Order)
     → 0 < v
-    → cut v (o ∷ os) ≡ record { number = o .number; left = min v (o .left) } ∷ cut (v - o .left) os
+    → cut v (o ∷ os) ≡ brings v o ∷ cut (v - o .left) os
 unfolding cut
 cut-some v o os h = rw (lt-ltb 0 v h)
 

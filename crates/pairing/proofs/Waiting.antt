@@ -33,10 +33,14 @@ waiting-none : (h : Head) (queue : List Order) → h .left ≤ 0 → waiting h q
 unfolding waiting
 waiting-none h queue k = rw (le-ltb 0 (h .left) k)
 
+-- what a head brings to the volume that is left
+abbrev pub shareOf : ℕ → Head → Share
+shareOf v h = record { number = h .number; left = min v (h .left); whole = h .left }
+
 cut-head :
     (v : ℕ) (h : Head) (os : List Order)
     → 0 < v
-    → cut v (asOrder h ∷ os) ≡ record { number = h .number; left = min v (h .left) } ∷ cut (v - h .left) os
+    → cut v (asOrder h ∷ os) ≡ shareOf v h ∷ cut (v - h .left) os
 unfolding asOrder
 cut-head v h os a = cut-some v (asOrder h) os a
 
@@ -45,11 +49,11 @@ unfolding asOrder shares total
 head-holds h os = refl
 
 alike :
-    (n : ℕ) (os : List Order) {a b v w : ℕ}
+    (n whole : ℕ) (os : List Order) {a b v w : ℕ}
     → a ≡ b
     → v ≡ w
-    → record { number = n; left = a } ∷ cut v os ≡ record { number = n; left = b } ∷ cut w os
-alike n os e f = rw (e, f)
+    → record { number = n; left = a; whole = whole } ∷ cut v os ≡ record { number = n; left = b; whole = whole } ∷ cut w os
+alike n whole os e f = rw (e, f)
 
 -- a queue in priority, whose orders all have shares
 pub record Queued (queue : List Order) : Type 0 where
@@ -104,15 +108,15 @@ module _ (queue : List Order) (k : Queued queue) where
       → 0 < v
       → q ≤ v
       → q ≤ h .left
-      → headLess q (record { number = h .number; left = min v (h .left) }) (cut (v - h .left) (beyond (h .key) queue)) ≡ cut (v - q) (waiting (headPast q h queue) queue)
+      → headLess q (shareOf v h) (cut (v - h .left) (beyond (h .key) queue)) ≡ cut (v - q) (waiting (headPast q h queue) queue)
   past-cut v q h a b c =
       let behind : List Order = beyond (h .key) queue in
-      let s : Share = record { number = h .number; left = min v (h .left) } in
+      let s : Share = shareOf v h in
       elim (decLt q (h .left)) [
         | yes l ↦ elim (decLt q v) [
           | yes m ↦
               head-stays q s (cut (v - h .left) behind) (omega arith)
-              ∙ alike (h .number) behind (omega arith) (omega arith)
+              ∙ alike (h .number) (h .left - q) behind (omega arith) (omega arith)
               ∙ sym
               (ap (cut (v - q)) (past-some q h l)
               ∙ cut-head (v - q) (record { number = h .number; left = h .left - q; key = h .key }) behind (omega arith))
@@ -155,5 +159,5 @@ module _ (queue : List Order) (k : Queued queue) where
       (v : ℕ) (h : Head)
       → 0 < v
       → 0 < h .left
-      → cut v (waiting h queue) ≡ record { number = h .number; left = min v (h .left) } ∷ cut (v - h .left) (beyond (h .key) queue)
+      → cut v (waiting h queue) ≡ shareOf v h ∷ cut (v - h .left) (beyond (h .key) queue)
   waiting-cut v h a b = ap (cut v) (waiting-some h queue b) ∙ cut-head v h (beyond (h .key) queue) a

@@ -60,7 +60,7 @@ fn head_past(rows: &[[u64; 5]], side: u64, h: Head, q: u64) -> Head
 }
 
 // The trades of an auction at a price: all are counted, and written while there is room.
-pub fn pair_at(rows: &[[u64; 5]], trades: &mut [[u64; 4]], room: usize, price: u64) -> usize
+pub fn pair_at(rows: &[[u64; 5]], trades: &mut [[u64; 6]], room: usize, price: u64) -> usize
     requires { ⌜ Standing (bookOf (now rows)) ⌝ }
     requires { ⌜ room ≤ length (now trades) ⌝ }
     ensures { λ r. ⌜ r ≡ length (tradesAt price (bookOf (now (rows .entry)))) ⌝ }
@@ -72,11 +72,16 @@ pub fn pair_at(rows: &[[u64; 5]], trades: &mut [[u64; 4]], room: usize, price: u
     let mut made: usize = 0;
     while 0 < left {
         let quantity = smaller(left, smaller(buy.left, sell.left));
+        // What is left of the whole order, not of what the volume grants it.
+        let buyerleft = buy.left - quantity;
+        let sellerleft = sell.left - quantity;
         let trade = Trade {
             price,
             quantity,
             buyer: buy.number,
             seller: sell.number,
+            buyerleft,
+            sellerleft,
         };
         put_trade_below(&mut *trades, room, made, trade);
         made += 1;

@@ -9,17 +9,17 @@ pub fn places() -> [[u64; 5]; 1024]
     [[0; 5]; 1024]
 }
 
-pub fn trade_list() -> [[u64; 4]; 2048]
+pub fn trade_list() -> [[u64; 6]; 2048]
     ensures { λ r. ⌜ 2048 ≡ length r ⌝ }
 {
-    [[0; 4]; 2048]
+    [[0; 6]; 2048]
 }
 
-// Room for the replies to many lines, and always for one more: 176,238 bytes.
-pub fn output() -> [u8; 262144]
-    ensures { λ r. ⌜ 262144 ≡ length r ⌝ }
+// Room for the replies to many lines, and always for one more: 262,254 bytes.
+pub fn output() -> [u8; 393216]
+    ensures { λ r. ⌜ 393216 ≡ length r ⌝ }
 {
-    [0; 262144]
+    [0; 393216]
 }
 
 // Stands for the day until one is open.

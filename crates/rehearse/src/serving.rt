@@ -44,11 +44,11 @@ fn reply(text: &[u8]) -> bool {
 fn answer_block(
     from: Progress,
     rows: &mut [[u64; 5]],
-    trades: &mut [[u64; 4]],
+    trades: &mut [[u64; 6]],
     block: &[u8],
     out: &mut [u8],
 ) -> Progress
-    requires { ⌜ (length (now rows) ≡ 1024) × (length (now trades) ≡ 2048) × (176238 ≤ length (now out)) × (from .at ≤ length (now block)) × SoundDesk (deskOf (from .begun) (from .day) (now rows)) ⌝ }
+    requires { ⌜ (length (now rows) ≡ 1024) × (length (now trades) ≡ 2048) × (262254 ≤ length (now out)) × (from .at ≤ length (now block)) × SoundDesk (deskOf (from .begun) (from .day) (now rows)) ⌝ }
     ensures { λ r. ⌜ (r .done ≡ true → Onward (now (block .entry)) (pointOf from (now (rows .entry))) (pointOf r (now (rows .exit))) × Through (now (block .entry)) (pointOf r (now (rows .exit)))) ⌝ }
 {
     let mut p = from;
@@ -70,11 +70,11 @@ fn serve(
     h: Held,
     n: usize,
     rows: &mut [[u64; 5]],
-    trades: &mut [[u64; 4]],
+    trades: &mut [[u64; 6]],
     buf: &mut [u8],
     out: &mut [u8],
 ) -> Held
-    requires { ⌜ (length (now rows) ≡ 1024) × (length (now trades) ≡ 2048) × (176238 ≤ length (now out)) × (n ≤ length (now buf)) × SoundDesk (deskOf (h .begun) (h .day) (now rows)) ⌝ }
+    requires { ⌜ (length (now rows) ≡ 1024) × (length (now trades) ≡ 2048) × (262254 ≤ length (now out)) × (n ≤ length (now buf)) × SoundDesk (deskOf (h .begun) (h .day) (now rows)) ⌝ }
     ensures { λ r. ⌜ (r .stops ≡ false → Steps (take n (now (buf .entry))) (h .long) (deskOf (h .begun) (h .day) (now (rows .entry))) (now (rows .exit)) (now (buf .exit)) r) ⌝ }
 {
     let day = h.day;
@@ -139,11 +139,11 @@ fn finish(h: Held, out: &mut [u8]) -> Held
 fn turn(
     h: Held,
     rows: &mut [[u64; 5]],
-    trades: &mut [[u64; 4]],
+    trades: &mut [[u64; 6]],
     buf: &mut [u8],
     out: &mut [u8],
 ) -> Held
-    requires { ⌜ (length (now rows) ≡ 1024) × (length (now trades) ≡ 2048) × (176238 ≤ length (now out)) × (h .kept ≤ 79) × (80 ≤ length (now buf)) × SoundDesk (deskOf (h .begun) (h .day) (now rows)) ⌝ }
+    requires { ⌜ (length (now rows) ≡ 1024) × (length (now trades) ≡ 2048) × (262254 ≤ length (now out)) × (h .kept ≤ 79) × (80 ≤ length (now buf)) × SoundDesk (deskOf (h .begun) (h .day) (now rows)) ⌝ }
     ensures { λ r. ⌜ (r .stops ≡ false → (r .kept ≤ 79) × SoundDesk (deskOf (r .begun) (r .day) (now (rows .exit)))) ⌝ }
 {
     let kept = h.kept;

@@ -43,7 +43,7 @@ fn day_after(day: Day, answer: Answer) -> Day {
 fn step(s: Stand, event: Event) -> Stand
     ensures { λ r. ⌜ r .book ≡ eventCall event (s .book) (tradesOf noTrades) .book ⌝ }
 {
-    let mut trades = [[0u64; 4]; 16];
+    let mut trades = [[0u64; 6]; 16];
     let book = s.book;
     let handed = take_on_sixteen(book, &mut trades, event);
     let answer = handed.answer;

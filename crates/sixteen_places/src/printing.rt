@@ -42,7 +42,7 @@ fn number_asked(event: Event) -> u64 {
 }
 
 // The trades first, then the reply.
-fn put_answer(out: &mut [u8], event: Event, answer: Answer, trades: &[[u64; 4]]) -> usize
+fn put_answer(out: &mut [u8], event: Event, answer: Answer, trades: &[[u64; 6]]) -> usize
     requires { ⌜ length (now trades) ≡ 16 ⌝ }
     requires { ⌜ 4096 ≤ length (now out) ⌝ }
     ensures { λ r. ⌜ r ≤ length (now (out .exit)) ⌝ }
@@ -63,7 +63,7 @@ fn put_answer(out: &mut [u8], event: Event, answer: Answer, trades: &[[u64; 4]])
     }
 }
 
-pub fn print_answer(event: Event, answer: Answer, trades: &[[u64; 4]])
+pub fn print_answer(event: Event, answer: Answer, trades: &[[u64; 6]])
     requires { ⌜ length (now trades) ≡ 16 ⌝ }
 {
     let mut out = io::buffer();
@@ -72,7 +72,7 @@ pub fn print_answer(event: Event, answer: Answer, trades: &[[u64; 4]])
 }
 
 // A letter and the first n of the numbers.
-fn print_line(letter: u8, n: usize, numbers: [u64; 5])
+fn print_line(letter: u8, n: usize, numbers: [u64; 6])
     requires { ⌜ n ≤ 5 ⌝ }
 {
     let mut out = io::buffer();
@@ -83,12 +83,12 @@ fn print_line(letter: u8, n: usize, numbers: [u64; 5])
 // `R`, then price and volume.
 fn print_report(reply: ReportReply) {
     match reply {
-        ReportReply::Refused(n) => print_line(b'X', 1, [n, 0, 0, 0, 0]),
+        ReportReply::Refused(n) => print_line(b'X', 1, [n, 0, 0, 0, 0, 0]),
         ReportReply::Priced {
             price,
             volume,
             surplus: _,
-        } => print_line(b'R', 2, [price, volume, 0, 0, 0]),
+        } => print_line(b'R', 2, [price, volume, 0, 0, 0, 0]),
     }
 }
 
@@ -99,7 +99,7 @@ fn print_prices(prices: &[u64], n: usize) {
         if prices.len() <= i {
             return;
         }
-        let numbers = [prices[i], 0, 0, 0, 0];
+        let numbers = [prices[i], 0, 0, 0, 0, 0];
         print_line(b'P', 1, numbers);
         i += 1;
     }
@@ -108,10 +108,10 @@ fn print_prices(prices: &[u64], n: usize) {
 // The prices that were listed, then `N` and the next one due.
 fn print_list(reply: ListReply, prices: &[u64]) {
     match reply {
-        ListReply::Refused(n) => print_line(b'X', 1, [n, 0, 0, 0, 0]),
+        ListReply::Refused(n) => print_line(b'X', 1, [n, 0, 0, 0, 0, 0]),
         ListReply::Listed { count, next } => {
             print_prices(prices, count);
-            print_line(b'N', 1, [next, 0, 0, 0, 0]);
+            print_line(b'N', 1, [next, 0, 0, 0, 0, 0]);
         }
     }
 }
@@ -130,7 +130,7 @@ pub fn print_book(s: Stand) {
     while i < 16 {
         let o = book[i];
         if o.number != 0 {
-            print_line(b'B', 5, [o.side, o.account, o.left, o.price, o.number]);
+            print_line(b'B', 5, [o.side, o.account, o.left, o.price, o.number, 0]);
         }
         i += 1;
     }

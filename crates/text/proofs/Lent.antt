@@ -181,7 +181,7 @@ clockText ts r book = answered (tradeLines ts ++ clockLine (r .reply)) (some (re
 module _ (trades : List Trade) (e : length trades ≡ 2_048) (s : Desk) where
   fresh-long : length lentTrades ≡ length trades
   unfolding lentTrades
-  fresh-long = length-replicate {A = Trade} 2_048 (record { price = 0; quantity = 0; buyer = 0; seller = 0 }) ∙ sym e
+  fresh-long = length-replicate {A = Trade} 2_048 (record { price = 0; quantity = 0; buyer = 0; seller = 0; buyerleft = 0; sellerleft = 0 }) ∙ sym e
 
   pub order-answer :
       (a : Asked)

@@ -27,12 +27,12 @@ unfolding tradeLines
 trades-more [] t = refl
 trades-more (u ∷ ts) t = rw (trades-more ts t, append-assoc)
 
-pub trades-fit : (ts : List Trade) → length (tradeLines ts) ≤ 86 * length ts
+pub trades-fit : (ts : List Trade) → length (tradeLines ts) ≤ 128 * length ts
 unfolding tradeLines
 trades-fit [] = le-refl 0
 trades-fit (t ∷ ts) =
     let g = trades-fit ts in
-    let h = reply-fits 77 (t .price ∷ t .quantity ∷ t .buyer ∷ t .seller ∷ []) in
+    let h = reply-fits 77 (t .price ∷ t .quantity ∷ t .buyer ∷ t .seller ∷ t .buyerleft ∷ t .sellerleft ∷ []) in
     rw length-append (omega arith)
 
 pub trades-start : (ts : List Trade) {out : List ℕ} {p : ℕ} → Wrote out p (tradeLines (take 0 ts)) out p
@@ -43,7 +43,7 @@ trades-start ts = nothing-put
 module _
     (rows : List (List ℕ)) {out₀ : List ℕ} {p₀ : ℕ} {out : List ℕ} {p : ℕ} (i : ℕ)
     (w : Wrote out₀ p₀ (tradeLines (take i (tradesOf rows))) out p) where
-  pub trades-room : i ≤ length rows → p ≤ p₀ + 86 * i
+  pub trades-room : i ≤ length rows → p ≤ p₀ + 128 * i
   trades-room h =
       let l : length (take i (tradesOf rows)) ≡ i = length-take-le i (tradesOf rows) (rw (length-map rows tradeOf) h) in
       omega (arith, w .place, trades-fit (take i (tradesOf rows)))

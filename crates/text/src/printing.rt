@@ -55,8 +55,8 @@ fn put_number(out: &mut [u8], at: usize, x: u64) -> usize
 }
 
 // A letter and the first n of the numbers.
-pub fn put_reply(out: &mut [u8], at: usize, letter: u8, n: usize, numbers: [u64; 5]) -> usize
-    requires { ⌜ (n ≤ 5) × (at + 21 * n + 2 ≤ length (now out)) ⌝ }
+pub fn put_reply(out: &mut [u8], at: usize, letter: u8, n: usize, numbers: [u64; 6]) -> usize
+    requires { ⌜ (n ≤ 6) × (at + 21 * n + 2 ≤ length (now out)) ⌝ }
     ensures { λ r. ⌜ Wrote (now (out .entry)) at (reply letter (take n numbers)) (now (out .exit)) r ⌝ }
 {
     let mut p = put_byte(out, at, letter);
@@ -70,16 +70,23 @@ pub fn put_reply(out: &mut [u8], at: usize, letter: u8, n: usize, numbers: [u64;
 }
 
 fn put_trade(out: &mut [u8], at: usize, t: Trade) -> usize
-    requires { ⌜ at + 86 ≤ length (now out) ⌝ }
+    requires { ⌜ at + 128 ≤ length (now out) ⌝ }
     ensures { λ r. ⌜ Wrote (now (out .entry)) at (tradeLines (t ∷ [])) (now (out .exit)) r ⌝ }
 {
-    let numbers = [t.price, t.quantity, t.buyer, t.seller, 0];
-    put_reply(out, at, b'M', 4, numbers)
+    let numbers = [
+        t.price,
+        t.quantity,
+        t.buyer,
+        t.seller,
+        t.buyerleft,
+        t.sellerleft,
+    ];
+    put_reply(out, at, b'M', 6, numbers)
 }
 
 // The lines of the first n trades of the list.
-pub fn put_trades(out: &mut [u8], at: usize, trades: &[[u64; 4]], n: usize) -> usize
-    requires { ⌜ (n ≤ length (now trades)) × (at + 86 * n ≤ length (now out)) ⌝ }
+pub fn put_trades(out: &mut [u8], at: usize, trades: &[[u64; 6]], n: usize) -> usize
+    requires { ⌜ (n ≤ length (now trades)) × (at + 128 * n ≤ length (now out)) ⌝ }
     ensures { λ r. ⌜ Wrote (now (out .entry)) at (tradeLines (take n (tradesOf (now (trades .entry))))) (now (out .exit)) r ⌝ }
 {
     let mut p = at;
@@ -96,7 +103,7 @@ pub fn put_refusal(out: &mut [u8], at: usize, n: u64) -> usize
     requires { ⌜ at + 110 ≤ length (now out) ⌝ }
     ensures { λ r. ⌜ Wrote (now (out .entry)) at (refusalLine n) (now (out .exit)) r ⌝ }
 {
-    let numbers = [n, 0, 0, 0, 0];
+    let numbers = [n, 0, 0, 0, 0, 0];
     put_reply(out, at, b'X', 1, numbers)
 }
 
@@ -107,7 +114,7 @@ pub fn put_open(out: &mut [u8], at: usize, answer: OpenReply) -> usize
     match answer {
         OpenReply::Refused(n) => put_refusal(out, at, n),
         OpenReply::Opened(_) => {
-            let numbers = [0, 0, 0, 0, 0];
+            let numbers = [0, 0, 0, 0, 0, 0];
             put_reply(out, at, b'D', 0, numbers)
         }
     }
@@ -120,7 +127,7 @@ pub fn put_clock(out: &mut [u8], at: usize, answer: ClockReply) -> usize
     match answer {
         ClockReply::Refused(n) => put_refusal(out, at, n),
         ClockReply::Moved { phase, trades } => {
-            let numbers = [phase, trades as u64, 0, 0, 0];
+            let numbers = [phase, trades as u64, 0, 0, 0, 0];
             put_reply(out, at, b'K', 2, numbers)
         }
     }
@@ -132,7 +139,14 @@ fn put_entry(out: &mut [u8], at: usize, e: Entry) -> usize
     ensures { λ r. ⌜ Wrote (now (out .entry)) at (reply 65 (entryNumbers e)) (now (out .exit)) r ⌝ }
 {
     let rest = e.remainder;
-    let numbers = [e.number, e.filled, resting(rest), withdrawn(rest), e.levels];
+    let numbers = [
+        e.number,
+        e.filled,
+        resting(rest),
+        withdrawn(rest),
+        e.levels,
+        0,
+    ];
     put_reply(out, at, b'A', 5, numbers)
 }
 
@@ -154,7 +168,7 @@ pub fn put_cancel(out: &mut [u8], at: usize, number: u64, answer: CancelReply) -
     match answer {
         CancelReply::Refused(n) => put_refusal(out, at, n),
         CancelReply::Withdrawn(q) => {
-            let numbers = [number, q, 0, 0, 0];
+            let numbers = [number, q, 0, 0, 0, 0];
             put_reply(out, at, b'W', 2, numbers)
         }
     }

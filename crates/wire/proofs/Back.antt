@@ -67,16 +67,16 @@ book-kept b s =
     let h : 40 * (length b / 40) ≤ length b = omega arith in
     kept _ b (40 * (length b / 40)) (flat-parts orderIn orderBytes 40 order-again (length b / 40) b h s) h
 
-trade-again : (b : List ℕ) → 32 ≤ length b → AllBytes b → tradeBytes (tradeIn b) ≡ take 32 b
+trade-again : (b : List ℕ) → 48 ≤ length b → AllBytes b → tradeBytes (tradeIn b) ≡ take 48 b
 unfolding numbers parts
-trade-again b h s = numbers-again 4 b h s
+trade-again b h s = numbers-again 6 b h s
 
-pub trades-again : (b : List ℕ) → AllBytes b → tradesBytes (tradesIn b) ≡ take (32 * (length b / 32)) b
+pub trades-again : (b : List ℕ) → AllBytes b → tradesBytes (tradesIn b) ≡ take (48 * (length b / 48)) b
 unfolding tradesBytes tradesIn
-trades-again b s = flat-parts tradeIn tradeBytes 32 trade-again (length b / 32) b (omega arith) s
+trades-again b s = flat-parts tradeIn tradeBytes 48 trade-again (length b / 48) b (omega arith) s
 
 pub trades-kept : (b : List ℕ) → AllBytes b → over (tradesBytes (tradesIn b)) b ≡ b
-trades-kept b s = kept _ b (32 * (length b / 32)) (trades-again b s) (omega arith)
+trades-kept b s = kept _ b (48 * (length b / 48)) (trades-again b s) (omega arith)
 
 day-again : (b : List ℕ) → 64 ≤ length b → AllBytes b → dayBytes (dayIn b) ≡ take 64 b
 unfolding dayBytes dayIn numbers parts

@@ -18,7 +18,7 @@ length-bytes ns = length-flat (digits 8) 8 (length-digits 8) ns
 pub length-order : (o : Order) → length (orderBytes o) ≡ 40
 length-order o = length-bytes (rowOf o)
 
-pub length-trade : (t : Trade) → length (tradeBytes t) ≡ 32
+pub length-trade : (t : Trade) → length (tradeBytes t) ≡ 48
 length-trade t = length-bytes (tradeRow t)
 
 pub length-day : (d : Day) → length (dayBytes d) ≡ 64
@@ -29,6 +29,6 @@ pub length-book : (book : List Order) → length (bookBytes book) ≡ 40 * lengt
 unfolding bookBytes
 length-book book = length-flat orderBytes 40 length-order book
 
-pub length-trades : (ts : List Trade) → length (tradesBytes ts) ≡ 32 * length ts
+pub length-trades : (ts : List Trade) → length (tradesBytes ts) ≡ 48 * length ts
 unfolding tradesBytes
-length-trades ts = length-flat tradeBytes 32 length-trade ts
+length-trades ts = length-flat tradeBytes 48 length-trade ts

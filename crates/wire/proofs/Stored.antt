@@ -37,7 +37,7 @@ book-put b rows b' h e =
 
 pub trades-put :
     (b : List ℕ) (list : List (List ℕ)) (b' : List ℕ)
-    → 32 * length list ≤ length b
+    → 48 * length list ≤ length b
     → b' ≡ sets b 0 (flat tradeBytes (tradesOf list))
     → b' ≡ over (tradesBytes (tradesOf list)) b
 unfolding tradesBytes

@@ -31,9 +31,9 @@ use Rattle.wire.proofs.Rooms.{Alike, order-alike, clock-alike}
 
 -- ---- the trades' bytes
 
-length-trades-in : (b : List ℕ) → length (tradesIn b) ≡ length b / 32
+length-trades-in : (b : List ℕ) → length (tradesIn b) ≡ length b / 48
 unfolding tradesIn
-length-trades-in b = length-parts tradeIn 32 (length b / 32) b
+length-trades-in b = length-parts tradeIn 48 (length b / 48) b
 
 trades-take : (n : ℕ) (rows : List (List ℕ)) → tradesOf (take n rows) ≡ take n (tradesOf rows)
 trades-take zero rows = refl
@@ -44,25 +44,25 @@ trades-take (suc n) (r ∷ rows) = ap (λ (ts : List Trade). tradeOf r ∷ ts) (
 new-bytes :
     (new : List Trade) (b : List ℕ)
     → AllBytes b
-    → length new ≤ length b / 32
-    → tradesBytes (written new (tradesIn b)) ≡ tradesBytes new ++ drop (32 * length new) (take (32 * (length b / 32)) b)
+    → length new ≤ length b / 48
+    → tradesBytes (written new (tradesIn b)) ≡ tradesBytes new ++ drop (48 * length new) (take (48 * (length b / 48)) b)
 unfolding written tradesBytes
 new-bytes new b s h =
     let k : length new ≤ length (tradesIn b) = rw length-trades-in h in
     flat-append tradeBytes new (drop (length new) (tradesIn b))
     ∙ ap (λ (l : List ℕ). tradesBytes new ++ l)
-    (flat-drop tradeBytes 32 length-trade (length new) (tradesIn b) k ∙ ap (drop (32 * length new)) (trades-again b s))
+    (flat-drop tradeBytes 48 length-trade (length new) (tradesIn b) k ∙ ap (drop (48 * length new)) (trades-again b s))
 
 pub over-written :
     (new : List Trade) (b : List ℕ)
     → AllBytes b
-    → length new ≤ length b / 32
+    → length new ≤ length b / 48
     → over (tradesBytes (written new (tradesIn b))) b ≡ over (tradesBytes new) b
 unfolding over
 over-written new b s h =
     let t : List ℕ = tradesBytes new in
-    let j : ℕ = 32 * length new in
-    let m : ℕ = 32 * (length b / 32) in
+    let j : ℕ = 48 * length new in
+    let m : ℕ = 48 * (length b / 48) in
     let tl : length t ≡ j = length-trades new in
     let ml : length (take m b) ≡ m = length-take-le m b (omega arith) in
     let le : j ≤ length (take m b) = omega arith in
@@ -73,7 +73,7 @@ over-written new b s h =
 
 -- ---- the call on rows
 
-module _ {A : Type 0} (made : A → ℕ) (book trades : List ℕ) (list : List (List ℕ)) (k : length list ≡ min 4_096 (length trades / 32)) where
+module _ {A : Type 0} (made : A → ℕ) (book trades : List ℕ) (list : List (List ℕ)) (k : length list ≡ min 4_096 (length trades / 48)) where
   rows-made :
       (rows' list' : List (List ℕ)) {o p : Outcome A} {r : A}
       → Alike made (tradesOf list) (tradesIn trades) o p
@@ -95,7 +95,7 @@ module _ {A : Type 0} (made : A → ℕ) (book trades : List ℕ) (list : List (
   rows-traded rows' list' {o} {p} {r} {left'} {trades'} a e w v s =
       let new : List Trade = a .new in
       let c : made r ≡ length new = ap (λ (o : Outcome A). made (o .answer)) e ∙ a .count in
-      let f : length new ≤ length trades / 32 = omega (arith, a .fits, length-map list tradeOf) in
+      let f : length new ≤ length trades / 48 = omega (arith, a .fits, length-map list tradeOf) in
       let l : tradesOf list' ≡ written new (tradesOf list) = ap (λ (o : Outcome A). o .trades) e ∙ a .there in
       let n : tradesOf (take (made r) list') ≡ new =
       trades-take (made r) list' ∙ rw (c, l) (take-at new (drop (length new) (tradesOf list)) (length new) refl) in
@@ -114,7 +114,7 @@ module _ {A : Type 0} (made : A → ℕ) (book trades : List ℕ) (list : List (
 module _ (day book trades : List ℕ) (rows list : List (List ℕ)) {d : Day}
     (b : bookOf rows ≡ bookIn book)
     (e : d ≡ dayIn day)
-    (k : length list ≡ min 4_096 (length trades / 32)) where
+    (k : length list ≡ min 4_096 (length trades / 48)) where
   short : length (tradesOf list) ≡ min 4_096 (length (tradesIn trades))
   short = rw (length-map, length-trades-in) k
 

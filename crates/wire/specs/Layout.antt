@@ -30,7 +30,7 @@ abbrev pub orderIn : List ℕ → Order
 orderIn b = orderOf (numbers 5 b)
 
 abbrev pub tradeIn : List ℕ → Trade
-tradeIn b = tradeOf (numbers 4 b)
+tradeIn b = tradeOf (numbers 6 b)
 
 -- close, mark, time, numbers issued, shares, turnover, first, last
 abbrev pub dayOf : List ℕ → Day
@@ -54,7 +54,7 @@ unfoldable pub bookIn : List ℕ → List Order
 bookIn b = parts orderIn 40 (length b / 40) b
 
 unfoldable pub tradesIn : List ℕ → List Trade
-tradesIn b = parts tradeIn 32 (length b / 32) b
+tradesIn b = parts tradeIn 48 (length b / 48) b
 
 unfoldable pub pricesIn : List ℕ → List ℕ
 pricesIn b = numbers (length b / 8) b

@@ -21,8 +21,8 @@ pub fn room() -> [[u64; 5]; 4096] {
 }
 
 // And for the trades of a call: no event has more.
-pub fn trade_room() -> [[u64; 4]; 4096] {
-    let none = [0u64; 4];
+pub fn trade_room() -> [[u64; 6]; 4096] {
+    let none = [0u64; 6];
     [none; 4096]
 }
 
@@ -86,10 +86,17 @@ fn put_order_bytes(b: &mut [u8], at: usize, o: Order)
 }
 
 fn put_trade_bytes(b: &mut [u8], at: usize, t: Trade)
-    requires { ⌜ at + 32 ≤ length (now b) ⌝ }
+    requires { ⌜ at + 48 ≤ length (now b) ⌝ }
     ensures { λ _. ⌜ now (b .exit) ≡ sets (now (b .entry)) at (tradeBytes t) ⌝ }
 {
-    let row = [t.price, t.quantity, t.buyer, t.seller];
+    let row = [
+        t.price,
+        t.quantity,
+        t.buyer,
+        t.seller,
+        t.buyerleft,
+        t.sellerleft,
+    ];
     put_numbers(b, at, &row[..]);
 }
 
@@ -118,13 +125,13 @@ pub fn store_book(b: &mut [u8], rows: &[[u64; 5]])
 }
 
 // Writes the trades of a list to the bytes' front.
-pub fn store_trades(b: &mut [u8], list: &[[u64; 4]])
-    requires { ⌜ 32 * length (now list) ≤ length (now b) ⌝ }
+pub fn store_trades(b: &mut [u8], list: &[[u64; 6]])
+    requires { ⌜ 48 * length (now list) ≤ length (now b) ⌝ }
     ensures { λ _. ⌜ now (b .exit) ≡ over (tradesBytes (tradesOf (now (list .entry)))) (now (b .entry)) ⌝ }
 {
     let mut i: usize = 0;
     while i < list.len() {
-        put_trade_bytes(&mut *b, 32 * i, trade_at(list, i));
+        put_trade_bytes(&mut *b, 48 * i, trade_at(list, i));
         i += 1;
     }
 }

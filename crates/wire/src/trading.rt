@@ -36,12 +36,12 @@ fn order_in(
     book: &mut [u8],
     trades: &mut [u8],
     rows: &mut [[u64; 5]],
-    list: &mut [[u64; 4]],
+    list: &mut [[u64; 6]],
     a: Asked,
 ) -> OrderAnswer
     requires { ⌜ length (now day) ≡ 64 ⌝ }
     requires { ⌜ length (now rows) ≡ length (now book) / 40 ⌝ }
-    requires { ⌜ length (now list) ≡ min 4_096 (length (now trades) / 32) ⌝ }
+    requires { ⌜ length (now list) ≡ min 4_096 (length (now trades) / 48) ⌝ }
     ensures { λ r. ⌜ Traded r (now (book .exit)) (now (trades .exit)) (orderCall (dayIn (now (day .entry))) a (bookIn (now (book .entry))) (tradesIn (now (trades .entry)))) (now (book .entry)) (now (trades .entry)) ⌝ }
 {
     load_book(book, &mut *rows);
@@ -58,7 +58,7 @@ fn order_on(day: &[u8], book: &mut [u8], trades: &mut [u8], a: Asked) -> OrderAn
     ensures { λ r. ⌜ Traded r (now (book .exit)) (now (trades .exit)) (orderCall (dayIn (now (day .entry))) a (bookIn (now (book .entry))) (tradesIn (now (trades .entry)))) (now (book .entry)) (now (trades .entry)) ⌝ }
 {
     let n = book.len() / 40;
-    let k = few(trades.len() / 32);
+    let k = few(trades.len() / 48);
     let mut rows = room();
     let mut list = trade_room();
     order_in(day, book, trades, &mut rows[..n], &mut list[..k], a)
@@ -105,12 +105,12 @@ fn clock_in(
     book: &mut [u8],
     trades: &mut [u8],
     rows: &mut [[u64; 5]],
-    list: &mut [[u64; 4]],
+    list: &mut [[u64; 6]],
     time: u64,
 ) -> ClockAnswer
     requires { ⌜ length (now day) ≡ 64 ⌝ }
     requires { ⌜ length (now rows) ≡ length (now book) / 40 ⌝ }
-    requires { ⌜ length (now list) ≡ min 4_096 (length (now trades) / 32) ⌝ }
+    requires { ⌜ length (now list) ≡ min 4_096 (length (now trades) / 48) ⌝ }
     ensures { λ r. ⌜ Traded r (now (book .exit)) (now (trades .exit)) (clockCall (dayIn (now (day .entry))) time (bookIn (now (book .entry))) (tradesIn (now (trades .entry)))) (now (book .entry)) (now (trades .entry)) ⌝ }
 {
     load_book(book, &mut *rows);
@@ -127,7 +127,7 @@ fn clock_on(day: &[u8], book: &mut [u8], trades: &mut [u8], time: u64) -> ClockA
     ensures { λ r. ⌜ Traded r (now (book .exit)) (now (trades .exit)) (clockCall (dayIn (now (day .entry))) time (bookIn (now (book .entry))) (tradesIn (now (trades .entry)))) (now (book .entry)) (now (trades .entry)) ⌝ }
 {
     let n = book.len() / 40;
-    let k = few(trades.len() / 32);
+    let k = few(trades.len() / 48);
     let mut rows = room();
     let mut list = trade_room();
     clock_in(day, book, trades, &mut rows[..n], &mut list[..k], time)

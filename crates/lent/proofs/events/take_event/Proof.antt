@@ -85,10 +85,10 @@ abbrev Does : List (List ℕ) → List (List ℕ) → Event → Answer → List 
 Does rows trades event answer rows′ trades′ = left answer rows′ trades′ ≡ eventCall event (bookOf rows) (tradesOf trades)
 
 abbrev stayed : Stays (this.ended .signature .params) (this.ended .kept)
-stayed = (stay-slice (0 ∷ []) tt (plain (λ _. T.the-row)), (gave-slice (1 ∷ []) tt (plain (λ _. Array u64 4)), (stay-dropped (plain (λ _. Q.the-row)) yes, tt)))
+stayed = (stay-slice (0 ∷ []) tt (plain (λ _. T.the-row)), (gave-slice (1 ∷ []) tt (plain (λ _. Array u64 6)), (stay-dropped (plain (λ _. Q.the-row)) yes, tt)))
 
 abbrev OnRows : {M : Type 1} (𝓤 : URA M) (H : Heap 𝓤) (A : Atoms 𝓤) → Contract 𝓤
-OnRows 𝓤 H A = Call Rows (Array u64 4) Q.the-row B.the-row Does 𝓤 H A
+OnRows 𝓤 H A = Call Rows (Array u64 6) Q.the-row B.the-row Does 𝓤 H A
 
 module _ {M : Type 1} (𝓤 : URA M) (H : Heap 𝓤) (A : Atoms 𝓤) (W : Given 𝓤 H A) where
   typed-question : (y : Event) (v : Val) → Is Q.the-row y (v ∷ []) → Holds (hasTy Q′.mir v) × WT v
@@ -99,7 +99,7 @@ module _ {M : Type 1} (𝓤 : URA M) (H : Heap 𝓤) (A : Atoms 𝓤) (W : Given
 
 module _ {M : Type 1} (𝓤 : URA M) (H : Heap 𝓤) (A : Atoms 𝓤) (W : Given 𝓤 H A) (at-mem : Memory → SProp 𝓤)
     (run : Routine → Fun 𝓤) (κ κ₁ : Lft) (q q₁ : Share) (b o : ℕ) (γ : GName) (ys : List Order) (x : RefT (List (List ℕ))) (y : Event) (v : Val)
-    (gb : Room T.the-row (length ys)) (gl : Room (Array u64 4) (length (now x))) (is-q : Is Q.the-row y (v ∷ [])) where
+    (gb : Room T.the-row (length ys)) (gl : Room (Array u64 6) (length (now x))) (is-q : Is Q.the-row y (v ∷ [])) where
   abbrev n : ℕ
   n = length ys
 
@@ -130,10 +130,10 @@ module _ {M : Type 1} (𝓤 : URA M) (H : Heap 𝓤) (A : Atoms 𝓤) (W : Given
   exits : (r : Answer) (w : Val) (zs : List Order) (ts : List (List ℕ)) → length zs ≡ n → length ts ≡ length (now x)
       → eventLeft r zs ts ≡ eventCall y ys (tradesOf (now x))
       → ent 𝓤 (⋆ 𝓤 H A (‵ (fobs γ (codedHoleys T.the-row .code (heres T.the-row zs))) ∷ ‵ (fbor κ (Held T.the-row (length zs) b o γ)) ∷ ‵ (flft κ q)
-      ∷ ‵ (flft κ₁ q₁) ∷ ‵ (finally (Array u64 4) (x .name) ts) ∷ ‵ (B.the-row .own r (w ∷ [])) ∷ [])) (Post w)
+      ∷ ‵ (flft κ₁ q₁) ∷ ‵ (finally (Array u64 6) (x .name) ts) ∷ ‵ (B.the-row .own r (w ∷ [])) ∷ [])) (Post w)
   exits r w zs ts len len₁ e =
       qed W (‵ (fobs γ (codedHoleys T.the-row .code (heres T.the-row zs))) ∷ ‵ (fbor κ (Held T.the-row (length zs) b o γ)) ∷ ‵ (flft κ q)
-      ∷ ‵ (flft κ₁ q₁) ∷ ‵ (finally (Array u64 4) (x .name) ts) ∷ ‵ (B.the-row .own r (w ∷ [])) ∷ []) ∵
+      ∷ ‵ (flft κ₁ q₁) ∷ ‵ (finally (Array u64 6) (x .name) ts) ∷ ‵ (B.the-row .own r (w ∷ [])) ∷ []) ∵
       suffices ! _ (ends-at 𝓤 H A this.ended stayed (this.clauses 𝓤 H A at-mem run) W bound w r (zs, (ts, (tt, tt))) (len, (len₁, (tt, tt)))) $
       says ! e $ nothing ! $ move ! (4 ∷ 0 ∷ []) $ join ! $ move ! (3 ∷ 0 ∷ []) $ join ! $ frame ! $ move ! (0 ∷ 1 ∷ []) $ fjoin ! $
       pureI ! (at-slice T.the-row (at-list zs) (s ∷ [])) (tt, (tt, tt))
@@ -160,19 +160,19 @@ module _ {M : Type 1} (𝓤 : URA M) (H : Heap 𝓤) (A : Atoms 𝓤) (W : Given
 
     -- the call on them
     abbrev after : ℕ → Val → Item 𝓤
-    after c = called-back Rows (Array u64 4) Q.the-row B.the-row Does 𝓤 H A W c (lent ys) κ₁ q₁ x u y v
+    after c = called-back Rows (Array u64 6) Q.the-row B.the-row Does 𝓤 H A W c (lent ys) κ₁ q₁ x u y v
 
-    runs-work : (c : ℕ) → ent 𝓤 (mean 𝓤 H A (to-row Rows (Array u64 4) Q.the-row B.the-row Does 𝓤 H A W c (lent ys) κ₁ q₁ x u y v))
+    runs-work : (c : ℕ) → ent 𝓤 (mean 𝓤 H A (to-row Rows (Array u64 6) Q.the-row B.the-row Does 𝓤 H A W c (lent ys) κ₁ q₁ x u y v))
         (H .⇛ (𝓣 .C #work (part c ∷ u ∷ v ∷ []) (λ w. mean 𝓤 H A (after c w))))
     runs-work c =
-        subst (λ (m : ℕ). ent 𝓤 (mean 𝓤 H A (to-row Rows (Array u64 4) Q.the-row B.the-row Does 𝓤 H A W c (lent ys) κ₁ q₁ x u y v))
+        subst (λ (m : ℕ). ent 𝓤 (mean 𝓤 H A (to-row Rows (Array u64 6) Q.the-row B.the-row Does 𝓤 H A W c (lent ys) κ₁ q₁ x u y v))
         (H .⇛ (𝓣 .C #work (sliceVal (c, 0) m ∷ u ∷ v ∷ []) (λ w. mean 𝓤 H A (after c w))))) (length-lent ys)
-        (call-on-row Rows (Array u64 4) Q.the-row B.the-row Does 𝓤 H A W c (lent ys) κ₁ q₁ x u y v 𝓣 #work known-work (lent-room ys))
+        (call-on-row Rows (Array u64 6) Q.the-row B.the-row Does 𝓤 H A W c (lent ys) κ₁ q₁ x u y v 𝓣 #work known-work (lent-room ys))
 
-    walk : ent 𝓤 (⋆ 𝓤 H A (‵ (flft κ q) ∷ book-own ∷ ‵ (flft κ₁ q₁) ∷ ‵ (MutSlice (named 1) κ₁ (Array u64 4) .own x (u ∷ []))
+    walk : ent 𝓤 (⋆ 𝓤 H A (‵ (flft κ q) ∷ book-own ∷ ‵ (flft κ₁ q₁) ∷ ‵ (MutSlice (named 1) κ₁ (Array u64 6) .own x (u ∷ []))
         ∷ ‵ (Q.the-row .own y (v ∷ [])) ∷ [])) (WpFn 𝓤 H (𝓣 .C) (𝓣 .Λ) code.function (s ∷ u ∷ v ∷ []) Post)
     walk =
-        qed W (‵ (flft κ q) ∷ book-own ∷ ‵ (flft κ₁ q₁) ∷ ‵ (MutSlice (named 1) κ₁ (Array u64 4) .own x (u ∷ []))
+        qed W (‵ (flft κ q) ∷ book-own ∷ ‵ (flft κ₁ q₁) ∷ ‵ (MutSlice (named 1) κ₁ (Array u64 6) .own x (u ∷ []))
         ∷ ‵ (Q.the-row .own y (v ∷ [])) ∷ []) ∵ enter ! (𝓣 .C) (𝓣 .Λ) code.function (s ∷ u ∷ v ∷ []) _ $
         alloc1 ! (λ l₀. alloc1 ! (λ l₁. alloc1 ! (λ l₂. alloc1 ! (λ l₃. alloc1 ! (λ l₄. alloc1 ! (λ l₅. alloc1 ! (λ l₆. alloc1 ! (λ l₇.
         alloc1 ! (λ l₈. alloc1 ! (λ l₉. alloc1 ! (λ l₁₀. alloc1 ! (λ l₁₁. alloc1 ! (λ l₁₂. alloc1 ! (λ l₁₃. alloc1 ! (λ l₁₄. alloc1 ! (λ l₁₅.
@@ -274,13 +274,13 @@ module _ {M : Type 1} (𝓤 : URA M) (H : Heap 𝓤) (A : Atoms 𝓤) (W : Given
   value = EL.val Q.the-type Q′.the-laws
 
   entry : (κ κ₁ : Lft) (q q₁ : Share) (z : RefT (List Order)) (x : RefT (List (List ℕ))) (y : Event) (gb : Room T.the-row (length (now z)))
-      (gl : Room (Array u64 4) (length (now x))) (is-q : Is Q.the-row y (value y ∷ []))
+      (gl : Room (Array u64 6) (length (now x))) (is-q : Is Q.the-row y (value y ∷ []))
       → ent 𝓤 (onEntry 𝓤 H A this.signature (κ, (κ₁, tt)) (q, (q₁, tt)) (z, (x, (y, tt))) (slice-vals z, (slice-vals x, (value y ∷ [], tt))))
       (WpFn 𝓤 H (𝓣 .C) (𝓣 .Λ) code.function (sliceVal (z .ptr) (length (now z)) ∷ sliceVal (x .ptr) (length (now x)) ∷ value y ∷ [])
       (Post 𝓤 H A W at-mem run κ κ₁ q q₁ (z .ptr .0) (z .ptr .1) (z .name) (now z) x y (value y) gb gl is-q))
   entry κ κ₁ q q₁ z x y gb gl is-q =
       qed W ((‵ (flft κ q) ⊛ ‵ (flft κ₁ q₁) ⊛ ‵ ftrue)
-      ∷ ‵ (owns (MutSlice (named 0) κ T.the-row ∷ MutSlice (named 1) κ₁ (Array u64 4) ∷ Q.the-row ∷ []) (z, (x, (y, tt)))
+      ∷ ‵ (owns (MutSlice (named 0) κ T.the-row ∷ MutSlice (named 1) κ₁ (Array u64 6) ∷ Q.the-row ∷ []) (z, (x, (y, tt)))
       (slice-vals z, (slice-vals x, (value y ∷ [], tt)))) ∷ []) ∵
       split ! $ move ! (1 ∷ []) $ split ! $ move ! (3 ∷ []) $ fsplit ! $ move ! (1 ∷ []) $ fsplit ! $ move ! (1 ∷ []) $ fsplit ! $
       keep ! (6 ∷ 3 ∷ 4 ∷ 2 ∷ 0 ∷ []) $
@@ -289,7 +289,7 @@ module _ {M : Type 1} (𝓤 : URA M) (H : Heap 𝓤) (A : Atoms 𝓤) (W : Given
   take-event-walks : Walks 𝓤 H A this.ended stayed (WpFn 𝓤 H (𝓣 .C) (𝓣 .Λ) code.function) (this.clauses 𝓤 H A at-mem run)
   take-event-walks = walked 𝓤 H A this.ended stayed (this.clauses 𝓤 H A at-mem run) (WpFn 𝓤 H (𝓣 .C) (𝓣 .Λ) code.function)
       (λ κs. (slice-vals, (slice-vals, ((λ y. value y ∷ []), tt))))
-      (λ κs. (mut-slice-tells (named 0) (κs .0) T.the-row, (mut-slice-tells (named 1) (κs .1 .0) (Array u64 4), (EL.tells Q.the-type Q′.the-laws, tt))))
+      (λ κs. (mut-slice-tells (named 0) (κs .0) T.the-row, (mut-slice-tells (named 1) (κs .1 .0) (Array u64 6), (EL.tells Q.the-type Q′.the-laws, tt))))
       (λ κs qs bounds a g are. via 𝓤 _ (fst∗ 𝓤 _ (emp 𝓤))
       (entry (κs .0) (κs .1 .0) (qs .0) (qs .1 .0) (a .0) (a .1 .0) (a .1 .1 .0) (are .0 .0 .1) (are .1 .0 .0 .1) (are .1 .1 .0)))
 
@@ -297,7 +297,7 @@ module _ {M : Type 1} (𝓤 : URA M) (H : Heap 𝓤) (A : Atoms 𝓤) (W : Given
   take-event-meets = walk-meets 𝓤 H A this.ended stayed W (
     goes-slice 𝓤 H A W 2 0 tt (plain (λ _. T.the-row)),
     (
-      goes-gave-slice 𝓤 H A W 2 1 tt (plain (λ _. Array u64 4)),
+      goes-gave-slice 𝓤 H A W 2 1 tt (plain (λ _. Array u64 6)),
       (goes-silent 𝓤 H A W 2 (plain (λ _. Q.the-row)) yes (stay-dropped (plain (λ _. Q.the-row)) yes) (λ κs x f. refl), tt),
     ),
   )

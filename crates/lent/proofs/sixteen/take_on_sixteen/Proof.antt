@@ -69,7 +69,7 @@ use Rattle.lent.proofs.sixteen.take_on_sixteen.Code as code
 
 -- a row of the trade list
 abbrev Trade : RattleType
-Trade = Array u64 4
+Trade = Array u64 6
 
 module _ {M : Type 1} (𝓤 : URA M) (H : Heap 𝓤) (A : Atoms 𝓤) (W : Given 𝓤 H A) where
   typed-event : (y : Event) (v : Val) → Is Q.the-row y (v ∷ []) → Holds (hasTy Q′.mir v) × WT v

@@ -9,7 +9,7 @@ use Rattle.rehearse.proofs.serving.run.Tie as tie
 
 abbrev Inv-loop : tie.InvT-loop
 Inv-loop rows₀ trades₀ buf₀ out₀ h₀ turns₀ rows trades buf out h turns =
-    (length rows ≡ 1024) × (length trades ≡ 2048) × (length buf ≡ 65536) × (length out ≡ 262144) × (h .kept ≤ 79) × SoundDesk (deskOf (h .begun) (h .day) rows)
+    (length rows ≡ 1024) × (length trades ≡ 2048) × (length buf ≡ 65536) × (length out ≡ 393216) × (h .kept ≤ 79) × SoundDesk (deskOf (h .begun) (h .day) rows)
 
 abbrev μ-loop : tie.MeasureT-loop
 μ-loop rows₀ trades₀ buf₀ out₀ h₀ turns₀ rows trades buf out h turns = turns

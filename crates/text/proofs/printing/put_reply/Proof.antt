@@ -22,8 +22,8 @@ Place = tie.At-loop Inv-loop μ-loop
 abbrev start : Place → tie.Start Inv-loop μ-loop
 start l = l .before .before .before .before .before .before
 
-five-long : (l : Place) → length (start l .args .t5) ≡ 5
-five-long l = let c = start l in search needs
+six-long : (l : Place) → length (start l .args .t5) ≡ 6
+six-long l = let c = start l in search needs
 
 -- there is room for the numbers that are left, and for the newline
 room : (l : Place) → (l .loop .p + 21 * (start l .args .n - l .loop .i) + 1 ≤ length (l .loop .out)) × (length (l .loop .out) ≡ length (start l .args .out .now))
@@ -32,7 +32,7 @@ room l =
     let w = l .loop .inv .1 in
     let h = start l .pre in
     let i : l .loop .i ≤ start l .args .n = l .loop .inv .0 in
-    let r = numbers-room (start l .args .t5) (l .loop .i) w (omega (arith, five-long l)) in
+    let r = numbers-room (start l .args .t5) (l .loop .i) w (omega (arith, six-long l)) in
     (omega (arith, v .place, put-long v, put-long w), put-long w ∙ put-long v)
 
 put-byte-requires : tie.Need-put-byte-requires Inv-loop μ-loop
@@ -60,7 +60,7 @@ loop-again : tie.Need-loop-again Inv-loop μ-loop
 loop-again c =
     let n = c .before .before in
     let l = n .before .before .before in
-    (omega arith, numbers-on (start l .args .t5) (l .loop .i) (l .loop .inv .1) (omega (arith, five-long l)) (n .put-number .ensures))
+    (omega arith, numbers-on (start l .args .t5) (l .loop .i) (l .loop .inv .1) (omega (arith, six-long l)) (n .put-number .ensures))
 
 put-byte-requires-2 : tie.Need-put-byte-requires-2 Inv-loop μ-loop
 put-byte-requires-2 c κs = omega (arith, room (c .before .before))

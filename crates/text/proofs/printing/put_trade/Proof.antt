@@ -1,4 +1,4 @@
--- The line with four numbers.
+-- The line with six numbers.
 use mathlib.Core.Path.{sym}
 use mathlib.Core.List.{append-nil}
 use Rattle.model.specs.Lines.{tradeLines}

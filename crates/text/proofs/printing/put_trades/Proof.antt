@@ -25,7 +25,7 @@ abbrev start : Place → tie.Start Inv-loop μ-loop
 start l = l .before .before
 
 -- there is room for the trades that are left
-room : (l : Place) → l .loop .p + 86 * (start l .args .n - l .loop .i) ≤ length (l .loop .out)
+room : (l : Place) → l .loop .p + 128 * (start l .args .n - l .loop .i) ≤ length (l .loop .out)
 room l =
     let w = l .loop .inv .1 in
     let h = start l .pre in

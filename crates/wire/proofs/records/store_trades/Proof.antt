@@ -1,4 +1,4 @@
--- `wire::records::store_trades` meets its contract: the invariant is `Emptying`, over trades of 32 bytes. Assumes nothing.
+-- `wire::records::store_trades` meets its contract: the invariant is `Emptying`, over trades of 48 bytes. Assumes nothing.
 use Prim.Native.Nat.{_-_}
 use borrow.Author.Needs.{needs}
 use lib.ListN.{length}
@@ -11,7 +11,7 @@ use Rattle.wire.proofs.records.store_trades.Statement.{statement}
 use Rattle.wire.proofs.records.store_trades.Tie as tie
 
 abbrev Inv-loop : tie.InvT-loop
-Inv-loop b₀ list i₀ b i = Emptying tradeOf tradeBytes 32 list b₀ b i
+Inv-loop b₀ list i₀ b i = Emptying tradeOf tradeBytes 48 list b₀ b i
 
 abbrev μ-loop : tie.MeasureT-loop
 μ-loop b₀ list i₀ b i = length list - i
