@@ -137,7 +137,7 @@ static bool is_damaged_now(void) { return ++times_seen == damaged_nth; }
 
 /* A byte of the slice: among its first for an odd nth, where records were written, and anywhere for an even one. */
 static uint8_t *byte_of_slice(int slice) {
-    size_t length = length_of(&lent, slice), span = damaged_nth % 2 && length > 32 ? 32 : length;
+    size_t length = length_of(&lent, slice), span = damaged_nth % 2 && length > TRADE_BYTES ? TRADE_BYTES : length;
     if (!length || !is_damaged_now()) return NULL;
     return expected.bytes[slice] + GUARD + damaged_nth * 0x9e3779b97f4a7c15ull % span;
 }

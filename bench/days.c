@@ -39,7 +39,7 @@ static uint64_t random_price(const struct plan *plan) { return plan->close - pla
 
 static void random_lengths(void) {
     struct lent *m = &lent;
-    size_t list = once_in(3) ? chance(400) : once_in(20) ? LONGEST - chance(50) : 64 * 32 + chance(40);
+    size_t list = once_in(3) ? chance(600) : once_in(20) ? LONGEST - chance(50) : 64 * TRADE_BYTES + chance(60);
     lend(m->day_length, m->book_length, list, once_in(2) ? 48 : chance(70));
 }
 
@@ -164,7 +164,7 @@ void run_seed(uint64_t seed) {
     struct plan plan = plan_day(seed);
     uint64_t opening[] = {plan.close, !once_in(4)}, before = failed, count = plan.places > 100 ? 60 : 250;
     fill_memory(any_number);
-    lend(64, 40 * plan.places + (once_in(2) ? chance(40) : 0), 32, 48);
+    lend(64, 40 * plan.places + (once_in(2) ? chance(40) : 0), TRADE_BYTES, 48);
     compare(seed, OPEN, opening);
     if (once_in(3)) fill_book(&plan);
     for (uint64_t i = 0; i < count; i++) {

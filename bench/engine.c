@@ -15,7 +15,7 @@ struct order {
 };
 
 struct trade {
-    uint64_t price, quantity, buyer, seller;
+    uint64_t price, quantity, buyer, seller, buyer_left, seller_left;
 };
 
 /* The orders of one side at one price, oldest number first. */
@@ -66,7 +66,7 @@ static void write_book(uint8_t *b) {
 }
 
 static void write_trades(struct lent *m) {
-    for (size_t t = 0; t < made_count; t++) write_numbers(m->list, 4 * t, &made[t], 4);
+    for (size_t t = 0; t < made_count; t++) write_numbers(m->list, 6 * t, &made[t], 6);
 }
 
 /* The refusal, and count values behind it (zeros where it refuses), as many whole numbers as the buffer holds. */
@@ -180,15 +180,15 @@ static void take_off(int place, uint64_t quantity) {
     if (!places[place].left) memset(&places[place], 0, sizeof places[place]);
 }
 
-static void trade(uint64_t price, uint64_t quantity, uint64_t buyer, uint64_t seller) {
-    made[made_count++] = (struct trade){price, quantity, buyer, seller};
-    day.shares += quantity;
-    day.turnover += price * quantity;
-    day.last = price;
-    if (!day.first) day.first = price;
+static void trade(struct trade t) {
+    made[made_count++] = t;
+    day.shares += t.quantity;
+    day.turnover += t.price * t.quantity;
+    day.last = t.price;
+    if (!day.first) day.first = t.price;
 }
 
-static bool too_many_trades(const struct lent *m) { return made_count > m->list_length / 32; }
+static bool too_many_trades(const struct lent *m) { return made_count > m->list_length / TRADE_BYTES; }
 
 /* ---- opening */
 
@@ -249,10 +249,14 @@ static uint64_t match(const struct wish *w, uint64_t limit, int most_levels, uin
         ++*level_total;
         for (int i = at->first; i < at->first + at->count && left; i++) {
             int place = queue[other][i];
-            uint64_t number = places[place].number, q = places[place].left < left ? places[place].left : left;
-            trade(at->price, q, w->side == 0 ? day.issued : number, w->side == 0 ? number : day.issued);
-            take_off(place, q);
+            struct order rests = places[place];
+            uint64_t q = rests.left < left ? rests.left : left;
             left -= q;
+            if (w->side == 0)
+                trade((struct trade){at->price, q, day.issued, rests.number, left, rests.left - q});
+            else
+                trade((struct trade){at->price, q, rests.number, day.issued, rests.left - q, left});
+            take_off(place, q);
         }
     }
     return left;
@@ -447,11 +451,11 @@ static void pair(uint64_t price, uint64_t volume) {
         int buy = queue[0][b], sell = queue[1][s];
         uint64_t buyer = places[buy].number, seller = places[sell].number;
         uint64_t q = smaller(volume, smaller(places[buy].left, places[sell].left));
-        trade(price, q, buyer, seller);
-        if (places[buy].left == q) b++;
-        if (places[sell].left == q) s++;
         take_off(buy, q);
         take_off(sell, q);
+        trade((struct trade){price, q, buyer, seller, places[buy].left, places[sell].left});
+        if (!places[buy].left) b++;
+        if (!places[sell].left) s++;
         volume -= q;
     }
 }

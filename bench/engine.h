@@ -6,6 +6,8 @@
 #include <stddef.h>
 #include <stdint.h>
 
+enum { TRADE_BYTES = 48 }; /* six numbers */
+
 /* Lent memory: what a call reads and writes. A call that has no use for a slice does not look at it. */
 struct lent {
     uint8_t *day, *book, *list, *reply; /* list: the trades, or the prices */

@@ -139,7 +139,7 @@ int LLVMFuzzerTestOneInput(const uint8_t *data, size_t length) {
     uint64_t chosen = byte();
     close_price = closes[chosen / 8 % 4];
     clear_memory(0x5a);
-    lend(64, 40 * sizes[chosen % 8] + chosen / 64, 2048, 48);
+    lend(64, 40 * sizes[chosen % 8] + chosen / 64, 64 * TRADE_BYTES, 48);
     const uint64_t opening[5] = {close_price, chosen / 32 % 2};
     check(OPEN, opening);
     for (int i = 0; i < STEPS && input_left; i++) take_step(byte());

@@ -1,6 +1,8 @@
 /* The rehearsed situations of the rules and their whole session, with the numbers that the rules print. */
+#include "../include/flemorix.h"
 #include "compare.h"
 #include "runs.h"
+#include <string.h>
 
 static uint64_t make(int which, uint64_t a, uint64_t b, uint64_t c, uint64_t d, uint64_t e) {
     const uint64_t asked[] = {a, b, c, d, e};
@@ -23,9 +25,22 @@ static uint64_t buy_of_kind(uint64_t kind, uint64_t account, uint64_t quantity, 
 /* The values of a reply, from 1 on. */
 static uint64_t value(size_t i) { return number_at(lent.reply, i); }
 
+/* A trade of the list, as the header names its numbers. */
+static struct flemorix_trade trade_at(size_t i) {
+    struct flemorix_trade trade;
+    _Static_assert(sizeof trade == TRADE_BYTES, "the header's trade is not as long as one in bytes");
+    memcpy(&trade, lent.list + i * sizeof trade, sizeof trade);
+    return trade;
+}
+
+static void expect_left(const char *what, size_t i, uint64_t buyer_left, uint64_t seller_left) {
+    expect(what, trade_at(i).buyer_left, buyer_left);
+    expect(what, trade_at(i).seller_left, seller_left);
+}
+
 static void open_at(uint64_t close, uint64_t time) {
     clear_memory(0);
-    lend(64, 40 * 16, 32 * 64, 48);
+    lend(64, 40 * 16, TRADE_BYTES * 64, 48);
     make(OPEN, close, 1, 0, 0, 0);
     move_to(time);
 }
@@ -97,6 +112,8 @@ static void run_five_prices(void) {
     expect("k: filled", value(2), 500);
     expect("k: withdrawn", value(4), 100);
     expect("k: levels", value(5), 5);
+    expect_left("k: left after the first trade", 0, 500, 0);
+    expect_left("k: left after the last, yet to be withdrawn", 4, 100, 0);
     open_with_six_sells();
     buy_of_kind(4, 7, 600, 1300);
     expect("l: resting", value(3), 100);
@@ -122,12 +139,16 @@ void run_session(void) {
     expect("session: locked", take_out(7, 1), 4);
     move_to(34200);
     expect("session: trades", value(2), 1);
-    expect("session: price", number_at(lent.list, 0), 990);
-    expect("session: quantity", number_at(lent.list, 1), 200);
+    expect("session: price", trade_at(0).price, 990);
+    expect("session: quantity", trade_at(0).quantity, 200);
+    expect("session: buyer", trade_at(0).buyer, 1);
+    expect("session: seller", trade_at(0).seller, 2);
+    expect_left("session: left after the auction", 0, 0, 100);
     buy_of_kind(1, 9, 150, 1300);
     expect("session: filled", value(2), 100);
     expect("session: resting", value(3), 50);
     expect("session: levels", value(5), 1);
+    expect_left("session: left after the second trade", 0, 50, 0);
     take_out(9, 3);
     expect("session: withdrawn", value(1), 50);
     expect("session: gone", take_out(9, 3), 12);

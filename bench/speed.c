@@ -10,7 +10,7 @@
 
 enum { ROUNDS = 300, SUMS = 16, CASES = 9, MOST = 4096 };
 
-static uint8_t day_bytes[64], book_bytes[40 * MOST], list_bytes[32 * MOST], reply_bytes[48];
+static uint8_t day_bytes[64], book_bytes[40 * MOST], list_bytes[TRADE_BYTES * MOST], reply_bytes[48];
 static uint8_t day_before[64], book_before[40 * MOST];
 static uint8_t day_after[64], book_after[40 * MOST];
 

@@ -31,12 +31,15 @@ struct flemorix_order {
     uint64_t number;
 };
 
-/* A trade. Buyer and seller are order numbers. */
+/* A trade. Buyer and seller are order numbers. What is left is of the whole order, right after this trade: in an auction also the
+ * shares that get no turn in it, on entry also those that rest or are withdrawn afterwards. */
 struct flemorix_trade {
     uint64_t price;
     uint64_t quantity;
     uint64_t buyer;
     uint64_t seller;
+    uint64_t buyer_left;
+    uint64_t seller_left;
 };
 
 enum flemorix_refusal {

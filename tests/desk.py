@@ -170,9 +170,9 @@ class Day:
                 price = auction.price(self.close if last is None else last, self.every_price)
                 if price is not None:
                     for buyer, seller, shares in auction.pairs(price):
-                        trades.append((price, shares, buyer.number, seller.number))
                         buyer.left -= shares
                         seller.left -= shares
+                        trades.append((price, shares, buyer.number, seller.number, buyer.left, seller.left))
                     last = price
                 live = [o for o in live if o.left > 0]
                 if second == CLOSING_AUCTION:
@@ -247,8 +247,8 @@ class Day:
         for partner in partners:
             shares = min(left, partner.left)
             if shares > 0:
-                deals.append((partner, shares))
                 left -= shares
+                deals.append((partner, shares, left))
         if len(deals) > TRADES:
             raise Refused(13)
         if kind == 4 and deals:
@@ -257,21 +257,22 @@ class Day:
             rests_at = within(side, limit, own)
 
         self.issued += 1
-        trades = [self.settle(side, partner, shares) for partner, shares in deals]
+        trades = [self.settle(side, *deal) for deal in deals]
         resting = left if rests_at is not None else 0
         if resting > 0:
             self.live.append(Order(self.issued, side, account, resting, rests_at))
-        levels = len({price for price, _, _, _ in trades})
+        levels = len({price for price, *_ in trades})
         return trades, "A %d %d %d %d %d" % (self.issued, quantity - left, resting, left - resting, levels)
 
-    def settle(self, side, partner, shares):
-        """One trade of the newest order with a resting one, at the resting one's price."""
+    def settle(self, side, partner, shares, left):
+        """One trade of the newest order with a resting one, at the resting one's price, and what is left of both after it."""
         partner.left -= shares
         if partner.left == 0:
             self.live.remove(partner)
         self.last = partner.price
-        buyer, seller = (self.issued, partner.number) if side == BUY else (partner.number, self.issued)
-        return partner.price, shares, buyer, seller
+        newest, resting = (self.issued, left), (partner.number, partner.left)
+        (buyer, buyer_left), (seller, seller_left) = (newest, resting) if side == BUY else (resting, newest)
+        return partner.price, shares, buyer, seller, buyer_left, seller_left
 
     def cancel_order(self, account, number):
         if not self.row(self.time)[3]:
@@ -324,7 +325,7 @@ class Desk:
             trades, answer = self.obey(line)
         except Refused as refused:
             trades, answer = [], "X %d" % refused.args[0]
-        return ["M %d %d %d %d\n" % trade for trade in trades] + [answer + "\n"]
+        return ["M %d %d %d %d %d %d\n" % trade for trade in trades] + [answer + "\n"]
 
 
 def replies(session, every_price=False):
