@@ -26,7 +26,6 @@ use Rattle.model.specs.Refusals.{Rule, _when_, firstOf, unsound}
 use Rattle.model.specs.declared.OrderAnswer.{OrderAnswer}
 use Rattle.model.specs.Calls.{Outcome, written, orderRules, ended, placed, entered, orderCall}
 use Rattle.model.proofs.Bools.{true-or-false}
-use Rattle.model.proofs.Sizes.{quantity-sized}
 use Rattle.model.proofs.Rules.{hit, skip, Numbered, NoneHolds, none-holds, given-by, passed-by}
 use Rattle.book.specs.Rows.{bookOf, tradeOf, tradesOf, tradeRows}
 use Rattle.book.specs.Standing.{Price, Each}
@@ -34,6 +33,7 @@ use Rattle.book.specs.Writing.{front}
 use Rattle.book.proofs.Written.{front-trades, front-written}
 use Rattle.soundness.specs.SoundDay.{SoundDay}
 use Rattle.soundness.proofs.Clauses.{says-price}
+use Rattle.soundness.proofs.Sizes.{says-quantity, sized-most}
 use Rattle.matching.specs.declared.Swept.{Swept}
 use Rattle.matching.specs.Sweeping.{comesTo}
 use Rattle.matching.specs.Entering.{restAt}
@@ -134,7 +134,9 @@ module _ (d : Day) (a : Asked) (book : List Order) (room : ℕ) where
       let n : NoneHolds (orderRules d a book room) = none-holds (orderRules d a book room) numbered z in
       record {
         ready = ready-if d book (n .0);
-        quantity = quantity-sized (a .side) (a .quantity) (a .balance) (not-false _ (n .1 .1 .1 .1 .1 .0)) .1;
+        quantity =
+            sized-most (a .side) (a .quantity) (a .balance)
+            (says-quantity (a .side) (a .quantity) (a .balance) .0 (not-false _ (n .1 .1 .1 .1 .1 .0)));
         price = says-price (a .price) .0 (not-false _ (n .1 .1 .1 .1 .1 .1 .0)) .high;
         fits = ltb-false room (length (entryTrades d a book)) (n .1 .1 .1 .1 .1 .1 .1 .1 .1 .1 .1 .0);
       }
