@@ -3,7 +3,7 @@
 // also keeps every product small.
 ghost use mathlib.Core.Path.{_≡_};
 ghost use mathlib.Core.Bool.{_&&_};
-ghost use Rattle.model.specs.Limits.{isPrice, isQuantity, inBand, buyInRange, sellInRange, inRange};
+ghost use Rattle.model.specs.Limits.{isPrice, inSize, isOddLot, isQuantity, inBand, buyInRange, sellInRange, inRange};
 
 // Whole fen, 1 to 999,999.
 pub fn is_price(price: u64) -> bool
@@ -26,13 +26,42 @@ fn are_prices(one: u64, another: u64) -> bool
 }
 
 // 100 to 1,000,000 shares (3.3.8, 3.3.9).
-pub fn is_quantity(quantity: u64) -> bool
-    ensures { λ r. ⌜ r ≡ isQuantity quantity ⌝ }
+fn in_size(quantity: u64) -> bool
+    ensures { λ r. ⌜ r ≡ inSize quantity ⌝ }
 {
     if quantity < 100 {
         return false;
     }
     quantity <= 1_000_000
+}
+
+// 1 to 99 shares, all that the account has (3.3.8).
+fn is_odd_lot(quantity: u64, balance: u64) -> bool
+    ensures { λ r. ⌜ r ≡ isOddLot quantity balance ⌝ }
+{
+    if quantity < 1 {
+        return false;
+    }
+    if 99 < quantity {
+        return false;
+    }
+    quantity == balance
+}
+
+// Side 0 buys, and names no balance; any other sells, an odd lot in one go.
+pub fn is_quantity(side: u64, quantity: u64, balance: u64) -> bool
+    ensures { λ r. ⌜ r ≡ isQuantity side quantity balance ⌝ }
+{
+    if side == 0 {
+        if in_size(quantity) {
+            return balance == 0;
+        }
+        return false;
+    }
+    if in_size(quantity) {
+        return true;
+    }
+    is_odd_lot(quantity, balance)
 }
 
 // At least 70% and at most 130% of the previous close, exactly (3.3.11).

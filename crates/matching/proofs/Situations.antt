@@ -64,7 +64,7 @@ day = record { close = 1000; limited = 1; time = 34_200; issued = 6; shares = 0;
 
 -- a buy of 600 of this kind and limit
 abbrev buy : ℕ → ℕ → Asked
-buy kind limit = record { side = 0; kind = kind; account = 9; quantity = 600; price = limit }
+buy kind limit = record { side = 0; kind = kind; account = 9; quantity = 600; price = limit; balance = 0 }
 
 abbrev lent : List Trade
 lent = map (λ (o : Order). record { price = 0; quantity = 0; buyer = 0; seller = 0; buyerleft = 0; sellerleft = 0 }) book

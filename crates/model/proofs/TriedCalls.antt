@@ -1,7 +1,7 @@
--- What lines do not show, by evaluation: an order call's lent trade list, the sums of an auction at one price, who trades
--- with whom at a given price, and the paper's numbers of each reply. (That a price qualifies speaks of all 999,999 prices,
--- which are too many to try: laws say it.) Assumes nothing.
-use Prim.Native.Nat.{ℕ}
+-- What lines do not show, by evaluation: an order call's lent trade list, the quantity test at its bounds, the sums of an
+-- auction at one price, who trades with whom at a given price, and the paper's numbers of each reply. (That a price
+-- qualifies speaks of all 999,999 prices, which are too many to try: laws say it.) Assumes nothing.
+use Prim.Native.Nat.{ℕ, _+_, _-_}
 use mathlib.Core.Path.{_≡_, refl}
 use mathlib.Core.Bool.{Bool, true, false}
 use mathlib.Core.List.{List, [], _∷_, map}
@@ -54,7 +54,7 @@ abbrev two : List Order
 two = order 1 5 100 1001 2 ∷ order 1 5 100 1000 1 ∷ free ∷ []
 
 abbrev asked : Asked
-asked = record { side = 0; kind = 0; account = 9; quantity = 250; price = 1001 }
+asked = record { side = 0; kind = 0; account = 9; quantity = 250; price = 1001; balance = 0 }
 
 abbrev old : ℕ → Trade
 old n = trade n n n n n n
@@ -94,6 +94,29 @@ pub lists-tried :
     })
 unfolding keep all any total least atLeast from among once different isTime closed laterRows holding rowAt phaseAt takesOrders takesCancels continuous passes boundaries free isLive standsOn better ahead insert inPriority queue other headPrice best meets within fiveBest atFiveBest tradeWith sweep filled levels lastPrice firstPrice isIn filledOf lessBy settle rest isPrice isQuantity inBand buyInRange sellInRange inRange freshDay at nextNumber issue money tally reference openPrice closePrice bestWithin entryPrice opposite entryTrades restPrice base hasPlaces isMark mayStand soundFigures isFree isOrder ownNumbers isEmpty crosses between sharesFit pricesFit turnoverFits sound _when_ firstOf unsound written openRules cleared openCall orderRules ended placed entered orderCall isOwn cancelRules cancelCall
 lists-tried = (refl, refl, refl)
+
+-- ---- the quantity test: quantities on both sides of every bound, a row for each side and balance
+
+abbrev quantities : List ℕ
+quantities = 0 ∷ 1 ∷ 2 ∷ 98 ∷ 99 ∷ 100 ∷ 101 ∷ 999_999 ∷ 1_000_000 ∷ 1_000_001 ∷ []
+
+abbrev passing : ℕ → (ℕ → ℕ) → List ℕ
+passing side balance = keep (λ q. isQuantity side q (balance q)) quantities
+
+-- with a balance of 0, of just the quantity, of one more, of one less, and of 50
+pub quantities-tried :
+    (passing 0 (λ q. 0) ≡ 100 ∷ 101 ∷ 999_999 ∷ 1_000_000 ∷ [])
+    × (passing 0 (λ q. q) ≡ [])
+    × (passing 0 (λ q. q + 1) ≡ [])
+    × (passing 0 (λ q. q - 1) ≡ [])
+    × (passing 0 (λ q. 50) ≡ [])
+    × (passing 1 (λ q. 0) ≡ 100 ∷ 101 ∷ 999_999 ∷ 1_000_000 ∷ [])
+    × (passing 1 (λ q. q) ≡ 1 ∷ 2 ∷ 98 ∷ 99 ∷ 100 ∷ 101 ∷ 999_999 ∷ 1_000_000 ∷ [])
+    × (passing 1 (λ q. q + 1) ≡ 100 ∷ 101 ∷ 999_999 ∷ 1_000_000 ∷ [])
+    × (passing 1 (λ q. q - 1) ≡ 100 ∷ 101 ∷ 999_999 ∷ 1_000_000 ∷ [])
+    × (passing 1 (λ q. 50) ≡ 100 ∷ 101 ∷ 999_999 ∷ 1_000_000 ∷ [])
+unfolding keep isQuantity
+quantities-tried = (refl, refl, refl, refl, refl, refl, refl, refl, refl, refl)
 
 -- ---- situation f: its sums at 1000 and at 1001
 

@@ -177,6 +177,38 @@ refusals =
     ∷ "O 0 0 7 100 1000" says "X 10"
     ∷ [])
 
+-- fewer than 100 shares are sold in one go or not at all, and a buy names no balance: tested where the quantity is
+abbrev oddLots : Scene
+oddLots =
+    desk (untraded 1000 1 33_300 0) (free ∷ free ∷ free ∷ free ∷ [])
+    at ("O 1 0 7 99 1000" says "X 6"
+    ∷ "O 1 0 7 99 1000 98" says "X 6"
+    ∷ "O 1 0 7 99 1000 100" says "X 6"
+    ∷ "O 1 0 7 99 1000 99" says "A 1 0 99 0 0"
+    ∷ "O 1 0 7 100 1000 99" says "A 2 0 100 0 0"
+    ∷ "O 0 0 7 99 1000 99" says "X 6"
+    ∷ "O 0 0 7 100 1000 1" says "X 6"
+    ∷ "O 0 0 7 100 1000 0" says "A 3 0 100 0 0"
+    ∷ "O 0 1 7 100 1000 1" says "X 5"
+    ∷ "O 0 0 7 100 0 1" says "X 6"
+    ∷ "O 1 0 7 50 0 50" says "X 7"
+    ∷ "O 1 0 7 1 1000 1" says "A 4 0 1 0 0"
+    ∷ "O 1 0 7 1 1000 1" says "X 10"
+    ∷ "C 7 1" says "W 1 99"
+    ∷ [])
+
+-- every kind may sell what is left of a holding; with no buy in the book it rests, or is withdrawn
+abbrev oddKinds : Scene
+oddKinds =
+    desk (untraded 1000 1 34_200 1) (order 1 5 100 1000 1 ∷ free ∷ free ∷ free ∷ free ∷ [])
+    at ("O 1 0 7 10 1000 10" says "A 2 0 10 0 0"
+    ∷ "O 1 1 7 20 990 20" says "A 3 0 0 20 0"
+    ∷ "O 1 2 7 30 990 30" says "A 4 0 30 0 0"
+    ∷ "O 1 3 7 40 990 40" says "A 5 0 0 40 0"
+    ∷ "O 1 4 7 50 990 50" says "A 6 0 50 0 0"
+    ∷ "O 1 4 7 50 990 51" says "X 6"
+    ∷ [])
+
 -- the same on a day without limits: no band, no market orders
 abbrev unlimitedOpening : Scene
 unlimitedOpening =
@@ -402,7 +434,11 @@ lineForms =
     ∷ "C 1" says "X 16"
     ∷ "C 1 1 1" says "X 16"
     ∷ "O 0 0 7 100" says "X 16"
-    ∷ "O 0 0 7 100 1000 0" says "X 16"
+    ∷ "O 0 0 7 100 1000" says "X 4"
+    ∷ "O 0 0 7 100 1000 0" says "X 4"
+    ∷ "O 0 0 7 100 1000 00" says "X 16"
+    ∷ "O 0 0 7 100 1000 0 0" says "X 16"
+    ∷ "T 0 0 0 0 0 0" says "X 16"
     ∷ "K 0 0" says "X 16"
     ∷ "T 0" says "K 0 0"
     ∷ [])
@@ -416,6 +452,8 @@ scenes =
     ∷ afterAuction
     ∷ afterClose
     ∷ refusals
+    ∷ oddLots
+    ∷ oddKinds
     ∷ unlimitedOpening
     ∷ unlimitedContinuous
     ∷ g

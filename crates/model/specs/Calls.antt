@@ -65,7 +65,7 @@ orderRules d a book room =
     ∷ 3 when (eqb (a .account) 0)
     ∷ 4 when (not (takesOrders (d .time)))
     ∷ 5 when (not (eqb (a .kind) 0) && (not (eqb (phaseAt (d .time)) continuous) || eqb (d .limited) 0))
-    ∷ 6 when (not (isQuantity (a .quantity)))
+    ∷ 6 when (not (isQuantity (a .side) (a .quantity) (a .balance)))
     ∷ 7 when (not (isPrice (a .price)))
     ∷ 8 when (eqb (d .limited) 1 && not (inBand (d .close) (a .price)))
     ∷ 9 when

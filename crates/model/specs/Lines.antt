@@ -79,7 +79,7 @@ numbersOf (w ∷ ws) =
 
 -- ---- what a line asks for
 
--- a letter, with as many numbers as it wants
+-- a letter, with as many numbers as it wants; an order may leave out its balance, which is 0 then
 unfoldable pub commandOf : ℕ → List ℕ → Command
 commandOf c [] = Malformed
 commandOf c (time ∷ []) = if eqb c (code "T") then Moves time else Malformed
@@ -89,9 +89,17 @@ commandOf c (x ∷ y ∷ z ∷ []) = Malformed
 commandOf c (x ∷ y ∷ z ∷ u ∷ []) = Malformed
 commandOf c (side ∷ kind ∷ account ∷ quantity ∷ price ∷ []) =
     if eqb c (code "O")
-    then Enters (record { side = side; kind = kind; account = account; quantity = quantity; price = price })
+    then
+    Enters
+    (record { side = side; kind = kind; account = account; quantity = quantity; price = price; balance = 0 })
     else Malformed
-commandOf c (x ∷ y ∷ z ∷ u ∷ v ∷ w ∷ ns) = Malformed
+commandOf c (side ∷ kind ∷ account ∷ quantity ∷ price ∷ balance ∷ []) =
+    if eqb c (code "O")
+    then
+    Enters
+    (record { side = side; kind = kind; account = account; quantity = quantity; price = price; balance = balance })
+    else Malformed
+commandOf c (x ∷ y ∷ z ∷ u ∷ v ∷ w ∷ t ∷ ns) = Malformed
 
 unfoldable pub wordsCommand : List (List ℕ) → Command
 wordsCommand [] = Malformed

@@ -10,13 +10,15 @@ pub struct Order {
     pub number: u64,
 }
 
-// An order as it is asked for. Side 0 buys, 1 sells; for kinds 1 to 4 the price is the protection limit.
+// An order as it is asked for. Side 0 buys, 1 sells; for kinds 1 to 4 the price is the protection limit. The balance is what
+// the account has to sell: it is tested with the quantity, and kept nowhere.
 pub struct Asked {
     pub side: u64,
     pub kind: u64,
     pub account: u64,
     pub quantity: u64,
     pub price: u64,
+    pub balance: u64,
 }
 
 // A trade. Buyer and seller are order numbers; what is left of their orders is counted right after it.

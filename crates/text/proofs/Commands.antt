@@ -24,7 +24,7 @@ pub record Unwanted (c n : ℕ) : Type 0 where
   pub time : c ≡ 84 → n ≡ 1 → ⊥
   pub opening : c ≡ 68 → n ≡ 2 → ⊥
   pub cancel : c ≡ 67 → n ≡ 2 → ⊥
-  pub order : c ≡ 79 → n ≡ 5 → ⊥
+  pub order : c ≡ 79 → 5 ≤ n → n ≤ 6 → ⊥
 
 other : (c d : ℕ) → (c ≡ d → ⊥) → eqb c d ≡ false
 other c d h = not-true-false (λ e. h (eqb-true c d e))
@@ -36,50 +36,58 @@ unwanted-is c (x ∷ []) u = rw (other c 84 (λ e. u .time e refl))
 unwanted-is c (x ∷ y ∷ []) u = rw (other c 68 (λ e. u .opening e refl), other c 67 (λ e. u .cancel e refl))
 unwanted-is c (x ∷ y ∷ z ∷ []) u = refl
 unwanted-is c (x ∷ y ∷ z ∷ p ∷ []) u = refl
-unwanted-is c (x ∷ y ∷ z ∷ p ∷ q ∷ []) u = rw (other c 79 (λ e. u .order e refl))
-unwanted-is c (x ∷ y ∷ z ∷ p ∷ q ∷ r ∷ ns) u = refl
+unwanted-is c (x ∷ y ∷ z ∷ p ∷ q ∷ []) u = rw (other c 79 (λ e. u .order e (omega arith) (omega arith)))
+unwanted-is c (x ∷ y ∷ z ∷ p ∷ q ∷ r ∷ []) u = rw (other c 79 (λ e. u .order e (omega arith) (omega arith)))
+unwanted-is c (x ∷ y ∷ z ∷ p ∷ q ∷ r ∷ t ∷ ns) u = refl
 
--- a list of five, written out
-five : (P : List ℕ → Type 0) → ((a b d e f : ℕ) → P (a ∷ b ∷ d ∷ e ∷ f ∷ [])) → (v : List ℕ) → length v ≡ 5 → P v
-five P k [] h = absurd (omega arith)
-five P k (a ∷ []) h = absurd (omega arith)
-five P k (a ∷ b ∷ []) h = absurd (omega arith)
-five P k (a ∷ b ∷ d ∷ []) h = absurd (omega arith)
-five P k (a ∷ b ∷ d ∷ e ∷ []) h = absurd (omega arith)
-five P k (a ∷ b ∷ d ∷ e ∷ f ∷ []) h = k a b d e f
-five P k (a ∷ b ∷ d ∷ e ∷ f ∷ g ∷ v) h = absurd (omega arith)
+-- a list of six, written out
+six : (P : List ℕ → Type 0) → ((a b d e f g : ℕ) → P (a ∷ b ∷ d ∷ e ∷ f ∷ g ∷ [])) → (v : List ℕ) → length v ≡ 6 → P v
+six P k [] h = absurd (omega arith)
+six P k (a ∷ []) h = absurd (omega arith)
+six P k (a ∷ b ∷ []) h = absurd (omega arith)
+six P k (a ∷ b ∷ d ∷ []) h = absurd (omega arith)
+six P k (a ∷ b ∷ d ∷ e ∷ []) h = absurd (omega arith)
+six P k (a ∷ b ∷ d ∷ e ∷ f ∷ []) h = absurd (omega arith)
+six P k (a ∷ b ∷ d ∷ e ∷ f ∷ g ∷ []) h = k a b d e f g
+six P k (a ∷ b ∷ d ∷ e ∷ f ∷ g ∷ i ∷ v) h = absurd (omega arith)
 
--- of five numbers the first n, after a letter
-module _ (c n : ℕ) (v : List ℕ) (h : length v ≡ 5) where
+-- of six numbers the first n, after a letter
+module _ (c n : ℕ) (v : List ℕ) (h : length v ≡ 6) where
   pub moves : c ≡ 84 → n ≡ 1 → Moves (getD v 0 0) ≡ commandOf c (take n v)
   unfolding commandOf
-  moves p q = rw (p, q) (five (λ v. Moves (getD v 0 0) ≡ commandOf 84 (take 1 v)) (λ a b d e f. refl) v h)
+  moves p q = rw (p, q) (six (λ v. Moves (getD v 0 0) ≡ commandOf 84 (take 1 v)) (λ a b d e f g. refl) v h)
 
   pub opens : c ≡ 68 → n ≡ 2 → Opens (getD v 0 0) (getD v 1 0) ≡ commandOf c (take n v)
   unfolding commandOf
   opens p q =
-      rw (p, q) (five (λ v. Opens (getD v 0 0) (getD v 1 0) ≡ commandOf 68 (take 2 v)) (λ a b d e f. refl) v h)
+      rw (p, q) (six (λ v. Opens (getD v 0 0) (getD v 1 0) ≡ commandOf 68 (take 2 v)) (λ a b d e f g. refl) v h)
 
   pub cancels : c ≡ 67 → n ≡ 2 → Cancels (getD v 0 0) (getD v 1 0) ≡ commandOf c (take n v)
   unfolding commandOf
   cancels p q =
-      rw (p, q) (five (λ v. Cancels (getD v 0 0) (getD v 1 0) ≡ commandOf 67 (take 2 v)) (λ a b d e f. refl) v h)
+      rw (p, q) (six (λ v. Cancels (getD v 0 0) (getD v 1 0) ≡ commandOf 67 (take 2 v)) (λ a b d e f g. refl) v h)
 
-  pub enters : c ≡ 79 → n ≡ 5 → Enters (askedOf v) ≡ commandOf c (take n v)
+  pub enters : c ≡ 79 → n ≡ 5 → Enters (askedOf v 0) ≡ commandOf c (take n v)
   unfolding commandOf
-  enters p q = rw (p, q) (five (λ v. Enters (askedOf v) ≡ commandOf 79 (take 5 v)) (λ a b d e f. refl) v h)
+  enters p q = rw (p, q) (six (λ v. Enters (askedOf v 0) ≡ commandOf 79 (take 5 v)) (λ a b d e f g. refl) v h)
 
-  pub unwanted : n ≤ 5 → Unwanted c n → Malformed ≡ commandOf c (take n v)
+  pub enters-with : c ≡ 79 → n ≡ 6 → Enters (askedOf v (getD v 5 0)) ≡ commandOf c (take n v)
+  unfolding commandOf
+  enters-with p q =
+      rw (p, q)
+      (six (λ v. Enters (askedOf v (getD v 5 0)) ≡ commandOf 79 (take 6 v)) (λ a b d e f g. refl) v h)
+
+  pub unwanted : n ≤ 6 → Unwanted c n → Malformed ≡ commandOf c (take n v)
   unwanted f u =
       let l : length (take n v) ≡ n = length-take-le n v (omega arith) in
       sym (unwanted-is c (take n v) (rw l u))
 
 -- ---- a letter with the numbers of a line
 
--- the first n of five numbers are read, and those behind a place are still to come
+-- the first n of six numbers are read, and those behind a place are still to come
 pub record Gathered (s values : List ℕ) (n i : ℕ) : Type 0 where
-  pub long : length values ≡ 5
-  pub few : n ≤ 5
+  pub long : length values ≡ 6
+  pub few : n ≤ 6
   pub within : i ≤ length s
   pub all : numbersAfter (drop 1 s) ≡ ahead (take n values) (numbersAfter (drop i s))
 
@@ -99,18 +107,18 @@ found-bad : (o : Option ℕ) → found o ≡ Bad → o ≡ none
 found-bad none e = refl
 found-bad (some w) e = let z : _≡_ {A = ℕ} 0 1 = cc in absurd (omega arith)
 
-pub gather-starts : (s : List ℕ) → 1 ≤ length s → Gathered s (0 ∷ 0 ∷ 0 ∷ 0 ∷ 0 ∷ []) 0 1
+pub gather-starts : (s : List ℕ) → 1 ≤ length s → Gathered s (0 ∷ 0 ∷ 0 ∷ 0 ∷ 0 ∷ 0 ∷ []) 0 1
 gather-starts s h = record { long = refl; few = omega arith; within = h; all = ahead-none _ }
 
--- no letter wants a sixth number
-sixth :
+-- no letter wants a seventh number
+seventh :
     (c : ℕ) (values : List ℕ)
-    → length values ≡ 5
+    → length values ≡ 6
     → (v : ℕ) (o : Option (List ℕ))
-    → Malformed ≡ commandWith c (ahead (take 5 values) (ahead (v ∷ []) o))
+    → Malformed ≡ commandWith c (ahead (take 6 values) (ahead (v ∷ []) o))
 unfolding commandWith commandOf
-sixth c values h v none = refl
-sixth c values h v (some ns) = five (λ w. Malformed ≡ commandOf c (take 5 w ++ v ∷ ns)) (λ a b d e f. refl) values h
+seventh c values h v none = refl
+seventh c values h v (some ns) = six (λ w. Malformed ≡ commandOf c (take 6 w ++ v ∷ ns)) (λ a b d e f g. refl) values h
 
 module _ (s values : List ℕ) (n i : ℕ) (g : Gathered s values n i) where
   pub gather-ends : (c : ℕ) → length s ≤ i → commandOf c (take n values) ≡ commandWith c (numbersAfter (drop 1 s))
@@ -129,18 +137,18 @@ module _ (s values : List ℕ) (n i : ℕ) (g : Gathered s values n i) where
     unfolding commandWith
     bad-word c e = sym (ap (commandWith c) (g .all ∙ ap (ahead (take n values)) (number-bad s i h e)))
 
-    pub gather-many : (c : ℕ) → n ≡ 5 → Malformed ≡ commandWith c (numbersAfter (drop 1 s))
+    pub gather-many : (c : ℕ) → n ≡ 6 → Malformed ≡ commandWith c (numbersAfter (drop 1 s))
     gather-many c e = go (numberOf word) refl
       where
         go : (o : Option ℕ) → numberOf word ≡ o → Malformed ≡ commandWith c (numbersAfter (drop 1 s))
         go none p = bad-word c p
         go (some v) p =
-            sixth c values (g .long) v (numbersAfter (drop (i + 1 + length word) s))
+            seventh c values (g .long) v (numbersAfter (drop (i + 1 + length word) s))
             ∙ sym
             (ap (commandWith c)
             (g .all
             ∙ ap (λ (k : ℕ). ahead (take k values) (numbersAfter (drop i s))) e
-            ∙ ap (ahead (take 5 values)) (number-next s i h v p)))
+            ∙ ap (ahead (take 6 values)) (number-next s i h v p)))
 
     -- the word ends at e, and o is what was made of it
     module _ (e : ℕ) (o : Number) (ends : e ≡ i + 1 + length word) (is : o ≡ found (numberOf (take (e - (i + 1)) (drop (i + 1) s)))) where
@@ -154,7 +162,7 @@ module _ (s values : List ℕ) (n i : ℕ) (g : Gathered s values n i) where
       pub gather-bad : (c : ℕ) → o ≡ Bad → Malformed ≡ commandWith c (numbersAfter (drop 1 s))
       gather-bad c p = bad-word c (found-bad _ (sym heard ∙ p))
 
-      pub gather-on : (v : ℕ) → (n ≡ 5 → ⊥) → o ≡ Is v → Gathered s (set values n v) (n + 1) e
+      pub gather-on : (v : ℕ) → (n ≡ 6 → ⊥) → o ≡ Is v → Gathered s (set values n v) (n + 1) e
       gather-on v f p =
           let q : numberOf word ≡ some v = found-is (numberOf word) v (sym heard ∙ p) in
           let l = g .long in

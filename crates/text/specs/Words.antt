@@ -22,10 +22,17 @@ abbrev pub found : Option ℕ → Number
 found none = Bad
 found (some n) = Is n
 
--- an order's five numbers
-abbrev pub askedOf : List ℕ → Asked
-askedOf v =
-    record { side = getD v 0 0; kind = getD v 1 0; account = getD v 2 0; quantity = getD v 3 0; price = getD v 4 0 }
+-- an order's five numbers, with its balance
+abbrev pub askedOf : List ℕ → ℕ → Asked
+askedOf v balance =
+    record {
+      side = getD v 0 0;
+      kind = getD v 1 0;
+      account = getD v 2 0;
+      quantity = getD v 3 0;
+      price = getD v 4 0;
+      balance = balance;
+    }
 
 -- the numbers behind the first byte, which is a space; none at the line's end
 unfoldable pub numbersAfter : List ℕ → Option (List ℕ)

@@ -71,9 +71,9 @@ fn number_of(word: &[u8]) -> Number
     Number::Is(value)
 }
 
-// Five numbers as an order that is asked for.
-fn asked(v: [u64; 5]) -> Asked
-    ensures { λ r. ⌜ r ≡ askedOf v ⌝ }
+// Five numbers and a balance as an order that is asked for.
+fn asked(v: [u64; 6], balance: u64) -> Asked
+    ensures { λ r. ⌜ r ≡ askedOf v balance ⌝ }
 {
     Asked {
         side: v[0],
@@ -81,12 +81,13 @@ fn asked(v: [u64; 5]) -> Asked
         account: v[2],
         quantity: v[3],
         price: v[4],
+        balance: balance,
     }
 }
 
-// A letter wants its own count of numbers.
-fn asked_for(letter: u8, n: usize, v: [u64; 5]) -> Command
-    requires { ⌜ n ≤ 5 ⌝ }
+// A letter wants its own count of numbers. An order may leave out the sixth, its balance.
+fn asked_for(letter: u8, n: usize, v: [u64; 6]) -> Command
+    requires { ⌜ n ≤ 6 ⌝ }
     ensures { λ r. ⌜ r ≡ commandOf letter (take n v) ⌝ }
 {
     if letter == b'T' {
@@ -115,22 +116,25 @@ fn asked_for(letter: u8, n: usize, v: [u64; 5]) -> Command
     }
     if letter == b'O' {
         if n == 5 {
-            return Command::Enters(asked(v));
+            return Command::Enters(asked(v, 0));
+        }
+        if n == 6 {
+            return Command::Enters(asked(v, v[5]));
         }
     }
     Command::Malformed
 }
 
-// The letter with the numbers behind it. No letter wants a sixth number.
+// The letter with the numbers behind it. No letter wants a seventh number.
 fn numbered(letter: u8, line: &[u8]) -> Command
     requires { ⌜ 1 ≤ length (now line) ⌝ }
     ensures { λ r. ⌜ r ≡ commandWith letter (numbersAfter (drop 1 (now (line .entry)))) ⌝ }
 {
-    let mut values = [0u64; 5];
+    let mut values = [0u64; 6];
     let mut n: usize = 0;
     let mut i: usize = 1;
     while i < line.len() {
-        if n == 5 {
+        if n == 6 {
             return Command::Malformed;
         }
         let start = i + 1;
