@@ -14,7 +14,7 @@ static uint64_t proved_open(struct lent *m, const uint64_t *a) {
 
 static uint64_t proved_order(struct lent *m, const uint64_t *a) {
     return flemorix_order(m->day, m->day_length, m->book, m->book_length, m->list, m->list_length, m->reply, m->reply_length,
-                          a[0], a[1], a[2], a[3], a[4]);
+                          a[0], a[1], a[2], a[3], a[4], a[5]);
 }
 
 static uint64_t proved_cancel(struct lent *m, const uint64_t *a) {

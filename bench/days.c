@@ -43,13 +43,25 @@ static void random_lengths(void) {
     lend(m->day_length, m->book_length, list, once_in(2) ? 48 : chance(70));
 }
 
+/* Nothing, the quantity, one beside it, or any number. */
+static uint64_t any_balance(uint64_t quantity) {
+    const uint64_t balances[] = {0, quantity, quantity - 1, quantity + 1, chance(200), any_number()};
+    return balances[chance(sizeof balances / sizeof balances[0])];
+}
+
+/* Some sells are of a whole balance below 100 shares; of the others, and of few buys, the balance is any. */
 static void random_order(const struct plan *plan, uint64_t *a) {
     a[0] = chance(2);
     a[1] = once_in(2) ? 0 : chance(5);
     a[2] = 1 + chance(3);
     a[3] = 100 * (1 + chance(once_in(4) ? 40 : 5)) + (once_in(5) ? chance(100) : 0);
     a[4] = random_price(plan);
-    if (once_in(12)) a[chance(5)] = edge();
+    if (once_in(a[0] ? 6 : 40)) a[3] = once_in(3) ? 1 : once_in(2) ? 99 : chance(102);
+    if (a[0] && a[3] < 100)
+        a[5] = once_in(4) ? any_balance(a[3]) : a[3];
+    else
+        a[5] = a[0] || once_in(20) ? any_balance(a[3]) : 0;
+    if (once_in(12)) a[chance(ASKED)] = edge();
 }
 
 static void random_cancel(uint64_t *a) {
@@ -108,7 +120,7 @@ static int pick_call(void) {
 }
 
 static void one_call(const struct plan *plan) {
-    uint64_t a[5] = {0};
+    uint64_t a[ASKED] = {0};
     int which = pick_call();
     random_lengths();
     if (which == OPEN) {

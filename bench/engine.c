@@ -204,8 +204,15 @@ uint64_t engine_open(struct lent *m, const uint64_t *asked) {
 /* ---- orders */
 
 struct wish {
-    uint64_t side, kind, account, quantity, price;
+    uint64_t side, kind, account, quantity, price, balance;
 };
+
+/* Who sells less than 100 shares sells all that the account has of them. Who buys has no balance to name. */
+static bool quantity_passes(const struct wish *w) {
+    if (w->side == 0 && w->balance) return false;
+    if (w->quantity < 100) return w->side == 1 && w->quantity && w->quantity == w->balance;
+    return w->quantity <= 1000000;
+}
 
 static bool in_range(const struct wish *w) {
     int own = (int)w->side, other = 1 - own;
@@ -226,7 +233,7 @@ static uint64_t order_refusal(const struct wish *w) {
     if (!w->account) return 3;
     if (phase != 1 && phase != 2 && phase != 4 && phase != 6) return 4;
     if (w->kind && (phase != 4 || !day.limited)) return 5;
-    if (w->quantity < 100 || w->quantity > 1000000) return 6;
+    if (!quantity_passes(w)) return 6;
     if (!is_price(w->price)) return 7;
     if (day.limited && !in_band(w->price)) return 8;
     if (!w->kind && phase == 4 && !in_range(w)) return 9;
@@ -271,7 +278,7 @@ static uint64_t rest_price(const struct wish *w, uint64_t limit, uint64_t own_be
 }
 
 uint64_t engine_order(struct lent *m, const uint64_t *asked) {
-    struct wish w = {asked[0], asked[1], asked[2], asked[3], asked[4]};
+    struct wish w = {asked[0], asked[1], asked[2], asked[3], asked[4], asked[5]};
     if (!load(m)) return answer(m, 15, NULL, 5);
     uint64_t refusal = order_refusal(&w);
     if (refusal) return answer(m, refusal, NULL, 5);

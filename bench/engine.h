@@ -14,9 +14,11 @@ struct lent {
     size_t day_length, book_length, list_length, reply_length;
 };
 
+enum { ASKED = 6 }; /* no call is asked with more numbers */
+
 /* The six calls, each with its numbers in the order in which docs/C.md names them. They return the refusal number. */
 uint64_t engine_open(struct lent *m, const uint64_t *asked);   /* close, mark */
-uint64_t engine_order(struct lent *m, const uint64_t *asked);  /* side, kind, account, quantity, price */
+uint64_t engine_order(struct lent *m, const uint64_t *asked);  /* side, kind, account, quantity, price, balance */
 uint64_t engine_cancel(struct lent *m, const uint64_t *asked); /* account, number */
 uint64_t engine_clock(struct lent *m, const uint64_t *asked);  /* time */
 uint64_t engine_report(struct lent *m, const uint64_t *asked);

@@ -43,24 +43,29 @@ static uint64_t price(void) { return close_price - 128 + byte(); }
 static void check(int which, const uint64_t *asked) {
     compare(0, which, asked);
     if (!failed) return;
-    printf("asked: %llu %llu %llu %llu %llu\n", (unsigned long long)asked[0], (unsigned long long)asked[1],
-           (unsigned long long)asked[2], (unsigned long long)asked[3], (unsigned long long)asked[4]);
+    printf("asked:");
+    for (int i = 0; i < ASKED; i++) printf(" %llu", (unsigned long long)asked[i]);
+    printf("\n");
     fflush(stdout);
     abort();
 }
 
-/* An order that is likely to be taken: side and kind in one byte, 100 to 1,600 shares and 0 to 3 more. */
+/* An order that is likely to be taken: side and kind in one byte, 100 to 1,600 shares and 0 to 3 more. The last byte is 0 for no
+ * balance; 1 to 101 for so many shares with that balance, or with one beside it where the byte of the shares has its highest bit;
+ * and 90 more than the balance above that. */
 static void enter_likely(void) {
-    uint64_t chosen = byte(), shares = byte();
-    const uint64_t asked[5] = {chosen % 2, chosen / 2 % 8 < 5 ? chosen / 2 % 8 : 0, 1 + chosen / 16 % 4,
-                               100 * (1 + shares % 16) + shares / 64, price()};
+    uint64_t chosen = byte(), shares = byte(), at = price(), lot = byte();
+    uint64_t quantity = 100 * (1 + shares % 16) + shares / 64, balance = lot > 101 ? lot - 90 : lot ^ (lot ? shares / 128 : 0);
+    if (lot >= 1 && lot <= 101) quantity = lot;
+    const uint64_t asked[ASKED] = {chosen % 2, chosen / 2 % 8 < 5 ? chosen / 2 % 8 : 0, 1 + chosen / 16 % 4, quantity, at,
+                                   balance};
     check(ORDER, asked);
 }
 
 static void call_with_any_numbers(void) {
     int which = (int)(byte() % CALLS);
-    uint64_t asked[5];
-    for (int i = 0; i < 5; i++) asked[i] = number();
+    uint64_t asked[ASKED];
+    for (int i = 0; i < ASKED; i++) asked[i] = number();
     check(which, asked);
 }
 
@@ -69,18 +74,18 @@ static void cancel_place(void) {
     size_t places = lent.book_length / 40;
     if (!places) return;
     size_t place = byte() % places;
-    const uint64_t asked[5] = {number_at(lent.book, 5 * place + 1), number_at(lent.book, 5 * place + 4)};
+    const uint64_t asked[ASKED] = {number_at(lent.book, 5 * place + 1), number_at(lent.book, 5 * place + 4)};
     check(CANCEL, asked);
 }
 
 static void move_clock(void) {
     static const uint64_t times[] = {33300, 33600, 33900, 34200, 41400, 46800, 53820, 54000};
-    const uint64_t asked[5] = {times[byte() % 8]};
+    const uint64_t asked[ASKED] = {times[byte() % 8]};
     check(CLOCK, asked);
 }
 
 static void ask(void) {
-    const uint64_t asked[5] = {price()};
+    const uint64_t asked[ASKED] = {price()};
     check(byte() % 2 ? REPORT : LIST, asked);
 }
 
@@ -140,7 +145,7 @@ int LLVMFuzzerTestOneInput(const uint8_t *data, size_t length) {
     close_price = closes[chosen / 8 % 4];
     clear_memory(0x5a);
     lend(64, 40 * sizes[chosen % 8] + chosen / 64, 64 * TRADE_BYTES, 48);
-    const uint64_t opening[5] = {close_price, chosen / 32 % 2};
+    const uint64_t opening[ASKED] = {close_price, chosen / 32 % 2};
     check(OPEN, opening);
     for (int i = 0; i < STEPS && input_left; i++) take_step(byte());
     return 0;

@@ -1,11 +1,12 @@
-/* The rehearsed situations of the rules and their whole session, with the numbers that the rules print. */
+/* The rehearsed situations of the rules and their whole session, with the numbers that the rules print, and the edges of quantity
+ * and balance. */
 #include "../include/flemorix.h"
 #include "compare.h"
 #include "runs.h"
 #include <string.h>
 
 static uint64_t make(int which, uint64_t a, uint64_t b, uint64_t c, uint64_t d, uint64_t e) {
-    const uint64_t asked[] = {a, b, c, d, e};
+    const uint64_t asked[ASKED] = {a, b, c, d, e};
     return compare(0, which, asked);
 }
 
@@ -100,6 +101,71 @@ static void run_refusals(void) {
     expect("kind 2 at 33,300", buy_of_kind(2, 7, 100, 1000), 5);
 }
 
+/* ---- odd lots */
+
+/* Which balances a side and quantity are taken with. */
+enum balances { NONE, ZERO, SAME, ANY };
+
+static const struct {
+    uint64_t side, quantity;
+    enum balances with;
+} lots[] = {
+    {0, 0, NONE}, {0, 1, NONE}, {0, 99, NONE}, {0, 100, ZERO}, {0, 101, ZERO}, {0, 1000000, ZERO}, {0, 1000001, NONE},
+    {1, 0, NONE}, {1, 1, SAME}, {1, 99, SAME}, {1, 100, ANY},  {1, 101, ANY},  {1, 1000000, ANY},  {1, 1000001, NONE},
+};
+
+static uint64_t enter(uint64_t side, uint64_t kind, uint64_t quantity, uint64_t balance, uint64_t price) {
+    const uint64_t asked[ASKED] = {side, kind, 7, quantity, price, balance};
+    return compare(0, ORDER, asked);
+}
+
+/* Each row with each balance, on a day with an order on either side. */
+static void run_lots(uint64_t kind) {
+    for (size_t i = 0; i < sizeof lots / sizeof lots[0]; i++) {
+        uint64_t side = lots[i].side, quantity = lots[i].quantity;
+        const uint64_t balances[] = {0, 1, 2, 98, 99, 100, 101, 102, 1000000, 1000001, UINT32_MAX, 99 + (1ull << 32), UINT64_MAX};
+        open_at(1000, 34200);
+        buy(300, 990), sell(300, 1000);
+        for (size_t b = 0; b < sizeof balances / sizeof balances[0]; b++) {
+            int taken = lots[i].with == ANY || (lots[i].with == ZERO && !balances[b]) ||
+                        (lots[i].with == SAME && balances[b] == quantity);
+            expect(side ? "a sell's quantity and balance" : "a buy's quantity and balance",
+                   enter(side, kind, quantity, balances[b], side ? 990 : 1000), taken ? 0 : 6);
+        }
+    }
+}
+
+/* 5 is tested before 6, and 7, 8 and 9 after it. */
+static void run_turns(void) {
+    open_at(1000, 33300);
+    expect("part of a balance, kind 2 at 33,300", enter(1, 2, 98, 99, 0), 5);
+    expect("buy with a balance, kind 1 at 33,300", enter(0, 1, 100, 100, 0), 5);
+    expect("part of a balance, price 0", enter(1, 0, 98, 99, 0), 6);
+    expect("buy with a balance, price 0", enter(0, 0, 100, 100, 0), 6);
+    expect("odd lot, price 0", enter(1, 0, 99, 99, 0), 7);
+    expect("odd lot outside the band", enter(1, 0, 99, 99, 699), 8);
+    move_to(34200);
+    expect("odd lot outside the range", enter(1, 0, 99, 99, 949), 9);
+    expect("odd lot inside it", enter(1, 0, 99, 99, 950), 0);
+}
+
+/* An odd lot rests, and trades when its turn comes. An account may name a balance again: nothing keeps it. */
+static void run_odd_lot(void) {
+    open_at(1000, 34200);
+    enter(1, 0, 37, 37, 1000), enter(1, 0, 37, 37, 1000);
+    expect("odd lot: resting", value(3), 37);
+    expect("odd lot: left in the book", number_at(lent.book, 2), 37);
+    buy(100, 1000);
+    expect("odd lots: filled", value(2), 74);
+    expect_left("odd lots: after the first", 0, 63, 0);
+    expect_left("odd lots: after the second", 1, 26, 0);
+    enter(1, 3, 37, 37, 1000);
+    expect("odd lot on entry: filled", value(2), 26);
+    expect("odd lot on entry: withdrawn", value(4), 11);
+}
+
+/* ---- five prices */
+
 static void open_with_six_sells(void) {
     open_at(1000, 34200);
     for (uint64_t p = 1001; p <= 1006; p++) sell(100, p);
@@ -128,6 +194,9 @@ void run_situations(void) {
     run_auctions();
     run_ranges();
     run_refusals();
+    for (uint64_t kind = 0; kind < 5; kind++) run_lots(kind);
+    run_turns();
+    run_odd_lot();
     run_five_prices();
 }
 

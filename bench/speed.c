@@ -36,7 +36,7 @@ static void prepare(uint64_t time, size_t live, int cross) {
 struct measured {
     const char *name;
     int which, cross;
-    uint64_t time, asked[5];
+    uint64_t time, asked[ASKED];
 };
 
 static const struct measured cases[CASES] = {

@@ -49,7 +49,7 @@ enum flemorix_refusal {
     FLEMORIX_ACCOUNT = 3,    /* order account 0 */
     FLEMORIX_PHASE = 4,      /* the phase takes no order, or no cancel */
     FLEMORIX_KIND = 5,       /* kind 1 to 4 outside phase 4 or on an unlimited day */
-    FLEMORIX_QUANTITY = 6,   /* quantity not 100 to 1,000,000 */
+    FLEMORIX_QUANTITY = 6,   /* quantity not 100 to 1,000,000, nor all of a sell's balance below 100; or a buy with a balance */
     FLEMORIX_PRICE = 7,      /* price not 1 to 999,999 */
     FLEMORIX_BAND = 8,       /* outside the band */
     FLEMORIX_RANGE = 9,      /* outside the order range */
@@ -65,11 +65,13 @@ enum flemorix_refusal {
 uint64_t flemorix_open(uint8_t *day, size_t day_length, uint8_t *book, size_t book_length, uint8_t *reply,
                        size_t reply_length, uint64_t close, uint64_t mark);
 
-/* Enters an order: side 0 buys, 1 sells; for kinds 1 to 4 the price is the protection limit. Its trades stand at the front of the
- * trade list, the rest of which stays. Reply: number, filled, resting, withdrawn, levels. 15, 2 to 11, 13. */
+/* Enters an order: side 0 buys, 1 sells; for kinds 1 to 4 the price is the protection limit. The balance is what a seller's account
+ * has of the share: a sell of 1 to 99 is taken where it equals the balance, one of 100 and more with any. A buy has 0 there. Its
+ * trades stand at the front of the trade list, the rest of which stays. Reply: number, filled, resting, withdrawn, levels.
+ * 15, 2 to 11, 13. */
 uint64_t flemorix_order(uint8_t *day, size_t day_length, uint8_t *book, size_t book_length, uint8_t *trades,
                         size_t trades_length, uint8_t *reply, size_t reply_length, uint64_t side, uint64_t kind,
-                        uint64_t account, uint64_t quantity, uint64_t price);
+                        uint64_t account, uint64_t quantity, uint64_t price, uint64_t balance);
 
 /* Takes out the live order with this number and account. Reply: the shares withdrawn. 15, 4, 12. */
 uint64_t flemorix_cancel(const uint8_t *day, size_t day_length, uint8_t *book, size_t book_length, uint8_t *reply,

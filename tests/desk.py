@@ -5,8 +5,8 @@
     tests/desk.py --every-price ..   the same, but an auction whose orders lie within 2,000 fen tries every price between the
                                      lowest and the highest, not only those that can matter
 
-Written from document 01 and its readings in docs/DECISIONS.md alone, without the program's code or its definitions. It is
-slow and plain on purpose: one list of live orders, searched from end to end.
+Written from document 01, the requests that have changed it, and their readings in docs/DECISIONS.md alone, without the program's
+code or its definitions. It is slow and plain on purpose: one list of live orders, searched from end to end.
 """
 import re
 import sys
@@ -62,6 +62,14 @@ def meets(side, limit, price):
 def within(side, limit, price):
     """The price, or the limit where the price lies beyond it."""
     return price if meets(side, limit, price) else limit
+
+
+def passes_quantity(side, quantity, balance):
+    """From 100 shares up on both sides, and a sell of a smaller balance in one go. A buy names no balance."""
+    if side == BUY and balance != 0:
+        return False
+    in_one_go = side == SELL and 1 <= quantity <= 99 and quantity == balance
+    return in_one_go or 100 <= quantity <= 1_000_000
 
 
 class Auction:
@@ -203,7 +211,7 @@ class Day:
             return price * 100 <= base * 105 or price <= base + 10
         return price * 100 >= base * 95 or price >= base - 10
 
-    def refuse_order(self, side, kind, account, quantity, price):
+    def refuse_order(self, side, kind, account, quantity, price, balance):
         _, phase, takes_orders, _ = self.row(self.time)
         if side not in (BUY, SELL) or kind > 4:
             raise Refused(2)
@@ -213,7 +221,7 @@ class Day:
             raise Refused(4)
         if kind != 0 and (phase != 4 or not self.limited):
             raise Refused(5)
-        if not 100 <= quantity <= 1_000_000:
+        if not passes_quantity(side, quantity, balance):
             raise Refused(6)
         if not 1 <= price <= LARGEST_PRICE:
             raise Refused(7)
@@ -239,8 +247,8 @@ class Day:
         price = within(side, limit, price)
         return [o for o in queue if meets(side, price, o.price)], price
 
-    def enter_order(self, side, kind, account, quantity, limit):
-        self.refuse_order(side, kind, account, quantity, limit)
+    def enter_order(self, side, kind, account, quantity, limit, balance=0):
+        self.refuse_order(side, kind, account, quantity, limit, balance)
         own = self.best(side)
         partners, rests_at = self.partners(side, kind, limit)
         deals, left = [], quantity
@@ -284,15 +292,20 @@ class Day:
         raise Refused(12)
 
 
-HOW_MANY_NUMBERS = {b"D": 2, b"T": 1, b"O": 5, b"C": 2}
-FORMS = {letter: re.compile(letter + rb" (0|[1-9][0-9]*)" * count) for letter, count in HOW_MANY_NUMBERS.items()}
+NUMBER = rb" (0|[1-9][0-9]*)"
+FORMS = {
+    b"D": re.compile(b"D" + NUMBER * 2),
+    b"T": re.compile(b"T" + NUMBER),
+    b"O": re.compile(b"O" + NUMBER * 5 + b"(?:" + NUMBER + b")?"),  # the balance may be left out
+    b"C": re.compile(b"C" + NUMBER * 2),
+}
 
 
 def read_line(line):
     """Letter and numbers of a line without its newline; refused where it is not of the form."""
     form = FORMS.get(line[:1])
     found = form.fullmatch(line) if form and len(line) + 1 <= LONGEST_LINE else None
-    numbers = [int(text) for text in found.groups()] if found else []
+    numbers = [int(text) for text in found.groups() if text is not None] if found else []
     if not found or max(numbers) > LARGEST_WORD:
         raise Refused(16)
     return line[:1], numbers

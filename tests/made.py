@@ -48,7 +48,7 @@ class RandomDays:
             return self.cancel()
         if draw < 0.92:
             return self.order()
-        return self.fault() if draw < 0.96 else self.range_edge()
+        return self.fault() if draw < 0.95 else self.range_edge() if draw < 0.98 else self.quantity_edge()
 
     def move(self):
         """Mostly to the next phase or the one after, or a second beside one."""
@@ -74,8 +74,32 @@ class RandomDays:
         quantity = pick.choice([100, 200, pick.randint(100, self.most), self.most])
         if kind in (3, 4):
             quantity = min(quantity * pick.choice([1, 6]), 1_000_000)
-        numbers = (pick.randint(0, 1), kind, pick.randint(1, self.accounts), quantity, min(max(price, 1), 999_999))
-        return "O %d %d %d %d %d" % numbers
+        side, balance = pick.randint(0, 1), pick.choice(["", "", " 0"])
+        if side == desk.SELL and pick.random() < 0.3:
+            quantity, balance = self.lot(quantity)
+        numbers = (side, kind, pick.randint(1, self.accounts), quantity, min(max(price, 1), 999_999))
+        return "O %d %d %d %d %d" % numbers + balance
+
+    def lot(self, quantity):
+        """A sell with a balance, mostly one that is taken: a balance of 1 to 99 sold in one go, or any balance behind a whole
+        quantity."""
+        if self.source.random() < 0.6:
+            quantity = self.source.choice([1, 99, self.source.randint(1, 99)])
+            return quantity, self.source.choice([" %d" % quantity] * 7 + [self.any_balance(quantity)])
+        return quantity, self.any_balance(quantity)
+
+    def any_balance(self, quantity):
+        """The end of an order line: no balance, 0, the quantity, one beside it, or any number."""
+        pick = self.source
+        numbers = [0, quantity, max(quantity - 1, 0), quantity + 1, pick.randint(0, 200), pick.randint(0, 4_294_967_295)]
+        return pick.choice([""] + [" %d" % number for number in numbers])
+
+    def quantity_edge(self):
+        """An order at an edge of the quantities, on either side and of any kind, with any balance."""
+        pick = self.source
+        quantity = pick.choice([0, 1, 2, 98, 99, 100, 101, 1_000_000, 1_000_001])
+        numbers = (pick.randint(0, 1), pick.choice([0, 0, 1, 2, 3, 4]), quantity, self.close)
+        return "O %d %d 1 %d %d" % numbers + self.any_balance(quantity)
 
     def range_edge(self):
         """A limit order at an edge of its range, or just beyond, whatever its base is."""
@@ -95,6 +119,7 @@ class RandomDays:
                 "O 0 %d 1 100 %d" % (pick.randint(0, 5), close),
                 "O 1 0 %d 100 %d" % (account, close),
                 "O 1 0 1 %d %d" % (pick.choice([99, 100, 1_000_000, 1_000_001]), close),
+                "O 1 0 1 99 %d 99 %s" % (close, pick.choice(["", "0", "99"])),
                 "O %d %d 1 100 %d" % (pick.randint(0, 1), pick.choice([0, 3]), close * 13 // 10 + pick.randint(0, 1)),
                 "O %d %d 1 100 %d" % (pick.randint(0, 1), pick.choice([0, 4]), close * 7 // 10 + pick.randint(0, 1)),
                 "O 0 0 1 100 %d" % pick.choice([0, 1, 999_999, 1_000_000]),
@@ -113,6 +138,7 @@ def full_book():
     lines += ["O %d 0 %d %d %d" % (n % 2, n, 100 + n, 990 + 20 * (n % 2)) for n in range(1, 1025)]
     lines += ["O 0 0 7 100 1000", "O 0 0 7 100 1301", "O 0 0 0 100 1000", "T 34200"]
     lines += ["O 0 0 7 100 1010", "O 0 3 7 100 1300", "O 1 1 7 100 700", "O 0 0 7 100 1061", "O 0 0 7 99 1000"]
+    lines += ["O 1 0 7 99 1010 99", "O 1 0 7 99 1010 98", "O 0 0 7 100 1010 100"]
     lines += ["C 512 512", "O 1 3 7 100 700", "O 1 0 7 100 990", "O 0 0 7 100 1000", "O 0 3 7 100 1300"]
     lines += ["C 7 1027", "O 0 0 7 100 1010", "O 0 4 7 1000 1300", "T 53820", "O 0 0 7 100 1300", "O 1 0 8 100 700"]
     return text(lines + ["O 1 0 8 100 1000", "T 54000", "D 1000 1", "T 34200", "O 0 0 7 100 1000"])
@@ -143,7 +169,7 @@ def last_number():
 def every_byte():
     """Each form of a line with every byte at every position, in place of the one there and before it."""
     lines = [b"D 1000 1", b"T 33300"]
-    for good in (b"D 1000 1", b"T 33300", b"O 0 0 7 100 1000", b"C 7 1"):
+    for good in (b"D 1000 1", b"T 33300", b"O 0 0 7 100 1000", b"O 1 0 7 99 1000 99", b"C 7 1"):
         for at in range(len(good) + 1):
             for byte in range(256):
                 lines.append(good[:at] + bytes([byte]) + good[at:])
