@@ -71,10 +71,12 @@ pub fn pair_at(rows: &[[u64; 5]], trades: &mut [[u64; 6]], room: usize, price: u
     let mut sell = head_after(rows, 1, 0);
     let mut made: usize = 0;
     while 0 < left {
-        let quantity = smaller(left, smaller(buy.left, sell.left));
-        // What is left of the whole order, not of what the volume grants it.
-        let buyerleft = buy.left - quantity;
-        let sellerleft = sell.left - quantity;
+        let wanted = buy.left;
+        let offered = sell.left;
+        let quantity = smaller(left, smaller(wanted, offered));
+        // What is left is of the whole order, not of what the volume grants it.
+        let buyerleft = wanted - quantity;
+        let sellerleft = offered - quantity;
         let trade = Trade {
             price,
             quantity,

@@ -31,17 +31,17 @@ smaller-requires-2 : tie.Need-smaller-requires-2 Inv-loop μ-loop
 smaller-requires-2 c κs = search needs
 
 sub-buyerleft : tie.Need-sub-buyerleft Inv-loop μ-loop
-sub-buyerleft c = omega (arith, c .before .before .smaller .ensures, c .before .smaller2 .ensures)
+sub-buyerleft c = omega (arith, c .before .smaller .ensures, c .smaller2 .ensures)
 
 sub-sellerleft : tie.Need-sub-sellerleft Inv-loop μ-loop
-sub-sellerleft c = omega (arith, c .before .before .before .smaller .ensures, c .before .before .smaller2 .ensures)
+sub-sellerleft c = omega (arith, c .before .smaller .ensures, c .smaller2 .ensures)
 
 put-trade-below-requires : tie.Need-put-trade-below-requires Inv-loop μ-loop
 put-trade-below-requires c κs = search needs
 
 add-made : tie.Need-add-made Inv-loop μ-loop
 add-made c =
-    let heads = c .before .before .before .before .before in
+    let heads = c .before .before .before in
     let at-loop = heads .before .before .before in
     omega (
       arith,
@@ -60,7 +60,7 @@ head-past-requires-2 c κs = search needs
 
 loop-less : tie.Need-loop-less Inv-loop μ-loop
 loop-less c =
-    let heads = c .before .before .before .before .before .before .before in
+    let heads = c .before .before .before .before .before in
     let at-loop = heads .before .before .before in
     omega (
       arith,
@@ -70,7 +70,7 @@ loop-less c =
 
 loop-again : tie.Need-loop-again Inv-loop μ-loop
 loop-again c =
-    let heads = c .before .before .before .before .before .before .before in
+    let heads = c .before .before .before .before .before in
     let at-loop = heads .before .before .before in
     paired-next _ (at-loop .before .before .before .before .pre .0) _ _ _ (at-loop .loop .inv) (heads .before .before .loop-test .taken)
     (heads .before .smaller .ensures) (heads .smaller2 .ensures) (c .before .before .before .put-trade-below .ensures) (c .before .head-past .ensures)
