@@ -3,4 +3,5 @@ pub mod Balances
 pub mod Bytes
 pub mod OneLine
 pub mod Pendings
+pub mod Steps
 pub mod Sessions

@@ -5,7 +5,8 @@ use native.Mathlib.Omega.{arith}
 use lib.ListN.{length, take}
 use Rattle.text.proofs.Printed.{put-long}
 use Rattle.convert.specs.Promises.{textOf, Converts}
-use Rattle.convert.proofs.Pendings.{text-remembered, converts-none, next-room, converts-on, refused-short, converted-whole}
+use Rattle.convert.proofs.Pendings.{text-remembered}
+use Rattle.convert.proofs.Steps.{converts-none, next-room, converts-on, refused-short, converted-whole}
 use borrow.Author.Needs.{needs}
 use Rattle.convert.proofs.blocks.convert_block.Statement.{statement}
 use Rattle.convert.proofs.blocks.convert_block.Tie as tie

@@ -1,6 +1,6 @@
 -- A newline starts a new line; any other byte is remembered. Assumes nothing.
 use mathlib.Core.Path.{refl}
-use Rattle.convert.proofs.Pendings.{put-room, ends-line, goes-on}
+use Rattle.convert.proofs.Steps.{put-room, ends-line, goes-on}
 use borrow.Author.Needs.{needs}
 use Rattle.convert.proofs.blocks.convert_byte.Statement.{statement}
 use Rattle.convert.proofs.blocks.convert_byte.Tie as tie

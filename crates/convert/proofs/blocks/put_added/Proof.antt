@@ -3,7 +3,7 @@ use mathlib.Core.Path.{sym, _∙_}
 use native.Mathlib.Omega.{arith}
 use lib.ListN.{length-set}
 use borrow.Author.Tests.{not-true, not-false}
-use Rattle.convert.proofs.Pendings.{put-none, put-balance}
+use Rattle.convert.proofs.Steps.{put-none, put-balance}
 use borrow.Author.Needs.{needs}
 use Rattle.convert.proofs.blocks.put_added.Statement.{statement}
 use Rattle.convert.proofs.blocks.put_added.Tie as tie
