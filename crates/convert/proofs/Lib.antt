@@ -5,3 +5,4 @@ pub mod OneLine
 pub mod Pendings
 pub mod Steps
 pub mod Sessions
+pub mod Determined
