@@ -41,14 +41,16 @@ module _ (bytes : List ℕ) (n : ℕ) (long : length bytes ≡ 80) where
       ∙ ap (λ (t : List ℕ). t ++ (48 ∷ [])) e
       ∙ append-snoc (take n bytes) 32 (48 ∷ [])
 
-  balanced-long : length (set (set bytes n 32) (n + 1) 48) ≡ 80
-  balanced-long = length-set (set bytes n 32) (n + 1) 48 ∙ length-set bytes n 32 ∙ long
+  -- two bytes behind the line, whatever they are
+  module _ (x y : ℕ) where
+    abbrev two-more : List ℕ
+    two-more = set (set bytes n x) (n + 1) y
 
-  pub balance-room : n ≤ 77 → n + 2 ≤ length (set (set bytes n 32) (n + 1) 48)
-  balance-room h = omega (arith, balanced-long)
+    pub room-for-two : n ≤ 77 → n + 2 ≤ length two-more
+    room-for-two h = omega (arith, length-set (set bytes n x) (n + 1) y, length-set bytes n x)
 
-  pub balance-count : n ≤ 77 → n + 2 ≡ length (take (n + 2) (set (set bytes n 32) (n + 1) 48))
-  balance-count h = sym (length-take-le (n + 2) (set (set bytes n 32) (n + 1) 48) (balance-room h))
+    pub count-with-two : n ≤ 77 → n + 2 ≡ length (take (n + 2) two-more)
+    count-with-two h = sym (length-take-le (n + 2) two-more (room-for-two h))
 
   -- a line of more than 77 bytes is no order of five numbers
   pub too-long : 77 < n → false ≡ takenAsFive (record { text = take n bytes; ended = true })

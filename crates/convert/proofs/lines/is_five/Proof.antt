@@ -1,7 +1,7 @@
 -- The line with its balance is read, and tells what the line is; more than 77 bytes leave no room for one. Assumes nothing.
 use mathlib.Core.Path.{_≡_}
 use lib.ListN.{length}
-use Rattle.convert.proofs.Pendings.{balance-room, balance-count, too-long, balance-tells}
+use Rattle.convert.proofs.Pendings.{room-for-two, count-with-two, too-long, balance-tells}
 use borrow.Author.Needs.{needs}
 use Rattle.convert.proofs.lines.is_five.Statement.{statement}
 use Rattle.convert.proofs.lines.is_five.Tie as tie
@@ -25,10 +25,10 @@ add-end : tie.Need-add-end
 add-end c = search needs
 
 array-share-prefix-bytes : tie.Need-array-share-prefix-bytes
-array-share-prefix-bytes c = balance-room (c .before .before .args .line .bytes) _ (long (c .before .before)) (c .before .if1 .left)
+array-share-prefix-bytes c = room-for-two (c .before .before .args .line .bytes) _ (long (c .before .before)) _ _ (c .before .if1 .left)
 
 slice-aggregate-command-of : tie.Need-slice-aggregate-command-of
-slice-aggregate-command-of c = balance-count (c .before .before .before .args .line .bytes) _ (long (c .before .before .before)) (c .before .before .if1 .left)
+slice-aggregate-command-of c = count-with-two (c .before .before .before .args .line .bytes) _ (long (c .before .before .before)) _ _ (c .before .before .if1 .left)
 
 command-of-requires : tie.Need-command-of-requires
 command-of-requires c κs = search needs
