@@ -77,11 +77,11 @@ module _ (d : Day) (a : Asked) where
 -- ---- its numbers
 
 module _ (d : Day) (a : Asked) where
-  pub number-quantity : isQuantity (a .quantity) ≡ false → 6 ≡ firstOf (numberRules d a)
+  pub number-quantity : isQuantity (a .side) (a .quantity) (a .balance) ≡ false → 6 ≡ firstOf (numberRules d a)
   unfolding numberRules firstOf _when_
   number-quantity q = rw q
 
-  module _ (q : isQuantity (a .quantity) ≡ true) where
+  module _ (q : isQuantity (a .side) (a .quantity) (a .balance) ≡ true) where
     pub number-price : isPrice (a .price) ≡ false → 7 ≡ firstOf (numberRules d a)
     unfolding numberRules firstOf _when_
     number-price p = rw (q, p)

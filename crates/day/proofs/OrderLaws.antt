@@ -8,15 +8,15 @@ use native.Mathlib.Omega.{arith}
 use native.Mathlib.Nat.{mul-le-mul-right, mul-add}
 use native.Mathlib.Numerals.{add-one}
 use lib.ListN.{length, length-map, take}
-use lib.Dec.{leb, ltb, eqb}
-use borrow.Author.Tests.{eq-eqb, ne-eqb, eqb-false, ltb-false, leb-true, not-false}
+use lib.Dec.{ltb, eqb}
+use borrow.Author.Tests.{eq-eqb, ne-eqb, eqb-false, ltb-false, not-false}
 use Rattle.model.specs.declared.Order.{Order}
 use Rattle.model.specs.declared.Asked.{Asked}
 use Rattle.model.specs.declared.Trade.{Trade}
 use Rattle.model.specs.declared.Day.{Day}
 use Rattle.model.specs.declared.Remainder.{Remainder}
 use Rattle.model.specs.declared.OrderReply.the-variants.{Refused, Accepted}
-use Rattle.model.specs.Limits.{isPrice, isQuantity}
+use Rattle.model.specs.Limits.{isPrice}
 use Rattle.model.specs.Book.{best, other}
 use Rattle.model.specs.Matching.{filled, levels, lastPrice, settle, rest}
 use Rattle.model.specs.Lists.{total}
@@ -25,7 +25,7 @@ use Rattle.model.specs.Entry.{entryTrades, restPrice}
 use Rattle.model.specs.Refusals.{Rule, _when_, firstOf, unsound}
 use Rattle.model.specs.declared.OrderAnswer.{OrderAnswer}
 use Rattle.model.specs.Calls.{Outcome, written, orderRules, ended, placed, entered, orderCall}
-use Rattle.model.proofs.Bools.{and-right, true-or-false}
+use Rattle.model.proofs.Bools.{true-or-false}
 use Rattle.model.proofs.Rules.{hit, skip, Numbered, NoneHolds, none-holds, given-by, passed-by}
 use Rattle.book.specs.Rows.{bookOf, tradeOf, tradesOf, tradeRows}
 use Rattle.book.specs.Standing.{Price, Each}
@@ -33,6 +33,7 @@ use Rattle.book.specs.Writing.{front}
 use Rattle.book.proofs.Written.{front-trades, front-written}
 use Rattle.soundness.specs.SoundDay.{SoundDay}
 use Rattle.soundness.proofs.Clauses.{says-price}
+use Rattle.soundness.proofs.Sizes.{says-quantity, sized-most}
 use Rattle.matching.specs.declared.Swept.{Swept}
 use Rattle.matching.specs.Sweeping.{comesTo}
 use Rattle.matching.specs.Entering.{restAt}
@@ -133,13 +134,12 @@ module _ (d : Day) (a : Asked) (book : List Order) (room : ℕ) where
       let n : NoneHolds (orderRules d a book room) = none-holds (orderRules d a book room) numbered z in
       record {
         ready = ready-if d book (n .0);
-        quantity = small (a .quantity) (not-false _ (n .1 .1 .1 .1 .1 .0));
+        quantity =
+            sized-most (a .side) (a .quantity) (a .balance)
+            (says-quantity (a .side) (a .quantity) (a .balance) .0 (not-false _ (n .1 .1 .1 .1 .1 .0)));
         price = says-price (a .price) .0 (not-false _ (n .1 .1 .1 .1 .1 .1 .0)) .high;
         fits = ltb-false room (length (entryTrades d a book)) (n .1 .1 .1 .1 .1 .1 .1 .1 .1 .1 .1 .0);
       }
-    where
-      small : (q : ℕ) → isQuantity q ≡ true → q ≤ 1_000_000
-      small q e = unfold isQuantity in leb-true q 1_000_000 (and-right (leb 100 q) (leb q 1_000_000) e)
 
 -- ---- where what is left goes
 

@@ -26,7 +26,7 @@ hourRules d a =
 
 unfoldable pub numberRules : Day → Asked → List Rule
 numberRules d a =
-    6 when (not (isQuantity (a .quantity)))
+    6 when (not (isQuantity (a .side) (a .quantity) (a .balance)))
     ∷ 7 when (not (isPrice (a .price)))
     ∷ 8 when (eqb (d .limited) 1 && not (inBand (d .close) (a .price)))
     ∷ []

@@ -47,12 +47,12 @@ fn hour_refusal(d: Day, a: Asked) -> u64
     0
 }
 
-// 6: the quantity. 7: the price. 8: the band, on limited days.
+// 6: the quantity, with the balance. 7: the price. 8: the band, on limited days.
 fn number_refusal(d: Day, a: Asked) -> u64
     requires { ⌜ isPrice (d .close) ≡ true ⌝ }
     ensures { λ r. ⌜ r ≡ firstOf (numberRules d a) ⌝ }
 {
-    if !is_quantity(a.quantity) {
+    if !is_quantity(a.side, a.quantity, a.balance) {
         return 6;
     }
     if !is_price(a.price) {

@@ -15,7 +15,7 @@ use Rattle.model.specs.declared.Trade.{Trade}
 use Rattle.model.specs.declared.Day.{Day}
 use Rattle.model.specs.Lists.{all, total}
 use Rattle.model.specs.Clock.{takesOrders}
-use Rattle.model.specs.Limits.{isPrice, isQuantity, inBand}
+use Rattle.model.specs.Limits.{isPrice, inBand}
 use Rattle.model.specs.Book.{isLive}
 use Rattle.model.specs.Matching.{filled, settle, rest}
 use Rattle.model.specs.Figures.{nextNumber, issue, tally}
@@ -31,6 +31,8 @@ use Rattle.book.proofs.Kept.{New, free-number, set-each}
 use Rattle.book.proofs.Finding.{full, rest-set}
 use Rattle.soundness.specs.SoundDay.{InBand, Rests, Place, SoundDay}
 use Rattle.soundness.proofs.Clauses.{says-price, says-band}
+use Rattle.soundness.specs.Sized.{Sized}
+use Rattle.soundness.proofs.Sizes.{says-quantity, sized-most}
 use Rattle.soundness.proofs.SoundDays.{sound-day, day-sound, next-new}
 use Rattle.matching.proofs.EntryLaws.{entry-filled, remainder}
 use Rattle.matching.proofs.EntryKept.{entered-standing, entered-shares}
@@ -54,7 +56,7 @@ pub record Allowed (d : Day) (a : Asked) (book : List Order) : Type 0 where
   pub kind : a .kind ≤ 4
   pub account : a .account ≡ 0 → ⊥
   pub hours : takesOrders (d .time) ≡ true
-  pub least : 100 ≤ a .quantity
+  pub sized : Sized (a .side) (a .quantity) (a .balance)
   pub most : a .quantity ≤ 1_000_000
   pub price : Price (a .price)
   pub band : d .limited ≡ 1 → InBand (d .close) (a .price)
@@ -69,15 +71,6 @@ module _ (d : Day) (a : Asked) (book : List Order) (lent : List Trade) where
         leb-true (a .kind) 4 (and-right (leb (a .side) 1) (leb (a .kind) 4) h),
       )
 
-  in-size : not (isQuantity (a .quantity)) ≡ false → (100 ≤ a .quantity) × (a .quantity ≤ 1_000_000)
-  unfolding isQuantity
-  in-size e =
-      let q = a .quantity in
-      let h = not-false (leb 100 q && leb q 1_000_000) e in (
-        leb-true 100 q (and-left (leb 100 q) (leb q 1_000_000) h),
-        leb-true q 1_000_000 (and-right (leb 100 q) (leb q 1_000_000) h),
-      )
-
   in-band : (eqb (d .limited) 1 && not (inBand (d .close) (a .price))) ≡ false → d .limited ≡ 1 → InBand (d .close) (a .price)
   in-band e l = says-band (d .close) (a .price) .0 (not-false (inBand (d .close) (a .price)) (and-true (eq-eqb (d .limited) 1 l) e))
 
@@ -90,14 +83,14 @@ module _ (d : Day) (a : Asked) (book : List Order) (lent : List Trade) where
       let n : NoneOf (orderRules d a book (length lent)) =
       gives-none (orderRules d a book (length lent)) (order-numbers d a book lent) z in
       let form = in-form (n .1 .0) in
-      let size = in-size (n .1 .1 .1 .1 .1 .0) in
+      let size = says-quantity (a .side) (a .quantity) (a .balance) .0 (not-false _ (n .1 .1 .1 .1 .1 .0)) in
       record {
         side = form .0;
         kind = form .1;
         account = eqb-false (a .account) 0 (n .1 .1 .0);
         hours = not-false (takesOrders (d .time)) (n .1 .1 .1 .0);
-        least = size .0;
-        most = size .1;
+        sized = size;
+        most = sized-most (a .side) (a .quantity) (a .balance) size;
         price = says-price (a .price) .0 (not-false (isPrice (a .price)) (n .1 .1 .1 .1 .1 .1 .0));
         band = in-band (n .1 .1 .1 .1 .1 .1 .1 .0);
         place = has-place (n .1 .1 .1 .1 .1 .1 .1 .1 .1 .0);

@@ -29,6 +29,7 @@ use Rattle.matching.proofs.EntryLaws.{entry-cases, taker, entry-filled, entry-l
 use Rattle.demands.specs.Entering.{With, InPriority, Accepted}
 use Rattle.demands.proofs.Elements.{some-map}
 use Rattle.demands.proofs.Cases.{order-cases}
+use Rattle.demands.proofs.Entered.{Allowed, allowed}
 
 -- ---- whom it trades with, in which order
 
@@ -133,10 +134,11 @@ module _ (d : Day) (a : Asked) (book : List Order) where
   abbrev entry : Entry
   entry = record { number = nextNumber d; filled = filled ts; levels = levels ts; remainder = ended left at }
 
-  entry-accepted : (lent : List Trade) → Accepted d a book lent entry (entered d a book lent)
+  entry-accepted : (lent : List Trade) → Allowed d a book → Accepted d a book lent entry (entered d a book lent)
   unfolding entered nextNumber
-  entry-accepted lent =
+  entry-accepted lent k =
       record {
+        sized = k .sized;
         number = refl;
         made = refl;
         trades = refl;
@@ -164,7 +166,7 @@ pub accepted :
 accepted d a book lent e =
     order-cases d a book lent
     (λ o. o .answer .reply ≡ OrderReply.the-variants.Accepted e → Accepted d a book lent e o)
-    (λ _ r. let z : entry d a book ≡ e = same r in rw (← z) (entry-accepted d a book lent))
+    (λ n r. let z : entry d a book ≡ e = same r in rw (← z) (entry-accepted d a book lent (allowed d a book lent n)))
     (λ _ r. absurd (apart r))
   where
     same : entered d a book lent .answer .reply ≡ OrderReply.the-variants.Accepted e → entry d a book ≡ e

@@ -1,4 +1,4 @@
--- Demand 2, one accepted order: its shares add up, and nothing is beyond its limit.
+-- Demand 2, one accepted order: its quantity may be asked for, its shares add up, and nothing is beyond its limit.
 use Prim.Native.Nat.{ℕ, suc, _+_, _≤_}
 use mathlib.Core.Path.{_≡_}
 use mathlib.Core.Bool.{true}
@@ -19,6 +19,7 @@ use Rattle.model.specs.Entry.{opposite, entryTrades, restPrice}
 use Rattle.model.specs.Replies.{restingOf, withdrawnOf}
 use Rattle.model.specs.Calls.{Outcome, written, placed, orderCall}
 use Rattle.book.specs.Standing.{Each}
+use Rattle.soundness.specs.Sized.{Sized}
 use Rattle.matching.proofs.Trades.{Some}
 
 -- filled, resting and withdrawn add up to the quantity; filled and levels are those of the trades; kinds 3 and 4 have at
@@ -52,6 +53,7 @@ InPriority a book ts =
 
 -- for every accepted order, from any day and book
 pub record Accepted (d : Day) (a : Asked) (book : List Order) (lent : List Trade) (e : Entry) (o : Outcome OrderAnswer) : Type 0 where
+  pub sized : Sized (a .side) (a .quantity) (a .balance)
   pub number : e .number ≡ suc (d .issued)
   pub made : o .answer .made ≡ length (entryTrades d a book)
   pub trades : o .trades ≡ written (entryTrades d a book) lent

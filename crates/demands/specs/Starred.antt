@@ -29,7 +29,7 @@ day r =
     record { close = r .close; limited = 1; time = r .time; issued = 1; shares = 0; turnover = 0; first = 0; last = 0 }
 
 abbrev pub asked : Tried → Asked
-asked r = record { side = r .side; kind = 0; account = 9; quantity = 100; price = r .price }
+asked r = record { side = r .side; kind = 0; account = 9; quantity = 100; price = r .price; balance = 0 }
 
 abbrev pub lent : List Trade
 lent = record { price = 0; quantity = 0; buyer = 0; seller = 0 } ∷ []

@@ -1,7 +1,6 @@
 -- Laws of the definitions that more than one crate cites, and the definitions tried on examples.
 pub mod Bools
 pub mod Rules
-pub mod Sizes
 pub mod Examples
 pub mod TriedLines
 pub mod TriedSound

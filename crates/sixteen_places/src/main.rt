@@ -99,6 +99,7 @@ fn ask_prices(s: Stand, asked: u64) {
     ask(s, Question::Prices { day, asked });
 }
 
+// The session's orders name no balance.
 fn asked(side: u64, kind: u64, account: u64, quantity: u64, price: u64) -> Asked {
     Asked {
         side,
@@ -106,6 +107,7 @@ fn asked(side: u64, kind: u64, account: u64, quantity: u64, price: u64) -> Asked
         account,
         quantity,
         price,
+        balance: 0,
     }
 }
 

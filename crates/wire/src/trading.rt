@@ -76,8 +76,9 @@ pub extern "C" fn flemorix_order(
     account: u64,
     quantity: u64,
     price: u64,
+    balance: u64,
 ) -> u64
-    ensures { λ r. ⌜ tradeLeft r (now (day .exit)) (now (book .exit)) (now (trades .exit)) (now (reply .exit)) ≡ orderLeaves (record { side = side; kind = kind; account = account; quantity = quantity; price = price }) (now (day .entry)) (now (book .entry)) (now (trades .entry)) (now (reply .entry)) ⌝ }
+    ensures { λ r. ⌜ tradeLeft r (now (day .exit)) (now (book .exit)) (now (trades .exit)) (now (reply .exit)) ≡ orderLeaves (record { side = side; kind = kind; account = account; quantity = quantity; price = price; balance = balance }) (now (day .entry)) (now (book .entry)) (now (trades .entry)) (now (reply .entry)) ⌝ }
 {
     if day.len() != 64 {
         return reply_order(OrderReply::Refused(15), reply);
@@ -91,6 +92,7 @@ pub extern "C" fn flemorix_order(
         account,
         quantity,
         price,
+        balance,
     };
     let answer = order_on(day, book, trades, a);
     let next = answer.day;

@@ -16,7 +16,9 @@ returns : tie.Need-returns
 returns c = number-quantity _ _ (sym (c .before .is-quantity .ensures) ∙ not-true _ (c .if1 .taken))
 
 -- past the first test the quantity is good, past the second the price
-quantity : (c : tie.Else1) → isQuantity (c .before .before .args .a .quantity) ≡ true
+quantity :
+    (c : tie.Else1)
+    → let a = c .before .before .args .a in isQuantity (a .side) (a .quantity) (a .balance) ≡ true
 quantity c = sym (c .before .is-quantity .ensures) ∙ not-false _ (c .if1 .left)
 
 is-price-requires : tie.Need-is-price-requires

@@ -15,7 +15,7 @@ returns c =
     let r = c .before .before in
     let t = r .before .before in
     let a = t .before .before .before .before .before .args in
-    order-no-day (a .day .now) (a .book .now) (a .trades .now) (a .reply .now) (record { side = a .side; kind = a .kind; account = a .account; quantity = a .quantity; price = a .price }) (r .reply-order .ensures) (t .if1 .taken)
+    order-no-day (a .day .now) (a .book .now) (a .trades .now) (a .reply .now) (record { side = a .side; kind = a .kind; account = a .account; quantity = a .quantity; price = a .price; balance = a .balance }) (r .reply-order .ensures) (t .if1 .taken)
 
 reply-order-requires-2 : tie.Need-reply-order-requires-2
 reply-order-requires-2 c κs = search needs
@@ -29,7 +29,7 @@ returns-2 c =
     let t = r .before .before in
     let k = t .before .before in
     let a = k .before .before .before .before .args in
-    order-too-many (a .day .now) (a .book .now) (a .trades .now) (a .reply .now) (record { side = a .side; kind = a .kind; account = a .account; quantity = a .quantity; price = a .price }) (r .reply-order2 .ensures) (t .before .if1 .left)
+    order-too-many (a .day .now) (a .book .now) (a .trades .now) (a .reply .now) (record { side = a .side; kind = a .kind; account = a .account; quantity = a .quantity; price = a .price; balance = a .balance }) (r .reply-order2 .ensures) (t .before .if1 .left)
     (t .if2 .taken)
     (λ i. k .before .before .before .slice-known .given i .fits)
     (λ i. k .before .before .slice-known2 .given i .fits)
@@ -63,7 +63,7 @@ returns-3 c =
     let o = p .before .before .before .before .before .before .before in
     let t = o .before .before .before .before .before in
     let a = t .before .before .before .before .before .args in
-    order-answered (a .day .now) (a .book .now) (a .trades .now) (a .reply .now) (record { side = a .side; kind = a .kind; account = a .account; quantity = a .quantity; price = a .price }) (t .if1 .left) (o .order-on .ensures)
+    order-answered (a .day .now) (a .book .now) (a .trades .now) (a .reply .now) (record { side = a .side; kind = a .kind; account = a .account; quantity = a .quantity; price = a .price; balance = a .balance }) (t .if1 .left) (o .order-on .ensures)
     (p .put-day .ensures)
     (r .reply-order3 .ensures)
 
