@@ -1,4 +1,5 @@
-"""Runs the built rehearsal program on a session's bytes, read whole or in pieces that are cut exactly where a test says."""
+"""Runs the built rehearsal program, or another, on a session's bytes, read whole or in pieces that are cut exactly where a test
+says."""
 import fcntl
 import os
 import pathlib
@@ -73,15 +74,15 @@ def feed(process, session, lengths):
     process.stdin.close()
 
 
-def run(session, lengths=None):
+def run(session, lengths=None, program=PROGRAM):
     """Output, errors and exit status for a session: read from a file, or through a pipe in pieces of these lengths."""
     with tempfile.TemporaryFile() as source, tempfile.TemporaryFile() as output, tempfile.TemporaryFile() as errors:
         if lengths is None:
             source.write(session)
             source.seek(0)
-            status = subprocess.run([PROGRAM], stdin=source, stdout=output, stderr=errors).returncode
+            status = subprocess.run([program], stdin=source, stdout=output, stderr=errors).returncode
         else:
-            process = subprocess.Popen([PROGRAM], stdin=subprocess.PIPE, stdout=output, stderr=errors)
+            process = subprocess.Popen([program], stdin=subprocess.PIPE, stdout=output, stderr=errors)
             feed(process, session, lengths)
             status = process.wait()
         output.seek(0)

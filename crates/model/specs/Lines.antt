@@ -79,7 +79,7 @@ numbersOf (w ∷ ws) =
 
 -- ---- what a line asks for
 
--- a letter, with as many numbers as it wants; an order may leave out its balance, which is 0 then
+-- a letter, with as many numbers as it wants
 unfoldable pub commandOf : ℕ → List ℕ → Command
 commandOf c [] = Malformed
 commandOf c (time ∷ []) = if eqb c (code "T") then Moves time else Malformed
@@ -87,12 +87,7 @@ commandOf c (m ∷ n ∷ []) =
     if eqb c (code "D") then Opens m n else if eqb c (code "C") then Cancels m n else Malformed
 commandOf c (x ∷ y ∷ z ∷ []) = Malformed
 commandOf c (x ∷ y ∷ z ∷ u ∷ []) = Malformed
-commandOf c (side ∷ kind ∷ account ∷ quantity ∷ price ∷ []) =
-    if eqb c (code "O")
-    then
-    Enters
-    (record { side = side; kind = kind; account = account; quantity = quantity; price = price; balance = 0 })
-    else Malformed
+commandOf c (x ∷ y ∷ z ∷ u ∷ v ∷ []) = Malformed
 commandOf c (side ∷ kind ∷ account ∷ quantity ∷ price ∷ balance ∷ []) =
     if eqb c (code "O")
     then

@@ -24,7 +24,7 @@ pub record Unwanted (c n : ℕ) : Type 0 where
   pub time : c ≡ 84 → n ≡ 1 → ⊥
   pub opening : c ≡ 68 → n ≡ 2 → ⊥
   pub cancel : c ≡ 67 → n ≡ 2 → ⊥
-  pub order : c ≡ 79 → 5 ≤ n → n ≤ 6 → ⊥
+  pub order : c ≡ 79 → n ≡ 6 → ⊥
 
 other : (c d : ℕ) → (c ≡ d → ⊥) → eqb c d ≡ false
 other c d h = not-true-false (λ e. h (eqb-true c d e))
@@ -36,8 +36,8 @@ unwanted-is c (x ∷ []) u = rw (other c 84 (λ e. u .time e refl))
 unwanted-is c (x ∷ y ∷ []) u = rw (other c 68 (λ e. u .opening e refl), other c 67 (λ e. u .cancel e refl))
 unwanted-is c (x ∷ y ∷ z ∷ []) u = refl
 unwanted-is c (x ∷ y ∷ z ∷ p ∷ []) u = refl
-unwanted-is c (x ∷ y ∷ z ∷ p ∷ q ∷ []) u = rw (other c 79 (λ e. u .order e (omega arith) (omega arith)))
-unwanted-is c (x ∷ y ∷ z ∷ p ∷ q ∷ r ∷ []) u = rw (other c 79 (λ e. u .order e (omega arith) (omega arith)))
+unwanted-is c (x ∷ y ∷ z ∷ p ∷ q ∷ []) u = refl
+unwanted-is c (x ∷ y ∷ z ∷ p ∷ q ∷ r ∷ []) u = rw (other c 79 (λ e. u .order e refl))
 unwanted-is c (x ∷ y ∷ z ∷ p ∷ q ∷ r ∷ t ∷ ns) u = refl
 
 -- a list of six, written out
@@ -67,15 +67,9 @@ module _ (c n : ℕ) (v : List ℕ) (h : length v ≡ 6) where
   cancels p q =
       rw (p, q) (six (λ v. Cancels (getD v 0 0) (getD v 1 0) ≡ commandOf 67 (take 2 v)) (λ a b d e f g. refl) v h)
 
-  pub enters : c ≡ 79 → n ≡ 5 → Enters (askedOf v 0) ≡ commandOf c (take n v)
+  pub enters : c ≡ 79 → n ≡ 6 → Enters (askedOf v) ≡ commandOf c (take n v)
   unfolding commandOf
-  enters p q = rw (p, q) (six (λ v. Enters (askedOf v 0) ≡ commandOf 79 (take 5 v)) (λ a b d e f g. refl) v h)
-
-  pub enters-with : c ≡ 79 → n ≡ 6 → Enters (askedOf v (getD v 5 0)) ≡ commandOf c (take n v)
-  unfolding commandOf
-  enters-with p q =
-      rw (p, q)
-      (six (λ v. Enters (askedOf v (getD v 5 0)) ≡ commandOf 79 (take 6 v)) (λ a b d e f g. refl) v h)
+  enters p q = rw (p, q) (six (λ v. Enters (askedOf v) ≡ commandOf 79 (take 6 v)) (λ a b d e f g. refl) v h)
 
   pub unwanted : n ≤ 6 → Unwanted c n → Malformed ≡ commandOf c (take n v)
   unwanted f u =

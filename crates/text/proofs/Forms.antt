@@ -21,7 +21,7 @@ spaces : (o : Option (List ℕ)) → commandWith 32 o ≡ Malformed
 unfolding commandWith
 spaces none = refl
 spaces (some ns) =
-    unwanted-is 32 ns (record { time = λ p q. omega arith; opening = λ p q. omega arith; cancel = λ p q. omega arith; order = λ p q r. omega arith })
+    unwanted-is 32 ns (record { time = λ p q. omega arith; opening = λ p q. omega arith; cancel = λ p q. omega arith; order = λ p q. omega arith })
 
 short-line : (s : List ℕ) → length s < 2 → wordsCommand (wordsOf s) ≡ Malformed
 unfolding wordsOf wordsCommand ontoWord numbersOf commandOf

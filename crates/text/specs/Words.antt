@@ -22,16 +22,16 @@ abbrev pub found : Option ℕ → Number
 found none = Bad
 found (some n) = Is n
 
--- an order's five numbers, with its balance
-abbrev pub askedOf : List ℕ → ℕ → Asked
-askedOf v balance =
+-- an order's six numbers
+abbrev pub askedOf : List ℕ → Asked
+askedOf v =
     record {
       side = getD v 0 0;
       kind = getD v 1 0;
       account = getD v 2 0;
       quantity = getD v 3 0;
       price = getD v 4 0;
-      balance = balance;
+      balance = getD v 5 0;
     }
 
 -- the numbers behind the first byte, which is a space; none at the line's end

@@ -71,9 +71,9 @@ fn number_of(word: &[u8]) -> Number
     Number::Is(value)
 }
 
-// Five numbers and a balance as an order that is asked for.
-fn asked(v: [u64; 6], balance: u64) -> Asked
-    ensures { λ r. ⌜ r ≡ askedOf v balance ⌝ }
+// Six numbers as an order that is asked for.
+fn asked(v: [u64; 6]) -> Asked
+    ensures { λ r. ⌜ r ≡ askedOf v ⌝ }
 {
     Asked {
         side: v[0],
@@ -81,11 +81,11 @@ fn asked(v: [u64; 6], balance: u64) -> Asked
         account: v[2],
         quantity: v[3],
         price: v[4],
-        balance: balance,
+        balance: v[5],
     }
 }
 
-// A letter wants its own count of numbers. An order may leave out the sixth, its balance.
+// A letter wants its own count of numbers.
 fn asked_for(letter: u8, n: usize, v: [u64; 6]) -> Command
     requires { ⌜ n ≤ 6 ⌝ }
     ensures { λ r. ⌜ r ≡ commandOf letter (take n v) ⌝ }
@@ -115,11 +115,8 @@ fn asked_for(letter: u8, n: usize, v: [u64; 6]) -> Command
         return Command::Malformed;
     }
     if letter == b'O' {
-        if n == 5 {
-            return Command::Enters(asked(v, 0));
-        }
         if n == 6 {
-            return Command::Enters(asked(v, v[5]));
+            return Command::Enters(asked(v));
         }
     }
     Command::Malformed

@@ -1,9 +1,9 @@
--- Each letter with a count of numbers that it wants is one clause of `commandOf`; every other pair is unwanted.
+-- Each letter with its count of numbers is one clause of `commandOf`; every other pair is unwanted.
 use mathlib.Core.Path.{_≡_, ap, _∙_}
 use native.Mathlib.Omega.{arith}
 use lib.ListN.{length}
 use Rattle.model.specs.declared.Command.the-variants.{Enters}
-use Rattle.text.proofs.Commands.{moves, opens, cancels, enters, enters-with, unwanted}
+use Rattle.text.proofs.Commands.{moves, opens, cancels, enters, unwanted}
 use borrow.Author.Needs.{needs}
 use Rattle.text.proofs.parsing.asked_for.Statement.{statement}
 use Rattle.text.proofs.parsing.asked_for.Tie as tie
@@ -18,7 +18,7 @@ returns : tie.Need-returns
 returns c = moves _ _ _ (six-long (c .before .before)) (c .before .if1 .taken) (c .if2 .taken)
 
 returns-2 : tie.Need-returns-2
-returns-2 c = unwanted _ _ _ (six-long (c .before .before)) (c .before .before .pre) (record { time = λ p q. c .if2 .left q; opening = λ p q. omega arith; cancel = λ p q. omega arith; order = λ p q r. omega arith })
+returns-2 c = unwanted _ _ _ (six-long (c .before .before)) (c .before .before .pre) (record { time = λ p q. c .if2 .left q; opening = λ p q. omega arith; cancel = λ p q. omega arith; order = λ p q. omega arith })
 
 array-read-t13 : tie.Need-array-read-t13
 array-read-t13 c = search needs
@@ -30,7 +30,7 @@ returns-3 : tie.Need-returns-3
 returns-3 c = opens _ _ _ (six-long (c .before .before .before)) (c .before .if3 .taken) (c .if4 .taken)
 
 returns-4 : tie.Need-returns-4
-returns-4 c = unwanted _ _ _ (six-long (c .before .before .before)) (c .before .before .before .pre) (record { time = λ p q. omega arith; opening = λ p q. c .if4 .left q; cancel = λ p q. omega arith; order = λ p q r. omega arith })
+returns-4 c = unwanted _ _ _ (six-long (c .before .before .before)) (c .before .before .before .pre) (record { time = λ p q. omega arith; opening = λ p q. c .if4 .left q; cancel = λ p q. omega arith; order = λ p q. omega arith })
 
 array-read-t20 : tie.Need-array-read-t20
 array-read-t20 c = search needs
@@ -42,7 +42,7 @@ returns-5 : tie.Need-returns-5
 returns-5 c = cancels _ _ _ (six-long (c .before .before .before .before)) (c .before .if5 .taken) (c .if6 .taken)
 
 returns-6 : tie.Need-returns-6
-returns-6 c = unwanted _ _ _ (six-long (c .before .before .before .before)) (c .before .before .before .before .pre) (record { time = λ p q. omega arith; opening = λ p q. omega arith; cancel = λ p q. c .if6 .left q; order = λ p q r. omega arith })
+returns-6 c = unwanted _ _ _ (six-long (c .before .before .before .before)) (c .before .before .before .before .pre) (record { time = λ p q. omega arith; opening = λ p q. omega arith; cancel = λ p q. c .if6 .left q; order = λ p q. omega arith })
 
 asked-requires : tie.Need-asked-requires
 asked-requires c κs = search needs
@@ -50,20 +50,11 @@ asked-requires c κs = search needs
 returns-7 : tie.Need-returns-7
 returns-7 c = ap Enters (c .asked .ensures) ∙ enters _ _ _ (six-long (c .before .before .before .before .before .before)) (c .before .before .if7 .taken) (c .before .if8 .taken)
 
-array-read-asked : tie.Need-array-read-asked
-array-read-asked c = search needs
-
-asked-requires-2 : tie.Need-asked-requires-2
-asked-requires-2 c κs = search needs
-
 returns-8 : tie.Need-returns-8
-returns-8 c = ap Enters (c .asked2 .ensures) ∙ enters-with _ _ _ (six-long (c .before .before .before .before .before .before .before)) (c .before .before .before .if7 .taken) (c .before .if9 .taken)
+returns-8 c = unwanted _ _ _ (six-long (c .before .before .before .before .before)) (c .before .before .before .before .before .pre) (record { time = λ p q. omega arith; opening = λ p q. omega arith; cancel = λ p q. omega arith; order = λ p q. c .if8 .left q })
 
 returns-9 : tie.Need-returns-9
-returns-9 c = unwanted _ _ _ (six-long (c .before .before .before .before .before .before)) (c .before .before .before .before .before .before .pre) (record { time = λ p q. omega arith; opening = λ p q. omega arith; cancel = λ p q. omega arith; order = λ p q r. omega (arith, c .before .if8 .left, c .if9 .left) })
-
-returns-10 : tie.Need-returns-10
-returns-10 c = unwanted _ _ _ (six-long (c .before .before .before .before)) (c .before .before .before .before .pre) (record { time = λ p q. omega arith; opening = λ p q. omega arith; cancel = λ p q. omega arith; order = λ p q r. omega arith })
+returns-9 c = unwanted _ _ _ (six-long (c .before .before .before .before)) (c .before .before .before .before .pre) (record { time = λ p q. omega arith; opening = λ p q. omega arith; cancel = λ p q. omega arith; order = λ p q. omega arith })
 
 pub asked-for-spec : {M : Type 1} → statement M
 asked-for-spec =
@@ -82,8 +73,5 @@ asked-for-spec =
     returns-6
     asked-requires
     returns-7
-    array-read-asked
-    asked-requires-2
     returns-8
-    returns-9
-    returns-10)
+    returns-9)
