@@ -7,8 +7,8 @@ behind each line that is an order of five numbers, and all else is copied.
 
 Old scripts are kept in tests/convert. Each is converted whole and cut in several ways; what comes out is the script that is
 stored under its name, which the program answers with the replies that are stored there too, and which a second conversion leaves
-as it is. Made inputs: an order with each byte changed, left out or put in; lines of many lengths; lines across the ends of the
-blocks that are read; tails; random lines and random bytes.
+as it is. Sessions that came later are converted too. Made inputs: an order with each byte changed, left out or put in; lines of
+many lengths; lines across the ends of the blocks that are read; tails; random lines and random bytes.
 """
 import itertools
 import random
@@ -75,12 +75,15 @@ def stored():
 def old_scripts(counts, seed):
     now = {path.name: path for path in stored()}
     for path in sorted((ROOT / "tests" / "convert").glob("*.txt")):
-        old, new = path.read_bytes(), now[path.name]
+        old, new = path.read_bytes(), now.pop(path.name)
         counts.cut(path.name, old, seed)
         counts.converts("%s, as it is stored" % path.name, old, new.read_bytes())
+        counts.converts("%s, which is converted already" % path.name, new.read_bytes(), new.read_bytes())
         counts.answers("%s, its replies" % path.name, converted(old), new.with_suffix(".out").read_bytes())
+    # What is left never was an old script. Such a session may show lines of five numbers that are 16, as six-numbers does, so
+    # that its conversion is another script.
     for path in now.values():
-        counts.converts("%s, which is converted already" % path.name, path.read_bytes(), path.read_bytes())
+        counts.cut("%s, which came later" % path.name, path.read_bytes(), seed)
 
 
 def edits(line):

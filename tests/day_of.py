@@ -34,7 +34,7 @@ class Trader:
         self.replies += self.desk.answer(line.encode())
 
     def order(self, side, kind, quantity, price):
-        self.say("O %d %d %d %d %d" % (side, kind, self.source.randint(1, 200), quantity, price))
+        self.say("O %d %d %d %d %d 0" % (side, kind, self.source.randint(1, 200), quantity, price))
 
     def quantity(self):
         return 100 * min(self.source.randint(1, 10), self.source.randint(1, 30))

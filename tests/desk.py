@@ -65,7 +65,7 @@ def within(side, limit, price):
 
 
 def passes_quantity(side, quantity, balance):
-    """From 100 shares up on both sides, and a sell of a smaller balance in one go. A buy names no balance."""
+    """From 100 shares up on both sides, and a sell of a smaller balance in one go. A buy has balance 0."""
     if side == BUY and balance != 0:
         return False
     in_one_go = side == SELL and 1 <= quantity <= 99 and quantity == balance
@@ -247,7 +247,7 @@ class Day:
         price = within(side, limit, price)
         return [o for o in queue if meets(side, price, o.price)], price
 
-    def enter_order(self, side, kind, account, quantity, limit, balance=0):
+    def enter_order(self, side, kind, account, quantity, limit, balance):
         self.refuse_order(side, kind, account, quantity, limit, balance)
         own = self.best(side)
         partners, rests_at = self.partners(side, kind, limit)
@@ -296,7 +296,7 @@ NUMBER = rb" (0|[1-9][0-9]*)"
 FORMS = {
     b"D": re.compile(b"D" + NUMBER * 2),
     b"T": re.compile(b"T" + NUMBER),
-    b"O": re.compile(b"O" + NUMBER * 5 + b"(?:" + NUMBER + b")?"),  # the balance may be left out
+    b"O": re.compile(b"O" + NUMBER * 6),
     b"C": re.compile(b"C" + NUMBER * 2),
 }
 
@@ -305,7 +305,7 @@ def read_line(line):
     """Letter and numbers of a line without its newline; refused where it is not of the form."""
     form = FORMS.get(line[:1])
     found = form.fullmatch(line) if form and len(line) + 1 <= LONGEST_LINE else None
-    numbers = [int(text) for text in found.groups() if text is not None] if found else []
+    numbers = [int(text) for text in found.groups()] if found else []
     if not found or max(numbers) > LARGEST_WORD:
         raise Refused(16)
     return line[:1], numbers

@@ -48,7 +48,9 @@ class RandomDays:
             return self.cancel()
         if draw < 0.92:
             return self.order()
-        return self.fault() if draw < 0.95 else self.range_edge() if draw < 0.98 else self.quantity_edge()
+        if draw < 0.95:
+            return self.fault()
+        return self.range_edge() if draw < 0.97 else self.quantity_edge() if draw < 0.985 else self.wrong_count()
 
     def move(self):
         """Mostly to the next phase or the one after, or a second beside one."""
@@ -74,32 +76,37 @@ class RandomDays:
         quantity = pick.choice([100, 200, pick.randint(100, self.most), self.most])
         if kind in (3, 4):
             quantity = min(quantity * pick.choice([1, 6]), 1_000_000)
-        side, balance = pick.randint(0, 1), pick.choice(["", "", " 0"])
+        side, balance = pick.randint(0, 1), 0
         if side == desk.SELL and pick.random() < 0.3:
             quantity, balance = self.lot(quantity)
-        numbers = (side, kind, pick.randint(1, self.accounts), quantity, min(max(price, 1), 999_999))
-        return "O %d %d %d %d %d" % numbers + balance
+        numbers = (side, kind, pick.randint(1, self.accounts), quantity, min(max(price, 1), 999_999), balance)
+        return "O %d %d %d %d %d %d" % numbers
 
     def lot(self, quantity):
-        """A sell with a balance, mostly one that is taken: a balance of 1 to 99 sold in one go, or any balance behind a whole
-        quantity."""
+        """Quantity and balance of a sell, mostly one that is taken: a balance of 1 to 99 sold in one go, or any balance behind a
+        whole quantity."""
         if self.source.random() < 0.6:
             quantity = self.source.choice([1, 99, self.source.randint(1, 99)])
-            return quantity, self.source.choice([" %d" % quantity] * 7 + [self.any_balance(quantity)])
+            return quantity, self.source.choice([quantity] * 7 + [self.any_balance(quantity)])
         return quantity, self.any_balance(quantity)
 
     def any_balance(self, quantity):
-        """The end of an order line: no balance, 0, the quantity, one beside it, or any number."""
-        pick = self.source
-        numbers = [0, quantity, max(quantity - 1, 0), quantity + 1, pick.randint(0, 200), pick.randint(0, 4_294_967_295)]
-        return pick.choice([""] + [" %d" % number for number in numbers])
+        """0, the quantity, one beside it, or any number."""
+        beside = [max(quantity - 1, 0), quantity + 1]
+        any_number = [self.source.randint(0, 200), self.source.randint(0, 4_294_967_295)]
+        return self.source.choice([0, quantity] + beside + any_number)
 
     def quantity_edge(self):
         """An order at an edge of the quantities, on either side and of any kind, with any balance."""
         pick = self.source
         quantity = pick.choice([0, 1, 2, 98, 99, 100, 101, 1_000_000, 1_000_001])
-        numbers = (pick.randint(0, 1), pick.choice([0, 0, 1, 2, 3, 4]), quantity, self.close)
-        return "O %d %d 1 %d %d" % numbers + self.any_balance(quantity)
+        numbers = (pick.randint(0, 1), pick.choice([0, 0, 1, 2, 3, 4]), quantity, self.close, self.any_balance(quantity))
+        return "O %d %d 1 %d %d %d" % numbers
+
+    def wrong_count(self):
+        """An order, mostly a good one, that is 16: without its balance, or with a seventh number."""
+        order = self.order()
+        return order.rpartition(" ")[0] if self.source.random() < 0.7 else "%s %d" % (order, self.source.choice([0, 1, 99]))
 
     def range_edge(self):
         """A limit order at an edge of its range, or just beyond, whatever its base is."""
@@ -107,7 +114,7 @@ class RandomDays:
         bases = [price for price in (day.best(0), day.best(1), day.last, day.close) if price is not None]
         base = self.source.choice(bases)
         edge = self.source.choice([base * 105 // 100, base + 10] if side == 0 else [base * 95 // 100, base - 10])
-        return "O %d 0 1 100 %d" % (side, max(edge + self.source.choice([-1, 0, 1]), 0))
+        return "O %d 0 1 100 %d 0" % (side, max(edge + self.source.choice([-1, 0, 1]), 0))
 
     def fault(self):
         """A line that is refused, most of the time."""
@@ -115,14 +122,14 @@ class RandomDays:
         close, account = self.close, pick.randint(0, 2)
         return pick.choice(
             [
-                "O %d 0 1 100 %d" % (pick.randint(0, 2), close),
-                "O 0 %d 1 100 %d" % (pick.randint(0, 5), close),
-                "O 1 0 %d 100 %d" % (account, close),
-                "O 1 0 1 %d %d" % (pick.choice([99, 100, 1_000_000, 1_000_001]), close),
-                "O 1 0 1 99 %d 99 %s" % (close, pick.choice(["", "0", "99"])),
-                "O %d %d 1 100 %d" % (pick.randint(0, 1), pick.choice([0, 3]), close * 13 // 10 + pick.randint(0, 1)),
-                "O %d %d 1 100 %d" % (pick.randint(0, 1), pick.choice([0, 4]), close * 7 // 10 + pick.randint(0, 1)),
-                "O 0 0 1 100 %d" % pick.choice([0, 1, 999_999, 1_000_000]),
+                "O %d 0 1 100 %d 0" % (pick.randint(0, 2), close),
+                "O 0 %d 1 100 %d 0" % (pick.randint(0, 5), close),
+                "O 1 0 %d 100 %d 0" % (account, close),
+                "O 1 0 1 %d %d 0" % (pick.choice([99, 100, 1_000_000, 1_000_001]), close),
+                "O 1 0 1 99 %d 99 " % close,
+                "O %d %d 1 100 %d 0" % (pick.randint(0, 1), pick.choice([0, 3]), close * 13 // 10 + pick.randint(0, 1)),
+                "O %d %d 1 100 %d 0" % (pick.randint(0, 1), pick.choice([0, 4]), close * 7 // 10 + pick.randint(0, 1)),
+                "O 0 0 1 100 %d 0" % pick.choice([0, 1, 999_999, 1_000_000]),
                 "T %d" % pick.choice([self.desk.day.time - 1, self.desk.day.time, 86_400]),
                 "D %d %d" % (pick.choice([0, 1_000_000]), pick.randint(0, 2)),
                 "D 1000",
@@ -133,15 +140,17 @@ class RandomDays:
 
 
 def full_book():
-    """1,024 orders stand: then every order is 10, also one that would trade, after all that comes before 10."""
+    """1,024 orders stand: then every order is 10, also one that would trade, after all that comes before 10. A line of five or
+    seven numbers is no order."""
     lines = ["D 1000 1", "T 33300"]
-    lines += ["O %d 0 %d %d %d" % (n % 2, n, 100 + n, 990 + 20 * (n % 2)) for n in range(1, 1025)]
-    lines += ["O 0 0 7 100 1000", "O 0 0 7 100 1301", "O 0 0 0 100 1000", "T 34200"]
-    lines += ["O 0 0 7 100 1010", "O 0 3 7 100 1300", "O 1 1 7 100 700", "O 0 0 7 100 1061", "O 0 0 7 99 1000"]
-    lines += ["O 1 0 7 99 1010 99", "O 1 0 7 99 1010 98", "O 0 0 7 100 1010 100"]
-    lines += ["C 512 512", "O 1 3 7 100 700", "O 1 0 7 100 990", "O 0 0 7 100 1000", "O 0 3 7 100 1300"]
-    lines += ["C 7 1027", "O 0 0 7 100 1010", "O 0 4 7 1000 1300", "T 53820", "O 0 0 7 100 1300", "O 1 0 8 100 700"]
-    return text(lines + ["O 1 0 8 100 1000", "T 54000", "D 1000 1", "T 34200", "O 0 0 7 100 1000"])
+    lines += ["O %d 0 %d %d %d 0" % (n % 2, n, 100 + n, 990 + 20 * (n % 2)) for n in range(1, 1025)]
+    lines += ["O 0 0 7 100 1000 0", "O 0 0 7 100 1301 0", "O 0 0 0 100 1000 0", "T 34200"]
+    lines += ["O 0 0 7 100 1010 0", "O 0 3 7 100 1300 0", "O 1 1 7 100 700 0", "O 0 0 7 100 1061 0", "O 0 0 7 99 1000 0"]
+    lines += ["O 1 0 7 99 1010 99", "O 1 0 7 99 1010 98", "O 0 0 7 100 1010 100", "O 0 0 7 100 1010", "O 0 0 7 100 1010 0 0"]
+    lines += ["C 512 512", "O 1 3 7 100 700", "O 1 3 7 100 700 0", "O 1 0 7 100 990 0", "O 0 0 7 100 1000 0"]
+    lines += ["O 0 3 7 100 1300 0", "C 7 1027", "O 0 0 7 100 1010 0", "O 0 4 7 1000 1300 0", "T 53820"]
+    lines += ["O 0 0 7 100 1300 0", "O 1 0 8 100 700 0", "O 1 0 8 100 1000 0", "T 54000"]
+    return text(lines + ["D 1000 1", "T 34200", "O 0 0 7 100 1000 0"])
 
 
 def longest_auction(closing, empty_lines=0):
@@ -149,27 +158,27 @@ def longest_auction(closing, empty_lines=0):
     empty lines before it are answered too, so that its replies come at any place of the program's output."""
     lines = ["D 1000 1", "T %d" % (53_820 if closing else 33_300)]
     for n in range(512):
-        lines += ["O 0 0 1 200 1000", "O 1 0 2 %d 1000" % (100 if n == 0 else 200)]
+        lines += ["O 0 0 1 200 1000 0", "O 1 0 2 %d 1000 0" % (100 if n == 0 else 200)]
     return text(lines + [""] * empty_lines + ["T 54000", "T 54001"])
 
 
 def longest_sweep(side):
     """1,023 orders at one price, and one order that trades with all of them: the most trades of an order."""
-    lines = ["D 1000 1", "T 34200"] + ["O %d 0 1 100 1000" % (1 - side)] * 1023
-    return text(lines + ["O %d 3 2 102400 1000" % side, "O %d 0 2 100 1000" % side, "T 54000"])
+    lines = ["D 1000 1", "T 34200"] + ["O %d 0 1 100 1000 0" % (1 - side)] * 1023
+    return text(lines + ["O %d 3 2 102400 1000 0" % side, "O %d 0 2 100 1000 0" % side, "T 54000"])
 
 
 def last_number():
     """All 999,999 numbers: market orders that find nobody and are withdrawn, and at the end a book that is full."""
-    lines = ["D 1000 1", "T 34200"] + ["O 0 3 7 100 1000"] * (999_999 - 1024) + ["O 0 0 7 100 1000"] * 1024
-    lines += ["O 0 0 7 100 1000", "C 7 999999", "O 0 0 7 100 1000", "O 1 3 7 100 1000", "O 0 0 7 99 1000", "C 7 999998"]
-    return text(lines + ["T 54000", "D 1000 1", "T 33300", "O 0 0 7 100 1000"])
+    lines = ["D 1000 1", "T 34200"] + ["O 0 3 7 100 1000 0"] * (999_999 - 1024) + ["O 0 0 7 100 1000 0"] * 1024
+    lines += ["O 0 0 7 100 1000 0", "C 7 999999", "O 0 0 7 100 1000 0", "O 1 3 7 100 1000 0", "O 0 0 7 99 1000 0"]
+    return text(lines + ["C 7 999998", "T 54000", "D 1000 1", "T 33300", "O 0 0 7 100 1000 0"])
 
 
 def every_byte():
     """Each form of a line with every byte at every position, in place of the one there and before it."""
     lines = [b"D 1000 1", b"T 33300"]
-    for good in (b"D 1000 1", b"T 33300", b"O 0 0 7 100 1000", b"O 1 0 7 99 1000 99", b"C 7 1"):
+    for good in (b"D 1000 1", b"T 33300", b"O 0 0 7 100 1000 0", b"O 1 0 7 99 1000 99", b"C 7 1"):
         for at in range(len(good) + 1):
             for byte in range(256):
                 lines.append(good[:at] + bytes([byte]) + good[at:])

@@ -39,7 +39,7 @@ def words(source, size):
     made_of, total = [], 0
     while total < size:
         letter = source.choice([b"D", b"T", b"O", b"O", b"O", b"C"])
-        count = {b"D": 2, b"T": 1, b"O": source.choice([5, 6]), b"C": 2}[letter] + source.choice([0] * 8 + [-1, 1])
+        count = {b"D": 2, b"T": 1, b"O": 6, b"C": 2}[letter] + source.choice([0] * 8 + [-1, 1])
         made_of.append(source.choice([b" "] * 20 + [b"  ", b"\t"]).join([letter] + source.choices(numbers, k=count)) + b"\n")
         total += len(made_of[-1])
     return b"".join(made_of)[:size]

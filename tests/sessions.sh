@@ -55,12 +55,16 @@ edge "a line of 70,000 bytes" "$letters\nD 1000 1\n" 'X 16\nD\n'
 edge "an unended tail" 'D 1000 1\nT 33300' 'D\nX 16\n'
 edge "an unended tail that is too long" "D 1000 1\nT 9$digits" 'D\nX 16\n'
 edge "an unended tail of 70,000 bytes" "D 1000 1\n$letters" 'D\nX 16\n'
-edge "16 precedes 17" 'T\nT 33300\nO 0 0 7 100 1000\nC 7 1\n' 'X 16\nX 17\nX 17\nX 17\n'
+edge "16 precedes 17" 'T\nT 33300\nO 0 0 7 100 1000 0\nC 7 1\n' 'X 16\nX 17\nX 17\nX 17\n'
 edge "a refused opening changes nothing" 'D 1000 1\nT 33300\nD 0 1\nD 1000 2\nT 33300\n' 'D\nK 1 0\nX 14\nX 14\nK 1 0\n'
 edge "spaces, zeros, signs and letters" 'T  1\n T 1\nT 1 \nT 01\nT +1\nT 1x\nt 1\nT 4294967296\nT 0\n' \
     'X 16\nX 16\nX 16\nX 16\nX 16\nX 16\nX 16\nX 16\nX 17\n'
 edge "too few and too many numbers" 'D 1000\nO 0 0 7 100\nO 0 0 7 100 1000 0 0\nC 7\nT\n' 'X 16\nX 16\nX 16\nX 16\nX 16\n'
-edge "five and six numbers of an order" 'O 0 0 7 100 1000\nO 0 0 7 100 1000 0\nO 0 0 7 100 1000 0 \n' 'X 17\nX 17\nX 16\n'
+edge "five, six and seven numbers of an order, no day" \
+    'O 0 0 7 100 1000\nO 0 0 7 100 1000 0\nO 0 0 7 100 1000 0 0\nO 0 0 7 100 1000 0 \n' 'X 16\nX 17\nX 16\nX 16\n'
+edge "five, six and seven numbers of an order" \
+    'D 1000 1\nT 33300\nO 0 0 7 100 1000\nO 0 0 7 100 1000 0\nO 0 0 7 100 1000 0 0\nO 0 0 7 100 1000 0\n' \
+    'D\nK 1 0\nX 16\nA 1 0 100 0 0\nX 16\nA 2 0 100 0 0\n'
 edge "time only moves on" 'D 1000 1\nT 86400\nT 34200\nT 34199\nT 34200\n' 'D\nX 1\nK 4 0\nX 1\nK 4 0\n'
 
 # More replies than the output holds at once: it is written out in rounds.

@@ -43,8 +43,8 @@ standing() { # 200 buys and 200 sells in continuous trading, in turn
     echo 'D 2000 1'
     echo 'T 34200'
     for n in {1..200}; do
-        echo "O 0 0 7 300 $((1990 - n % 40))"
-        echo "O 1 0 8 300 $((2010 + n % 40))"
+        echo "O 0 0 7 300 $((1990 - n % 40)) 0"
+        echo "O 1 0 8 300 $((2010 + n % 40)) 0"
     done
 }
 
@@ -61,8 +61,8 @@ one() { # TEXT: the instructions of one turn of it, on the standing book
 
 # An order outside the band is refused before the book is looked at. One outside its range is refused after one pass, which
 # looks for the other side's best price. The difference is the pass.
-band=$(one 'O 0 0 9 100 2601\n')
-range=$(one 'O 0 0 9 100 2500\n')
+band=$(one 'O 0 0 9 100 2601 0\n')
+range=$(one 'O 0 0 9 100 2500 0\n')
 pass=$((range - band))
 
 say() { # WHAT INSTRUCTIONS
@@ -75,9 +75,9 @@ say 'an order that is 8, before the book is looked at' "$band"
 say 'a move of the clock that passes nothing' "$(one 'T 34200\n')"
 say 'a cancel that is 12' "$(one 'C 9 1\n')"
 for kind in 0 1 2 3 4; do
-    say "an order of kind $kind that trades nothing" "$(one "O 0 $kind 9 100 2000\n")"
+    say "an order of kind $kind that trades nothing" "$(one "O 0 $kind 9 100 2000 0\n")"
 done
-say 'two orders, one that waits and one that trades with it' "$(one 'O 1 0 9 100 2000\nO 0 0 9 100 2000\n')"
+say 'two orders, one that waits and one that trades with it' "$(one 'O 1 0 9 100 2000 0\nO 0 0 9 100 2000 0\n')"
 waiting=$(standing | sed 's/34200/33300/')
 quiet=$(echo "$waiting" | instructions)
 opened=$({ echo "$waiting"; echo 'T 33900'; } | instructions)
