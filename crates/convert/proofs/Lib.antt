@@ -6,3 +6,4 @@ pub mod Pendings
 pub mod Steps
 pub mod Sessions
 pub mod Determined
+pub mod Tried

@@ -29,6 +29,7 @@ lineAfter line (b ∷ bs) = if eqb b (code "\n") then lineAfter [] bs else lineA
 abbrev pub remembered : List ℕ → List ℕ
 remembered line = take 80 line
 
+-- each block behind what is remembered of the line that the blocks before it left
 unfoldable pub convertedBlocks : List ℕ → List (List ℕ) → List ℕ
 convertedBlocks line [] = []
 convertedBlocks line (b ∷ bs) = convertedFrom line b ++ convertedBlocks (remembered (lineAfter line b)) bs

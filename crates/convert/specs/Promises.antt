@@ -19,6 +19,7 @@ isOrder (Moves t) = false
 isOrder (Enters a) = true
 isOrder (Cancels account number) = false
 
+-- the bytes of the line that has not ended
 abbrev pub textOf : Pending → List ℕ
 textOf p = take (p .kept) (p .bytes)
 
