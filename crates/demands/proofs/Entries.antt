@@ -15,13 +15,14 @@ use Rattle.model.specs.declared.Entry.{Entry}
 use Rattle.model.specs.declared.Day.{Day}
 use Rattle.model.specs.declared.Remainder.the-variants.{Nothing, Rests, Withdrawn}
 use Rattle.model.specs.declared.OrderReply as OrderReply
+use Rattle.model.specs.declared.OrderAnswer.{OrderAnswer}
 use Rattle.model.specs.Choice.{if_then_else_}
 use Rattle.model.specs.Book.{standsOn, other}
 use Rattle.model.specs.Matching.{meets, tradeWith, sweep, filled, levels, settle}
 use Rattle.model.specs.Figures.{nextNumber}
 use Rattle.model.specs.Entry.{opposite, entryTrades, restPrice}
 use Rattle.model.specs.Replies.{restingOf, withdrawnOf}
-use Rattle.model.specs.Calls.{ended, placed, entered, orderCall}
+use Rattle.model.specs.Calls.{Outcome, ended, placed, entered, orderCall}
 use Rattle.book.specs.Standing.{Each}
 use Rattle.book.proofs.Lists.{each}
 use Rattle.matching.proofs.Trades.{Some, Deal}
@@ -72,7 +73,7 @@ module _ (d : Day) (a : Asked) (book : List Order) where
   at = restPrice a ts book
 
   -- how what is left ends
-  all-ends : restingOf (ended left at) + withdrawnOf (ended left at) ≡ left
+  pub all-ends : restingOf (ended left at) + withdrawnOf (ended left at) ≡ left
   unfolding ended restingOf withdrawnOf
   all-ends = go (eqb left 0) refl (eqb at 0)
     where
@@ -86,7 +87,7 @@ module _ (d : Day) (a : Asked) (book : List Order) where
       go false e true = omega arith
       go false e false = omega arith
 
-  rests-somewhere : (restingOf (ended left at) ≡ 0 → ⊥) → at ≡ 0 → ⊥
+  pub rests-somewhere : (restingOf (ended left at) ≡ 0 → ⊥) → at ≡ 0 → ⊥
   unfolding ended restingOf
   rests-somewhere n z = n (go (eqb left 0))
     where
@@ -95,7 +96,7 @@ module _ (d : Day) (a : Asked) (book : List Order) where
       go false = rw z
 
   -- what rests is what is placed
-  placed-rests : (n : ℕ) (os : List Order) → placed a n left at os ≡ placed a n (restingOf (ended left at)) at os
+  pub placed-rests : (n : ℕ) (os : List Order) → placed a n left at os ≡ placed a n (restingOf (ended left at)) at os
   unfolding placed ended restingOf
   placed-rests n os = go (eqb left 0) refl (eqb at 0) refl
     where
@@ -131,7 +132,7 @@ module _ (d : Day) (a : Asked) (book : List Order) where
   in-priority =
       entry-cases d a book (λ rs. InPriority a book rs) refl (λ n. sweep-partners (taker d a book) (a .quantity) (opposite a book))
 
-  abbrev entry : Entry
+  abbrev pub entry : Entry
   entry = record { number = nextNumber d; filled = filled ts; levels = levels ts; remainder = ended left at }
 
   entry-accepted : (lent : List Trade) → Allowed d a book → Accepted d a book lent entry (entered d a book lent)
@@ -159,14 +160,16 @@ module _ (d : Day) (a : Asked) (book : List Order) where
         in-priority = in-priority;
       }
 
-pub accepted :
-    (d : Day) (a : Asked) (book : List Order) (lent : List Trade) (e : Entry)
+-- what holds of every entry that no rule refuses holds of every accepted order
+pub accepted-cases :
+    (d : Day) (a : Asked) (book : List Order) (lent : List Trade) (e : Entry) (P : Entry → Outcome OrderAnswer → Type 0)
+    → (Allowed d a book → P (entry d a book) (entered d a book lent))
     → orderCall d a book lent .answer .reply ≡ OrderReply.the-variants.Accepted e
-    → Accepted d a book lent e (orderCall d a book lent)
-accepted d a book lent e =
+    → P e (orderCall d a book lent)
+accepted-cases d a book lent e P h =
     order-cases d a book lent
-    (λ o. o .answer .reply ≡ OrderReply.the-variants.Accepted e → Accepted d a book lent e o)
-    (λ n r. let z : entry d a book ≡ e = same r in rw (← z) (entry-accepted d a book lent (allowed d a book lent n)))
+    (λ o. o .answer .reply ≡ OrderReply.the-variants.Accepted e → P e o)
+    (λ n r. let z : entry d a book ≡ e = same r in rw (← z) (h (allowed d a book lent n)))
     (λ _ r. absurd (apart r))
   where
     same : entered d a book lent .answer .reply ≡ OrderReply.the-variants.Accepted e → entry d a book ≡ e
@@ -174,3 +177,9 @@ accepted d a book lent e =
 
     apart : {n : ℕ} → OrderReply.the-variants.Refused n ≡ OrderReply.the-variants.Accepted e → ⊥
     apart r = let z : _≡_ {A = ℕ} 0 1 = cc in omega arith
+
+pub accepted :
+    (d : Day) (a : Asked) (book : List Order) (lent : List Trade) (e : Entry)
+    → orderCall d a book lent .answer .reply ≡ OrderReply.the-variants.Accepted e
+    → Accepted d a book lent e (orderCall d a book lent)
+accepted d a book lent e = accepted-cases d a book lent e (Accepted d a book lent) (entry-accepted d a book lent)

@@ -7,8 +7,9 @@ use mathlib.Core.Bool.{Bool, true, false, cond, _||_}
 use mathlib.Core.List.{List, [], _∷_, append-nil}
 use native.Mathlib.Omega.{arith}
 use lib.ListN.{length, getD, take, drop}
-use lib.Seq.{take-at}
+use lib.Seq.{take-at, getD-set-same}
 use lib.Dec.{eqb}
+use borrow.Author.Tests.{ne-eqb}
 use Rattle.model.specs.declared.Order.{Order}
 use Rattle.model.specs.declared.Asked.{Asked}
 use Rattle.model.specs.declared.Trade.{Trade}
@@ -28,7 +29,8 @@ use Rattle.book.specs.Places.{lowestFree}
 use Rattle.book.proofs.Lists.{both as each-both, each, every}
 use Rattle.book.proofs.Queues.{number-live}
 use Rattle.book.proofs.Finding.{rest-set}
-use Rattle.book.proofs.Kept.{New, free-number, set-each, less-by, standing-settle}
+use Rattle.book.proofs.Kept.{New, new-fresh, free-number, set-each, less-by, standing-settle, fresh-settle}
+use Rattle.book.proofs.Shares.{room-after}
 use Rattle.book.proofs.Settlements.{filled-none, part, filled-cons, less-some}
 use Rattle.soundness.proofs.SoundDays.{sound-day, next-new}
 use Rattle.pairing.proofs.Auctions.{auction-uncrosses, uncrossed-none}
@@ -40,7 +42,7 @@ use Rattle.demands.proofs.Settled.{settle-length}
 use Rattle.demands.proofs.Pricings.{sound-stands}
 use Rattle.demands.proofs.Moved.{both, not-reached, moved-by}
 use Rattle.demands.proofs.Staying.{settle-at, rest-elsewhere}
-use Rattle.demands.proofs.Entries.{accepted}
+use Rattle.demands.proofs.Entries.{all-ends, rests-somewhere, placed-rests, accepted-cases}
 use Rattle.demands.proofs.Once.{Once, book-once}
 use Rattle.demands.proofs.SweptLeft.{entry-own-falls, entry-own-filled, entry-falls}
 use Rattle.demands.proofs.PairedLeft.{auction-falls}
@@ -190,20 +192,45 @@ module _ (d : Day) (a : Asked) (book : List Order) (s : Sound d book) where
       (λ _. rw (take-at ts (drop (length ts) lent) (length ts) refl) (resting-fall, placed-stands (a .quantity - filled ts) (restPrice a ts book)))
       (λ _. (no-falls book, no-trade-stands book (stands .fair)))
 
+  -- what rests of it goes to the lowest free place, and its number is nowhere else
+  own-stands :
+      (q p : ℕ)
+      → lowestFree book < length book
+      → ((q ≡ 0 → ⊥) → p ≡ 0 → ⊥)
+      → Stands (lowestFree (settle ts book)) q
+      (record { side = a .side; account = a .account; left = a .quantity; price = p; number = nextNumber d })
+      (placed a (nextNumber d) q p (settle ts book))
+  unfolding placed
+  own-stands q p room priced =
+      let x : Order = record { side = a .side; account = a .account; left = q; price = p; number = nextNumber d } in
+      record {
+        some =
+            λ n.
+            rw (ne-eqb q 0 n, ne-eqb p 0 (priced n), rest-set x (settle ts book))
+            (getD-set-same (settle ts book) (lowestFree (settle ts book)) x free (room-after ts book room));
+        none =
+            λ z.
+            rw z
+            (each (λ (o : Order). o .number ≡ nextNumber d → nextNumber d ≡ 0) (λ (o : Order). o .number ≡ nextNumber d → ⊥) (settle ts book)
+            (λ o f e. new .real (f e)) (fresh-settle ts (nextNumber d) book (new-fresh (nextNumber d) book new)));
+      }
+
   pub incoming-leaves :
       (lent : List Trade) (e : Entry)
       → orderCall d a book lent .answer .reply ≡ OrderReply.the-variants.Accepted e
-      → Incoming a e (take (orderCall d a book lent .answer .made) (orderCall d a book lent .trades))
-  unfolding written nextNumber
-  incoming-leaves lent e r =
-      let k = accepted d a book lent e r in
+      → Incoming a e (take (orderCall d a book lent .answer .made) (orderCall d a book lent .trades)) book (orderCall d a book lent .book)
+  unfolding entered written
+  incoming-leaves lent e =
+      accepted-cases d a book lent e (λ x o. Incoming a x (take (o .answer .made) (o .trades)) book (o .book))
+      (λ k.
       let f = entry-own-falls d a book stands new in
       let h = falls-last (nextNumber d) (a .quantity) ts f in
-      let w = k .adds-up .whole in
-      let v = k .adds-up .shares in
-      let u = entry-own-filled d a book in
-      rw (k .made, k .trades, take-at ts (drop (length ts) lent) (length ts) refl, k .number)
-      (record { falls = f; last = omega (arith, h .0, h .1, w, v, u) })
+      rw (take-at ts (drop (length ts) lent) (length ts) refl)
+      (record {
+        falls = f;
+        last = omega (arith, h .0, h .1, all-ends d a book, entry-own-filled d a book);
+        stands = rw (placed-rests d a book (nextNumber d) (settle ts book)) (own-stands _ (restPrice a ts book) (k .place) (rests-somewhere d a book));
+      }))
 
 -- ---- a move of the clock
 

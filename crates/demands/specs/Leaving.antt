@@ -16,11 +16,13 @@ use Rattle.model.specs.declared.OrderAnswer.{OrderAnswer}
 use Rattle.model.specs.declared.ClockAnswer.{ClockAnswer}
 use Rattle.model.specs.Choice.{if_then_else_}
 use Rattle.model.specs.Book.{free}
-use Rattle.model.specs.Matching.{isIn}
+use Rattle.model.specs.Matching.{isIn, settle}
+use Rattle.model.specs.Entry.{restPrice}
 use Rattle.model.specs.Replies.{restingOf, withdrawnOf}
 use Rattle.model.specs.Calls.{Outcome, orderCall}
 use Rattle.model.specs.ClockCall.{clockCall}
 use Rattle.book.specs.Standing.{Each}
+use Rattle.book.specs.Places.{lowestFree}
 use Rattle.demands.specs.Pricing.{Sound}
 
 -- what a trade leaves of the order with this number, which has part in it
@@ -58,10 +60,15 @@ EachStands ts book after =
     → (getD book i free .number ≡ 0 → ⊥)
     → Stands i (lastLeft (getD book i free .number) (getD book i free .left) ts) (getD book i free) after
 
--- of the order that comes in: the last number is what rests of it or is withdrawn
-pub record Incoming (a : Asked) (e : Entry) (ts : List Trade) : Type 0 where
+-- of the order that comes in: the last number is what rests of it or is withdrawn; what rests stands at the lowest place that is
+-- free after its trades, and where nothing rests it stands at no place
+pub record Incoming (a : Asked) (e : Entry) (ts : List Trade) (book after : List Order) : Type 0 where
   pub falls : Falls (e .number) (a .quantity) ts
   pub last : lastLeft (e .number) (a .quantity) ts ≡ restingOf (e .remainder) + withdrawnOf (e .remainder)
+  pub stands :
+      Stands (lowestFree (settle ts book)) (restingOf (e .remainder))
+      (record { side = a .side; account = a .account; left = a .quantity; price = restPrice a ts book; number = e .number })
+      after
 
 pub record Leaving : Type 0 where
   pub order :
@@ -72,8 +79,8 @@ pub record Leaving : Type 0 where
   pub incoming :
       (d : Day) (a : Asked) (book : List Order) (lent : List Trade) (e : Entry)
       → Sound d book
-      → orderCall d a book lent .answer .reply ≡ OrderReply.the-variants.Accepted e
-      → Incoming a e (take (orderCall d a book lent .answer .made) (orderCall d a book lent .trades))
+      → let o : Outcome OrderAnswer = orderCall d a book lent in
+      o .answer .reply ≡ OrderReply.the-variants.Accepted e → Incoming a e (take (o .answer .made) (o .trades)) book (o .book)
   pub clock :
       (d : Day) (t : ℕ) (book : List Order) (lent : List Trade)
       → Sound d book
