@@ -155,7 +155,7 @@ module _ (book : List Order) (s : Standing book) where
       pub sell-ready : 0 < sell .left
       sell-ready = head-ready (queue 1 book) (queued 1) left sell some (k .sells)
 
-      module _ {x q : ℕ} (hx : x ≡ min (buy .left) (sell .left)) (hq : q ≡ min left x) where
+      module _ {x q : ℕ} (hx : x ≡ min left (buy .left)) (hq : q ≡ min x (sell .left)) where
         pub quantity-some : (0 < q) × (q ≤ left)
         quantity-some = omega (arith, buy-ready, sell-ready)
 

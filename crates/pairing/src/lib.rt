@@ -73,8 +73,9 @@ pub fn pair_at(rows: &[[u64; 5]], trades: &mut [[u64; 6]], room: usize, price: u
     while 0 < left {
         let wanted = buy.left;
         let offered = sell.left;
-        let quantity = smaller(left, smaller(wanted, offered));
-        // What is left is of the whole order, not of what the volume grants it.
+        let granted = smaller(left, wanted);
+        let quantity = smaller(granted, offered);
+        // What is left is of the whole order, not of the part that the volume grants it.
         let buyerleft = wanted - quantity;
         let sellerleft = offered - quantity;
         let trade = Trade {
