@@ -7,11 +7,12 @@ use mathlib.Core.Bool.{Bool, false}
 use mathlib.Core.List.{List, []}
 use native.Mathlib.Nat.{mul-le-mul-right}
 use native.Mathlib.Omega.{arith}
-use lib.ListN.{length, take, getD}
+use lib.ListN.{length, length-map, take, getD}
 use borrow.Author.Tests.{lt-ltb, le-ltb}
 use Rattle.model.specs.declared.Order.{Order}
 use Rattle.model.specs.declared.Trade.{Trade}
 use Rattle.model.specs.declared.Day.{Day}
+use Rattle.model.specs.Book.{isLive}
 use Rattle.model.specs.Matching.{filled, settle}
 use Rattle.model.specs.Figures.{money, tally, reference}
 use Rattle.model.specs.Auction.{leftBy}
@@ -21,16 +22,16 @@ use Rattle.model.specs.Refusals.{_when_, firstOf}
 use Rattle.model.specs.Calls.{written}
 use Rattle.model.specs.ClockCall.{auctionPrice, auctionTrades, hold, start}
 use Rattle.model.proofs.Rules.{hit}
-use Rattle.book.specs.Rows.{bookOf, tradesOf, tradeRows}
+use Rattle.book.specs.Rows.{orderOf, bookOf, tradesOf, tradeRows}
 use Rattle.book.specs.Standing.{Standing}
 use Rattle.book.specs.Writing.{front}
+use Rattle.book.proofs.Lists.{length-keep}
 use Rattle.book.proofs.Written.{front-nil, front-trades, front-written}
-use Rattle.pairing.proofs.Auctions.{auction-trades-are, auction-money, auction-shares, auction-cases}
+use Rattle.pairing.proofs.Auctions.{uncrossed-none, auction-trades-are, auction-money, auction-shares, auction-fewer, auction-cases}
 use Rattle.day.specs.Promises.{left}
 use Rattle.day.specs.Ready.{Ready}
 use Rattle.day.specs.Moving.{auctioned, auctionRules, reached}
 use Rattle.day.proofs.AuctionLaws.{price-found}
-use Rattle.pairing.proofs.Auctions.{uncrossed-none}
 
 -- ---- its trades
 
@@ -56,6 +57,15 @@ module _ (d : Day) (book : List Order) (room : ℕ) where
   pub auction-none : length (auctionTrades d book) ≤ room → 0 ≡ firstOf (auctionRules d book room)
   unfolding auctionRules firstOf _when_
   auction-none h = rw (le-ltb room (length (auctionTrades d book)) h)
+
+-- no auction has more trades than the book has places
+pub list-enough :
+    (d : Day) (rows : List (List ℕ)) (room : ℕ)
+    → Standing (bookOf rows)
+    → length rows ≤ room
+    → length (auctionTrades d (bookOf rows)) ≤ room
+list-enough d rows room s h =
+    omega (arith, h, auction-fewer (bookOf rows) s d, length-keep isLive (bookOf rows), length-map rows orderOf)
 
 -- ---- room in the day's figures
 

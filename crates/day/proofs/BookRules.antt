@@ -1,12 +1,12 @@
 -- An order's rules by the book: the base of its range, whether it is outside, and which of these rules is the first to hold.
 -- Assumes nothing.
-use Prim.Native.Nat.{ℕ, _≤_, _<_}
-use mathlib.Core.Path.{_≡_, refl, sym, ap, _∙_}
+use Prim.Native.Nat.{ℕ, _≤_}
+use mathlib.Core.Path.{_≡_, refl, sym, _∙_}
 use mathlib.Core.Bool.{Bool, true, false, not, _&&_}
 use mathlib.Core.List.{List}
 use lib.ListN.{length, length-map}
-use lib.Dec.{eqb}
-use borrow.Author.Tests.{le-leb, lt-ltb, le-ltb, eq-eqb, ne-eqb}
+use lib.Dec.{ltb, eqb}
+use borrow.Author.Tests.{le-leb, le-ltb, eq-eqb, ne-eqb}
 use native.Mathlib.Omega.{arith}
 use Rattle.model.specs.declared.Order.{Order}
 use Rattle.model.specs.declared.Asked.{Asked}
@@ -15,7 +15,7 @@ use Rattle.model.specs.declared.Trade.{Trade}
 use Rattle.model.specs.Lists.{all}
 use Rattle.model.specs.Clock.{phaseAt, continuous}
 use Rattle.model.specs.Limits.{isPrice, inRange}
-use Rattle.model.specs.Book.{isLive, best, other}
+use Rattle.model.specs.Book.{isLive, standsOn, best, other}
 use Rattle.model.specs.Figures.{reference}
 use Rattle.model.specs.Entry.{entryTrades, base}
 use Rattle.model.specs.Refusals.{_when_, firstOf}
@@ -25,8 +25,10 @@ use Rattle.book.specs.Standing.{Standing}
 use Rattle.book.specs.Places.{lowestFree}
 use Rattle.book.proofs.Finding.{full, not-full, lowest-bound}
 use Rattle.book.proofs.Best.{best-price}
+use Rattle.book.proofs.Lists.{length-keep}
 use Rattle.matching.specs.declared.Swept.{Swept}
 use Rattle.matching.specs.Sweeping.{comesTo}
+use Rattle.matching.proofs.EntryLaws.{entry-count}
 use Rattle.day.specs.Checks.{outside, bookRules}
 
 -- ---- the base of the range
@@ -114,15 +116,13 @@ module _ (d : Day) (a : Asked) (book : List Order) (room : ℕ) where
       book-issued i = rw (o, l, eq-eqb (d .issued) 999_999 i)
 
       module _ (i : d .issued ≡ 999_999 → ⊥) where
-        pub book-room : room < length (entryTrades d a book) → 13 ≡ firstOf (bookRules d a book room)
+        pub book-room : ltb room (length (entryTrades d a book)) ≡ true → 13 ≡ firstOf (bookRules d a book room)
         unfolding bookRules firstOf _when_
-        book-room h =
-            rw (o, l, ne-eqb (d .issued) 999_999 i, lt-ltb room (length (entryTrades d a book)) h)
+        book-room h = rw (o, l, ne-eqb (d .issued) 999_999 i, h)
 
-        pub book-none : length (entryTrades d a book) ≤ room → 0 ≡ firstOf (bookRules d a book room)
+        pub book-none : ltb room (length (entryTrades d a book)) ≡ false → 0 ≡ firstOf (bookRules d a book room)
         unfolding bookRules firstOf _when_
-        book-none h =
-            rw (o, l, ne-eqb (d .issued) 999_999 i, le-ltb room (length (entryTrades d a book)) h)
+        book-none h = rw (o, l, ne-eqb (d .issued) 999_999 i, h)
 
 -- ---- what the code found
 
@@ -135,6 +135,17 @@ module _ (rows : List (List ℕ)) {n : ℕ} (e : n ≡ lowestFree (bookOf rows))
 
   pub free-of : (n ≡ length rows → ⊥) → all isLive (bookOf rows) ≡ false
   free-of h = not-full (bookOf rows) (omega (arith, places, lowest-bound (bookOf rows)))
+
+-- no order has more trades than the book has places
+pub list-enough :
+    (d : Day) (a : Asked) (rows : List (List ℕ)) (room : ℕ)
+    → length rows ≤ room
+    → false ≡ ltb room (length (entryTrades d a (bookOf rows)))
+list-enough d a rows room h =
+    let book = bookOf rows in
+    let few : length (entryTrades d a book) ≤ room =
+    omega (arith, h, entry-count d a book, length-keep (standsOn (other (a .side))) book, length-map rows orderOf) in
+    sym (le-ltb room (length (entryTrades d a book)) few)
 
 pub counted-trades : {s : Swept} (ts : List Trade) → s ≡ comesTo ts → s .trades ≡ length ts
 unfolding comesTo

@@ -10,11 +10,12 @@ use model::Day;
 ghost use mathlib.Core.Path.{_≡_};
 ghost use mathlib.Core.Bool.{true};
 ghost use Prim.Native.Nat.{_≤_};
+ghost use lib.Dec.{ltb};
 ghost use lib.ListN.{length};
 ghost use Rattle.model.specs.Clock.{phaseAt};
 ghost use Rattle.model.specs.Limits.{isPrice};
 ghost use Rattle.model.specs.Figures.{reference};
-ghost use Rattle.model.specs.Entry.{base};
+ghost use Rattle.model.specs.Entry.{base, entryTrades};
 ghost use Rattle.model.specs.Refusals.{firstOf};
 ghost use Rattle.book.specs.Rows.{bookOf};
 ghost use Rattle.book.specs.Standing.{Standing};
@@ -54,8 +55,22 @@ fn is_outside(rows: &[[u64; 5]], d: Day, phase: u64, a: Asked) -> bool
     !in_range(a.side, base, a.price)
 }
 
-// 9: outside the range. 10: no free place. 11: no number left. 13: more trades than the list has room for; a first pass counts
-// them and writes nothing.
+// More trades than the list has room for. No order has more than the book has places, so they are counted only where the list is
+// shorter: a run that writes nothing.
+fn lacks_room(rows: &[[u64; 5]], trades: &mut [[u64; 6]], d: Day, phase: u64, a: Asked) -> bool
+    requires { ⌜ Standing (bookOf (now rows)) ⌝ }
+    requires { ⌜ phase ≡ phaseAt (d .time) ⌝ }
+    requires { ⌜ d .issued ≤ 999_999 ⌝ }
+    ensures { λ r. ⌜ (r ≡ ltb (length (now (trades .entry))) (length (entryTrades d a (bookOf (now (rows .entry)))))) × (now (trades .exit) ≡ now (trades .entry)) ⌝ }
+{
+    if rows.len() <= trades.len() {
+        return false;
+    }
+    let counted = enter_trades(rows, &mut *trades, 0, d, phase, a);
+    trades.len() < counted.trades
+}
+
+// 9: outside the range. 10: no free place. 11: no number left. 13: no room for the trades.
 pub fn book_refusal(rows: &[[u64; 5]], trades: &mut [[u64; 6]], d: Day, phase: u64, a: Asked) -> u64
     requires { ⌜ Standing (bookOf (now rows)) ⌝ }
     requires { ⌜ phase ≡ phaseAt (d .time) ⌝ }
@@ -73,8 +88,7 @@ pub fn book_refusal(rows: &[[u64; 5]], trades: &mut [[u64; 6]], d: Day, phase: u
     if d.issued == 999_999 {
         return 11;
     }
-    let counted = enter_trades(rows, &mut *trades, 0, d, phase, a);
-    if trades.len() < counted.trades {
+    if lacks_room(rows, &mut *trades, d, phase, a) {
         return 13;
     }
     0

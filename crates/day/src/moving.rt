@@ -99,11 +99,15 @@ fn auction_trades(d: Day, rows: &[[u64; 5]], trades: &mut [[u64; 6]], room: usiz
     pair_at(rows, &mut *trades, room, price)
 }
 
-// 13: more trades than the list has room for; a first pass counts them and writes nothing.
+// 13: more trades than the list has room for. No auction has more than the book has places, so they are counted only where the
+// list is shorter: a run that writes nothing.
 fn auction_refusal(d: Day, rows: &[[u64; 5]], trades: &mut [[u64; 6]]) -> u64
     requires { ⌜ Standing (bookOf (now rows)) ⌝ }
     ensures { λ r. ⌜ (r ≡ firstOf (auctionRules d (bookOf (now (rows .entry))) (length (now (trades .entry))))) × (now (trades .exit) ≡ now (trades .entry)) ⌝ }
 {
+    if rows.len() <= trades.len() {
+        return 0;
+    }
     let counted = auction_trades(d, rows, &mut *trades, 0);
     if trades.len() < counted {
         return 13;

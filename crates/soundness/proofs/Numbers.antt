@@ -4,6 +4,7 @@ use Prim.Native.Nat.{ℕ, _+_, _/_, _≤_, _<_}
 use mathlib.Core.Path.{_≡_, refl, sym, ap, _∙_}
 use mathlib.Core.Bool.{Bool, true, false, not, _&&_}
 use mathlib.Core.List.{List, [], _∷_}
+use mathlib.Core.Logic.{⊎-elim}
 use native.Mathlib.Omega.{arith}
 use lib.Dec.{eqb}
 use lib.ListN.{length, getD, drop, length-replicate, drop-of-length-le}
@@ -19,11 +20,11 @@ use Rattle.bits.proofs.MapLaws.{empty-map, marked-itself, marked-other, length-
 use Rattle.book.specs.Rows.{orderOf, bookOf}
 use Rattle.book.specs.Standing.{Each, Apart}
 use Rattle.book.proofs.Lists.{each, both, every}
-use Rattle.soundness.specs.Numbers.{noNumbers}
-use Rattle.soundness.specs.SoundDay.{Place}
+use Rattle.book.proofs.Kept.{free-number}
+use Rattle.soundness.specs.Numbers.{noNumbers, Ready}
+use Rattle.soundness.specs.SoundDay.{Rests, Place}
 use Rattle.soundness.proofs.Says.{Says, fails, says-itself, says-and, says-not, says-all, says-same}
 use Rattle.soundness.proofs.Clauses.{Beside, sits, whole, says-place, says-live, says-whole}
-use Rattle.soundness.proofs.SoundDays.{fair-place}
 use Rattle.soundness.proofs.Onward.{onward}
 
 -- the test that is still to be made: of these places, with those numbers used before them
@@ -105,29 +106,40 @@ module _ (d : Day) (used : List ℕ) (o : Order) (os : List Order) where
       (says-still d (marked used (o .number)) os)
       (says-still d used (o ∷ os))
 
+-- a place bears no number that is not issued
+issued-number : (d : Day) (o : Order) → Place d o → o .number ≤ d .issued
+issued-number d o p =
+    ⊎-elim (λ e. omega (arith, ap (λ (x : Order). x .number) e, free-number)) (λ (r : Rests d o). r .issued) p
+
 -- ---- the loop: what is still to be tested is the whole test
 
 pub record Tested (d : Day) (rows : List (List ℕ)) (used : List ℕ) (i : ℕ) : Type 0 where
-  pub words : length used ≡ 15_625
+  pub wide : d .issued / 64 < length used
   pub rest : still d used (bookOf (drop i rows)) ≡ whole d (bookOf rows)
 
-none-used : (o : Order) → New noNumbers o
+none-used : (used : List ℕ) → used ≡ noNumbers (length used) → (o : Order) → New used o
 unfolding noNumbers
-none-used o w = not-both (w .1) (empty-map 15_625 (o .number))
+none-used used e o w =
+    not-both (w .1) (ap (λ (m : List ℕ). hasBit m (o .number)) e ∙ empty-map (length used) (o .number))
 
-pub tested-none : (d : Day) (rows : List (List ℕ)) (used : List ℕ) → used ≡ noNumbers → Tested d rows used 0
-unfolding noNumbers
-tested-none d rows used e =
-    rw e
+pub tested-none : (d : Day) (rows : List (List ℕ)) (used : List ℕ) → Ready (d .issued) used → Tested d rows used 0
+tested-none d rows used r =
     record {
-      words = length-replicate {A = ℕ} 15_625 0;
+      wide = r .wide;
       rest =
           says-same
           (λ h. h .0)
-          (λ h. (h, every (New noNumbers) (bookOf rows) none-used))
-          (says-still d noNumbers (bookOf rows))
+          (λ h. (h, every (New used) (bookOf rows) (none-used used (r .empty))))
+          (says-still d used (bookOf rows))
           (says-whole d (bookOf rows));
     }
+
+-- a map of so many words
+pub map-ready : (issued words : ℕ) (map : List ℕ) → map ≡ noNumbers words → issued / 64 < words → Ready issued map
+unfolding noNumbers
+map-ready issued words map e h =
+    let l : length map ≡ words = ap length e ∙ length-replicate {A = ℕ} words 0 in
+    record { empty = e ∙ ap noNumbers (sym l); wide = omega (arith, h, l) }
 
 module _ (d : Day) (rows : List (List ℕ)) (used : List ℕ) (i : ℕ) (t : Tested d rows used i) where
   module _ (o : Order) (l : i < length rows) (e : o ≡ orderOf (getD rows i [])) where
@@ -142,17 +154,15 @@ module _ (d : Day) (rows : List (List ℕ)) (used : List ℕ) (i : ℕ) (t : Tes
 
     pub tested-more :
         (next : List ℕ)
-        → d .issued ≤ 999_999
         → sits d o ≡ true
         → (isLive o && hasBit used (o .number)) ≡ false
         → next ≡ marked used (o .number)
         → Tested d rows next (i + 1)
-    tested-more next m s u n =
-        let f = fair-place d o m (says-place d o .0 s) in
+    tested-more next s u n =
         rw n
         record {
-          words = length-marked used (o .number) ∙ t .words;
-          rest = used-once d used o (bookOf (drop (i + 1) rows)) s u (omega (arith, t .words, f .number)) ∙ here;
+          wide = omega (arith, t .wide, length-marked used (o .number));
+          rest = used-once d used o (bookOf (drop (i + 1) rows)) s u (omega (arith, t .wide, issued-number d o (says-place d o .0 s))) ∙ here;
         }
 
   pub tested-all : length rows ≤ i → true ≡ whole d (bookOf rows)

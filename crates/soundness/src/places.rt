@@ -8,7 +8,7 @@ ghost use Rattle.model.specs.Sound.{hasPlaces, mayStand, soundFigures, isFree, 
 ghost use Rattle.bits.specs.Maps.{hasBit};
 ghost use Rattle.book.specs.Rows.{bookOf};
 ghost use Rattle.book.specs.Standing.{Each, Fair, Standing};
-ghost use Rattle.soundness.specs.Numbers.{noNumbers};
+ghost use Rattle.soundness.specs.Numbers.{noNumbers, Ready};
 use crate::figures::is_between;
 use bits::has;
 use bits::mark;
@@ -92,9 +92,15 @@ fn place_is_sound(day: Day, o: Order) -> bool
     is_order(day, o)
 }
 
-// A map of the numbers 0 to 999,999 with none in it.
-fn no_numbers() -> [u64; 15_625]
-    ensures { λ r. ⌜ r ≡ noNumbers ⌝ }
+// Maps with no number in them: of 0 to 65,535, and of 0 to 999,999.
+fn few_numbers() -> [u64; 1_024]
+    ensures { λ r. ⌜ r ≡ noNumbers 1_024 ⌝ }
+{
+    [0; 1_024]
+}
+
+fn all_numbers() -> [u64; 15_625]
+    ensures { λ r. ⌜ r ≡ noNumbers 15_625 ⌝ }
 {
     [0; 15_625]
 }
@@ -110,24 +116,37 @@ fn is_used(used: &[u64], o: Order) -> bool
 }
 
 // Each place is free or has an order, and each order its own number: found with a map of the numbers used so far.
-pub fn sound_places(day: Day, rows: &[[u64; 5]]) -> bool
+fn places_with(used: &mut [u64], day: Day, rows: &[[u64; 5]]) -> bool
     requires { ⌜ soundFigures day ≡ true ⌝ }
+    requires { ⌜ Ready (day .issued) (now used) ⌝ }
     ensures { λ r. ⌜ r ≡ (all (λ o. isFree o || isOrder day o) (bookOf (now (rows .entry))) && ownNumbers (bookOf (now (rows .entry)))) ⌝ }
 {
-    let mut used = no_numbers();
     let mut i = 0;
     while i < rows.len() {
         let o = order_at(rows, i);
         if !place_is_sound(day, o) {
             return false;
         }
-        if is_used(&used, o) {
+        if is_used(used, o) {
             return false;
         }
-        mark(&mut used, o.number);
+        mark(&mut *used, o.number);
         i += 1;
     }
     true
+}
+
+// A map is set to zero at each call, so a short one serves while few numbers are issued.
+pub fn sound_places(day: Day, rows: &[[u64; 5]]) -> bool
+    requires { ⌜ soundFigures day ≡ true ⌝ }
+    ensures { λ r. ⌜ r ≡ (all (λ o. isFree o || isOrder day o) (bookOf (now (rows .entry))) && ownNumbers (bookOf (now (rows .entry)))) ⌝ }
+{
+    if day.issued <= 65_535 {
+        let mut used = few_numbers();
+        return places_with(&mut used[..], day, rows);
+    }
+    let mut used = all_numbers();
+    places_with(&mut used[..], day, rows)
 }
 
 // The shares left of all orders.

@@ -16,7 +16,7 @@ use Rattle.wire.specs.Layout.{orderIn, bookIn, bookBytes, over}
 use Rattle.wire.specs.Exports.{Stored}
 use Rattle.wire.proofs.Back.{AllBytes, length-parts, book-kept}
 
-length-book-in : (book : List ℕ) → length (bookIn book) ≡ length book / 40
+pub length-book-in : (book : List ℕ) → length (bookIn book) ≡ length book / 40
 unfolding bookIn
 length-book-in book = length-parts orderIn 40 (length book / 40) book
 

@@ -1,4 +1,4 @@
--- No event has more than 4,096 trades: a local list of so many places serves a lent list of any length. Assumes nothing.
+-- No event has more trades than the book has places: a local list of so many serves a lent list of any length. Assumes nothing.
 use Prim.Native.Nat.{ℕ, _≤_, min}
 use mathlib.Core.Path.{_≡_, refl, sym, _∙_}
 use mathlib.Core.Bool.{Bool, true, false}
@@ -36,53 +36,47 @@ use Rattle.day.proofs.ClockLaws.{moved-trades, auction-is-some, lapse-is-some, 
 
 -- ---- how many trades an event has
 
-entry-few : (d : Day) (a : Asked) (book : List Order) → unsound d book ≡ false → length (entryTrades d a book) ≤ 4_096
-entry-few d a book u =
-    let s = ready-if d book u .stands in
-    omega (arith, entry-count d a book, length-keep (standsOn (other (a .side))) book, s .few)
+entry-few : (d : Day) (a : Asked) (book : List Order) → length (entryTrades d a book) ≤ length book
+entry-few d a book = omega (arith, entry-count d a book, length-keep (standsOn (other (a .side))) book)
 
-auction-few : (d : Day) (book : List Order) → Standing book → length (auctionTrades d book) ≤ 4_096
-auction-few d book s = omega (arith, auction-fewer book s d, length-keep isLive book, s .few)
+auction-few : (d : Day) (book : List Order) → Standing book → length (auctionTrades d book) ≤ length book
+auction-few d book s = omega (arith, auction-fewer book s d, length-keep isLive book)
 
 nothing-moved :
     (d : Day) (t : ℕ) (book : List Order) → Standing book → passed (d .time) t boundaries Nothing ≡ Nothing → moved d t book .trades ≡ []
 unfolding past start
 nothing-moved d t book s e = rw (moved-past d t book s, e)
 
-moved-few : (d : Day) (t : ℕ) (book : List Order) → unsound d book ≡ false → length (moved d t book .trades) ≤ 4_096
+moved-few : (d : Day) (t : ℕ) (book : List Order) → unsound d book ≡ false → length (moved d t book .trades) ≤ length book
 moved-few d t book u = go (passed (d .time) t boundaries Nothing) refl
   where
     s : Standing book
     s = ready-if d book u .stands
 
-    go : (p : Passed) → passed (d .time) t boundaries Nothing ≡ p → length (moved d t book .trades) ≤ 4_096
+    go : (p : Passed) → passed (d .time) t boundaries Nothing ≡ p → length (moved d t book .trades) ≤ length book
     go Nothing e = rw (nothing-moved d t book s e) (omega arith)
     go Auction e = rw (moved-trades d t book s (sym e) (auction-is-some refl)) (auction-few d book s)
     go Lapse e = rw (moved-trades d t book s (sym e) (lapse-is-some refl)) (auction-few d book s)
 
 -- ---- a shorter list has room for the same
 
-room-same : (k room : ℕ) → k ≤ 4_096 → ltb (min 4_096 room) k ≡ ltb room k
-room-same k room h = elim (decLt room k) [
-  | yes l ↦ rw (lt-ltb room k l) (lt-ltb (min 4_096 room) k (omega arith))
-  | no l ↦ rw (le-ltb room k (omega arith)) (le-ltb (min 4_096 room) k (omega arith))
+room-same : (k most room : ℕ) → k ≤ most → ltb (min most room) k ≡ ltb room k
+room-same k most room h = elim (decLt room k) [
+  | yes l ↦ rw (lt-ltb room k l) (lt-ltb (min most room) k (omega arith))
+  | no l ↦ rw (le-ltb room k (omega arith)) (le-ltb (min most room) k (omega arith))
 ]
 
-order-rules : (d : Day) (a : Asked) (book : List Order) (room : ℕ) → firstOf (orderRules d a book (min 4_096 room)) ≡ firstOf (orderRules d a book room)
+order-rules : (d : Day) (a : Asked) (book : List Order) (room : ℕ) → firstOf (orderRules d a book (min (length book) room)) ≡ firstOf (orderRules d a book room)
 unfolding orderRules
-order-rules d a book room = go (unsound d book) refl
-  where
-    go : (u : Bool) → unsound d book ≡ u → firstOf (orderRules d a book (min 4_096 room)) ≡ firstOf (orderRules d a book room)
-    go true u = hit 15 _ u ∙ sym (hit 15 _ u)
-    go false u = rw (room-same (length (entryTrades d a book)) room (entry-few d a book u))
+order-rules d a book room = rw (room-same (length (entryTrades d a book)) (length book) room (entry-few d a book))
 
-clock-rules : (d : Day) (t : ℕ) (book : List Order) (room : ℕ) → firstOf (clockRules d t book (min 4_096 room)) ≡ firstOf (clockRules d t book room)
+clock-rules : (d : Day) (t : ℕ) (book : List Order) (room : ℕ) → firstOf (clockRules d t book (min (length book) room)) ≡ firstOf (clockRules d t book room)
 unfolding clockRules
 clock-rules d t book room = go (unsound d book) refl
   where
-    go : (u : Bool) → unsound d book ≡ u → firstOf (clockRules d t book (min 4_096 room)) ≡ firstOf (clockRules d t book room)
+    go : (u : Bool) → unsound d book ≡ u → firstOf (clockRules d t book (min (length book) room)) ≡ firstOf (clockRules d t book room)
     go true u = hit 15 _ u ∙ sym (hit 15 _ u)
-    go false u = rw (room-same (length (moved d t book .trades)) room (moved-few d t book u))
+    go false u = rw (room-same (length (moved d t book .trades)) (length book) room (moved-few d t book u))
 
 -- ---- two lists, one outcome but for what stands behind the trades
 
@@ -133,7 +127,7 @@ alike made short lent n new done refused after before h z = go (eqb n 0) (eqb-tr
     go false e =
         record { new = []; answer = refl; book = refl; count = z; fits = omega arith; there = refl; here = refl }
 
-module _ (book : List Order) (short lent : List Trade) (k : length short ≡ min 4_096 (length lent)) (d : Day) where
+module _ (book : List Order) (short lent : List Trade) (k : length short ≡ min (length book) (length lent)) (d : Day) where
   pub order-alike :
       (a : Asked) → Alike (λ (r : OrderAnswer). r .made) short lent (orderCall d a book short) (orderCall d a book lent)
   unfolding orderCall entered

@@ -26,7 +26,7 @@ use Rattle.wire.specs.Exports.{returned, replied, Traded, tradeLeft, tra
 use Rattle.wire.proofs.Runs.{flat-append, flat-drop}
 use Rattle.wire.proofs.Sizes.{length-trade, length-trades}
 use Rattle.wire.proofs.Back.{AllBytes, length-parts, trades-again, trades-kept, day-kept, book-kept}
-use Rattle.wire.proofs.Refused.{too-many-unsound}
+use Rattle.wire.proofs.Refused.{length-book-in, too-many-unsound}
 use Rattle.wire.proofs.Rooms.{Alike, order-alike, clock-alike}
 
 -- ---- the trades' bytes
@@ -73,7 +73,7 @@ over-written new b s h =
 
 -- ---- the call on rows
 
-module _ {A : Type 0} (made : A → ℕ) (book trades : List ℕ) (list : List (List ℕ)) (k : length list ≡ min 4_096 (length trades / 48)) where
+module _ {A : Type 0} (made : A → ℕ) (book trades : List ℕ) (list : List (List ℕ)) (k : length list ≡ min (length book / 40) (length trades / 48)) where
   rows-made :
       (rows' list' : List (List ℕ)) {o p : Outcome A} {r : A}
       → Alike made (tradesOf list) (tradesIn trades) o p
@@ -114,9 +114,9 @@ module _ {A : Type 0} (made : A → ℕ) (book trades : List ℕ) (list : List (
 module _ (day book trades : List ℕ) (rows list : List (List ℕ)) {d : Day}
     (b : bookOf rows ≡ bookIn book)
     (e : d ≡ dayIn day)
-    (k : length list ≡ min 4_096 (length trades / 48)) where
-  short : length (tradesOf list) ≡ min 4_096 (length (tradesIn trades))
-  short = rw (length-map, length-trades-in) k
+    (k : length list ≡ min (length book / 40) (length trades / 48)) where
+  short : length (tradesOf list) ≡ min (length (bookIn book)) (length (tradesIn trades))
+  short = rw (length-map, length-book-in, length-trades-in) k
 
   order-like :
       (a : Asked)

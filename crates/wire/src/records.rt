@@ -20,10 +20,22 @@ pub fn room() -> [[u64; 5]; 4096] {
     [free; 4096]
 }
 
-// And for the trades of a call: no event has more.
+// And for the trades of a call: no event has more than the book has places.
 pub fn trade_room() -> [[u64; 6]; 4096] {
     let none = [0u64; 6];
     [none; 4096]
+}
+
+// The same for books of up to 1,024 places: a call sets its rooms to zero, which takes longer than the rest of its work where they
+// are larger than the book.
+pub fn small_room() -> [[u64; 5]; 1024] {
+    let free = [0u64; 5];
+    [free; 1024]
+}
+
+pub fn small_trade_room() -> [[u64; 6]; 1024] {
+    let none = [0u64; 6];
+    [none; 1024]
 }
 
 // The day that 64 bytes hold.

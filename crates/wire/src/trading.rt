@@ -3,6 +3,8 @@ use crate::records::day_in;
 use crate::records::load_book;
 use crate::records::put_day;
 use crate::records::room;
+use crate::records::small_room;
+use crate::records::small_trade_room;
 use crate::records::store_book;
 use crate::records::store_trades;
 use crate::records::trade_room;
@@ -23,11 +25,11 @@ ghost use Rattle.model.specs.ClockCall.{clockCall};
 ghost use Rattle.wire.specs.Layout.{dayIn, bookIn, tradesIn};
 ghost use Rattle.wire.specs.Exports.{Traded, tradeLeft, orderLeaves, clockLeaves};
 
-// As many trades as a lent list has places, and never more than an event can have.
-fn few(n: usize) -> usize
-    ensures { λ r. ⌜ r ≡ min 4_096 n ⌝ }
+// As many trades as a lent list has places, and never more than the book has: no event has more.
+fn few(places: usize, n: usize) -> usize
+    ensures { λ r. ⌜ r ≡ min places n ⌝ }
 {
-    if 4096 < n { 4096 } else { n }
+    if places < n { places } else { n }
 }
 
 // The bytes as rows, the call on the rows, and the rows and the trades that were made as bytes again.
@@ -41,7 +43,7 @@ fn order_in(
 ) -> OrderAnswer
     requires { ⌜ length (now day) ≡ 64 ⌝ }
     requires { ⌜ length (now rows) ≡ length (now book) / 40 ⌝ }
-    requires { ⌜ length (now list) ≡ min 4_096 (length (now trades) / 48) ⌝ }
+    requires { ⌜ length (now list) ≡ min (length (now book) / 40) (length (now trades) / 48) ⌝ }
     ensures { λ r. ⌜ Traded r (now (book .exit)) (now (trades .exit)) (orderCall (dayIn (now (day .entry))) a (bookIn (now (book .entry))) (tradesIn (now (trades .entry)))) (now (book .entry)) (now (trades .entry)) ⌝ }
 {
     load_book(book, &mut *rows);
@@ -52,16 +54,39 @@ fn order_in(
     answer
 }
 
-fn order_on(day: &[u8], book: &mut [u8], trades: &mut [u8], a: Asked) -> OrderAnswer
+fn order_on_many(day: &[u8], book: &mut [u8], trades: &mut [u8], a: Asked) -> OrderAnswer
     requires { ⌜ length (now day) ≡ 64 ⌝ }
     requires { ⌜ length (now book) / 40 ≤ 4_096 ⌝ }
     ensures { λ r. ⌜ Traded r (now (book .exit)) (now (trades .exit)) (orderCall (dayIn (now (day .entry))) a (bookIn (now (book .entry))) (tradesIn (now (trades .entry)))) (now (book .entry)) (now (trades .entry)) ⌝ }
 {
     let n = book.len() / 40;
-    let k = few(trades.len() / 48);
+    let k = few(n, trades.len() / 48);
     let mut rows = room();
     let mut list = trade_room();
     order_in(day, book, trades, &mut rows[..n], &mut list[..k], a)
+}
+
+fn order_on_few(day: &[u8], book: &mut [u8], trades: &mut [u8], a: Asked) -> OrderAnswer
+    requires { ⌜ length (now day) ≡ 64 ⌝ }
+    requires { ⌜ length (now book) / 40 ≤ 1_024 ⌝ }
+    ensures { λ r. ⌜ Traded r (now (book .exit)) (now (trades .exit)) (orderCall (dayIn (now (day .entry))) a (bookIn (now (book .entry))) (tradesIn (now (trades .entry)))) (now (book .entry)) (now (trades .entry)) ⌝ }
+{
+    let n = book.len() / 40;
+    let k = few(n, trades.len() / 48);
+    let mut rows = small_room();
+    let mut list = small_trade_room();
+    order_in(day, book, trades, &mut rows[..n], &mut list[..k], a)
+}
+
+fn order_on(day: &[u8], book: &mut [u8], trades: &mut [u8], a: Asked) -> OrderAnswer
+    requires { ⌜ length (now day) ≡ 64 ⌝ }
+    requires { ⌜ length (now book) / 40 ≤ 4_096 ⌝ }
+    ensures { λ r. ⌜ Traded r (now (book .exit)) (now (trades .exit)) (orderCall (dayIn (now (day .entry))) a (bookIn (now (book .entry))) (tradesIn (now (trades .entry)))) (now (book .entry)) (now (trades .entry)) ⌝ }
+{
+    if book.len() / 40 <= 1024 {
+        return order_on_few(day, book, trades, a);
+    }
+    order_on_many(day, book, trades, a)
 }
 
 // A book of more than 4,096 places is never read.
@@ -112,7 +137,7 @@ fn clock_in(
 ) -> ClockAnswer
     requires { ⌜ length (now day) ≡ 64 ⌝ }
     requires { ⌜ length (now rows) ≡ length (now book) / 40 ⌝ }
-    requires { ⌜ length (now list) ≡ min 4_096 (length (now trades) / 48) ⌝ }
+    requires { ⌜ length (now list) ≡ min (length (now book) / 40) (length (now trades) / 48) ⌝ }
     ensures { λ r. ⌜ Traded r (now (book .exit)) (now (trades .exit)) (clockCall (dayIn (now (day .entry))) time (bookIn (now (book .entry))) (tradesIn (now (trades .entry)))) (now (book .entry)) (now (trades .entry)) ⌝ }
 {
     load_book(book, &mut *rows);
@@ -123,16 +148,39 @@ fn clock_in(
     answer
 }
 
-fn clock_on(day: &[u8], book: &mut [u8], trades: &mut [u8], time: u64) -> ClockAnswer
+fn clock_on_many(day: &[u8], book: &mut [u8], trades: &mut [u8], time: u64) -> ClockAnswer
     requires { ⌜ length (now day) ≡ 64 ⌝ }
     requires { ⌜ length (now book) / 40 ≤ 4_096 ⌝ }
     ensures { λ r. ⌜ Traded r (now (book .exit)) (now (trades .exit)) (clockCall (dayIn (now (day .entry))) time (bookIn (now (book .entry))) (tradesIn (now (trades .entry)))) (now (book .entry)) (now (trades .entry)) ⌝ }
 {
     let n = book.len() / 40;
-    let k = few(trades.len() / 48);
+    let k = few(n, trades.len() / 48);
     let mut rows = room();
     let mut list = trade_room();
     clock_in(day, book, trades, &mut rows[..n], &mut list[..k], time)
+}
+
+fn clock_on_few(day: &[u8], book: &mut [u8], trades: &mut [u8], time: u64) -> ClockAnswer
+    requires { ⌜ length (now day) ≡ 64 ⌝ }
+    requires { ⌜ length (now book) / 40 ≤ 1_024 ⌝ }
+    ensures { λ r. ⌜ Traded r (now (book .exit)) (now (trades .exit)) (clockCall (dayIn (now (day .entry))) time (bookIn (now (book .entry))) (tradesIn (now (trades .entry)))) (now (book .entry)) (now (trades .entry)) ⌝ }
+{
+    let n = book.len() / 40;
+    let k = few(n, trades.len() / 48);
+    let mut rows = small_room();
+    let mut list = small_trade_room();
+    clock_in(day, book, trades, &mut rows[..n], &mut list[..k], time)
+}
+
+fn clock_on(day: &[u8], book: &mut [u8], trades: &mut [u8], time: u64) -> ClockAnswer
+    requires { ⌜ length (now day) ≡ 64 ⌝ }
+    requires { ⌜ length (now book) / 40 ≤ 4_096 ⌝ }
+    ensures { λ r. ⌜ Traded r (now (book .exit)) (now (trades .exit)) (clockCall (dayIn (now (day .entry))) time (bookIn (now (book .entry))) (tradesIn (now (trades .entry)))) (now (book .entry)) (now (trades .entry)) ⌝ }
+{
+    if book.len() / 40 <= 1024 {
+        return clock_on_few(day, book, trades, time);
+    }
+    clock_on_many(day, book, trades, time)
 }
 
 // As for an order.

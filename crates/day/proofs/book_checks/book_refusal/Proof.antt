@@ -1,11 +1,11 @@
--- `day::book_checks::book_refusal` meets its contract: each return is a law of the rules; the list is only counted into. Assumes nothing.
-use mathlib.Core.Path.{_≡_, refl, sym, ap, _∙_}
-use native.Mathlib.Omega.{arith}
+-- `day::book_checks::book_refusal` meets its contract: each return is a law of the rules. Assumes nothing.
+use mathlib.Core.Path.{_≡_, refl, sym, _∙_}
+use mathlib.Core.Bool.{false}
 use borrow.Author.Needs.{needs}
-use lib.ListN.{length}
-use Rattle.model.specs.Entry.{entryTrades}
+use Rattle.model.specs.Lists.{all}
+use Rattle.model.specs.Book.{isLive}
 use Rattle.book.specs.Rows.{bookOf}
-use Rattle.book.proofs.Written.{front-zero}
+use Rattle.day.specs.Checks.{outside}
 use Rattle.day.proofs.BookRules.{
   book-range,
   book-full,
@@ -14,7 +14,6 @@ use Rattle.day.proofs.BookRules.{
   book-none,
   full-of,
   free-of,
-  counted-trades,
 }
 use Rattle.day.proofs.book_checks.book_refusal.Statement.{statement}
 use Rattle.day.proofs.book_checks.book_refusal.Tie as tie
@@ -51,28 +50,36 @@ returns-3 c =
       refl,
     )
 
-enter-trades-requires : tie.Need-enter-trades-requires
-enter-trades-requires c κs =
+lacks-room-requires : tie.Need-lacks-room-requires
+lacks-room-requires c κs =
     let p = c .before .before .before .before .before .before .before .pre in
-    (p .0, (omega arith, (p .1 .0, p .1 .1 .1 .1)))
+    (p .0, (p .1 .0, p .1 .1 .1 .1))
 
 same-length : tie.Need-same-length
 same-length c = search needs
 
+-- past the first three tests: none of their rules holds
+module _ (c : tie.Else3) where
+  abbrev found : tie.After-lowest-free
+  found = c .before .before .before
+
+  abbrev started : tie.Start
+  started = found .before .before .before
+
+  inside : outside (started .args .d) (started .args .a) (bookOf (started .args .rows .now)) ≡ false
+  inside = sym (found .before .before .is-outside .ensures) ∙ found .before .if1 .left
+
+  some-free : all isLive (bookOf (started .args .rows .now)) ≡ false
+  some-free = free-of (started .args .rows .now) (found .lowest-free .ensures) (c .before .before .if2 .left)
+
 returns-4 : tie.Need-returns-4
 returns-4 c =
-    let s = c .before .before .before .before .before .before .before .before .before .before .before in
-    let e = c .before .before .before .enter-trades in
-    let book = bookOf (s .args .rows .now) in
-    let k : e .last .1 .0 ≡ s .args .trades .now = e .ensures .1 ∙ front-zero _ _ in
-    let l : length (e .last .1 .0) ≡ length (s .args .trades .now) = ap length k in
-    let n : e .result .trades ≡ length (entryTrades (s .args .d) (s .args .a) book) = counted-trades _ (e .ensures .0) in (
-      book-room (s .args .d) (s .args .a) book _
-          (sym (c .before .before .before .before .before .before .before .before .before .before .is-outside .ensures) ∙ c .before .before .before .before .before .before .before .before .before .if1 .left)
-          (free-of (s .args .rows .now) (c .before .before .before .before .before .before .before .before .lowest-free .ensures) (c .before .before .before .before .before .before .before .if2 .left))
-          (c .before .before .before .before .before .if3 .left)
-          (omega arith),
-      k,
+    let r = c .before .before in
+    let q = r .before .before in
+    let a = started q .args in (
+      book-room (a .d) (a .a) (bookOf (a .rows .now)) _ (inside q) (some-free q) (q .if3 .left)
+          (sym (r .lacks-room .ensures .0) ∙ c .if4 .taken),
+      r .lacks-room .ensures .1,
     )
 
 same-length-2 : tie.Need-same-length-2
@@ -80,18 +87,12 @@ same-length-2 c = search needs
 
 returns-5 : tie.Need-returns-5
 returns-5 c =
-    let s = c .before .before .before .before .before .before .before .before .before .before .before in
-    let e = c .before .before .before .enter-trades in
-    let book = bookOf (s .args .rows .now) in
-    let k : e .last .1 .0 ≡ s .args .trades .now = e .ensures .1 ∙ front-zero _ _ in
-    let l : length (e .last .1 .0) ≡ length (s .args .trades .now) = ap length k in
-    let n : e .result .trades ≡ length (entryTrades (s .args .d) (s .args .a) book) = counted-trades _ (e .ensures .0) in (
-      book-none (s .args .d) (s .args .a) book _
-          (sym (c .before .before .before .before .before .before .before .before .before .before .is-outside .ensures) ∙ c .before .before .before .before .before .before .before .before .before .if1 .left)
-          (free-of (s .args .rows .now) (c .before .before .before .before .before .before .before .before .lowest-free .ensures) (c .before .before .before .before .before .before .before .if2 .left))
-          (c .before .before .before .before .before .if3 .left)
-          (omega arith),
-      k,
+    let r = c .before .before in
+    let q = r .before .before in
+    let a = started q .args in (
+      book-none (a .d) (a .a) (bookOf (a .rows .now)) _ (inside q) (some-free q) (q .if3 .left)
+          (sym (r .lacks-room .ensures .0) ∙ c .if4 .left),
+      r .lacks-room .ensures .1,
     )
 
 pub book-refusal-spec : {M : Type 1} → statement M
@@ -103,7 +104,7 @@ book-refusal-spec =
     lowest-free-requires
     returns-2
     returns-3
-    enter-trades-requires
+    lacks-room-requires
     same-length
     returns-4
     same-length-2

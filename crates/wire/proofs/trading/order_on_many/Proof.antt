@@ -1,9 +1,9 @@
--- `wire::trading::order_on` meets its contract: rows and trades that are as many as the bytes hold. Assumes nothing.
+-- `wire::trading::order_on_many` meets its contract: rows and trades that are as many as the bytes hold. Assumes nothing.
 use mathlib.Core.Path.{sym, _∙_}
 use borrow.Author.Needs.{needs}
 use lib.Seq.{length-take-le}
-use Rattle.wire.proofs.trading.order_on.Statement.{statement}
-use Rattle.wire.proofs.trading.order_on.Tie as tie
+use Rattle.wire.proofs.trading.order_on_many.Statement.{statement}
+use Rattle.wire.proofs.trading.order_on_many.Tie as tie
 
 few-requires : tie.Need-few-requires
 few-requires c κs = search needs
@@ -44,8 +44,8 @@ same-length-2 c = search needs
 returns : tie.Need-returns
 returns c = search needs
 
-pub order-on-spec : {M : Type 1} → statement M
-order-on-spec =
+pub order-on-many-spec : {M : Type 1} → statement M
+order-on-many-spec =
     tie.close
     (tie.spec
     few-requires

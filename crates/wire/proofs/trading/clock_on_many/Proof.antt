@@ -1,9 +1,9 @@
--- `wire::trading::clock_on` meets its contract: rows and trades that are as many as the bytes hold. Assumes nothing.
+-- `wire::trading::clock_on_many` meets its contract: rows and trades that are as many as the bytes hold. Assumes nothing.
 use mathlib.Core.Path.{sym, _∙_}
 use borrow.Author.Needs.{needs}
 use lib.Seq.{length-take-le}
-use Rattle.wire.proofs.trading.clock_on.Statement.{statement}
-use Rattle.wire.proofs.trading.clock_on.Tie as tie
+use Rattle.wire.proofs.trading.clock_on_many.Statement.{statement}
+use Rattle.wire.proofs.trading.clock_on_many.Tie as tie
 
 few-requires : tie.Need-few-requires
 few-requires c κs = search needs
@@ -44,8 +44,8 @@ same-length-2 c = search needs
 returns : tie.Need-returns
 returns c = search needs
 
-pub clock-on-spec : {M : Type 1} → statement M
-clock-on-spec =
+pub clock-on-many-spec : {M : Type 1} → statement M
+clock-on-many-spec =
     tie.close
     (tie.spec
     few-requires
