@@ -5,10 +5,10 @@ use mathlib.Core.Bool.{Bool, true, false, cond}
 use mathlib.Core.List.{List, [], _∷_, nil≢cons}
 use native.Mathlib.Omega.{arith}
 use lib.Dec.{eqb}
-use borrow.Author.Tests.{eqb-true, eqb-false, lt-ltb, le-ltb}
+use borrow.Author.Tests.{eqb-true, eqb-false, lt-ltb}
 use Rattle.model.specs.declared.Order.{Order}
 use Rattle.model.specs.Lists.{keep}
-use Rattle.model.specs.Book.{standsOn, better, ahead, queue, headPrice, best}
+use Rattle.model.specs.Book.{standsOn, ahead, queue, headPrice, best}
 use Rattle.book.specs.Standing.{Each, Fair, Standing}
 use Rattle.book.specs.Priority.{rank, key}
 use Rattle.book.proofs.Lists.{both, each, every, each-keep, kept}
@@ -98,10 +98,6 @@ ranks-follow :
 ranks-follow side o p h f l = omega (arith, key-on side o (h .1), key-on side p (f .1), h .0 .number, f .0 .number)
 
 module _ (side : ℕ) (book : List Order) where
-  pub best-empty : queue side book ≡ [] → best side book ≡ 0
-  unfolding best headPrice
-  best-empty e = rw e
-
   -- 0 is no price, so a best price of 0 says that nobody stands there
   pub empty-best : Each Fair book → best side book ≡ 0 → queue side book ≡ []
   unfolding best headPrice
@@ -158,18 +154,6 @@ module _ (side : ℕ) (book : List Order) where
       Standing book
       → Each (λ o. standsOn side o ≡ true → rank side (best side book) ≤ rank side (o .price)) book
   best-first s = each-on (λ o. rank side (best side book) ≤ rank side (o .price)) side book (best-ranks s)
-
-  pub none-better :
-      Standing book
-      → Each (λ o. standsOn side o ≡ true → better side (o .price) (best side book) ≡ false) book
-  none-better s =
-      each-on (λ o. better side (o .price) (best side book) ≡ false) side book
-      (both (Stands side) (λ o. rank side (best side book) ≤ rank side (o .price))
-      (λ o. better side (o .price) (best side book) ≡ false) (queue side book)
-      (λ o h l. better-rank side (o .price) (best side book) (h .0 .price) (best-price (s .fair))
-      ∙ le-ltb (rank side (o .price)) (rank side (best side book)) l)
-      (queue-stands side book (s .fair))
-      (best-ranks s))
 
   -- where somebody stands, there is a best price
   pub has-best : Each Fair book → Each (λ o. standsOn side o ≡ true → best side book ≡ 0 → ⊥) book

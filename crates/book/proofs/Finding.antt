@@ -16,11 +16,11 @@ use Rattle.model.specs.Book.{free, isLive}
 use Rattle.model.specs.Matching.{rest}
 use Rattle.model.specs.Calls.{isOwn}
 use Rattle.model.proofs.Bools.{and-left, and-right}
-use Rattle.book.specs.Rows.{orderOf, rowOf, bookOf, rowsOf}
+use Rattle.book.specs.Rows.{orderOf, rowOf, bookOf}
 use Rattle.book.specs.Standing.{Each, Apart}
 use Rattle.book.specs.Places.{firstWith, lowestFree, placeOf}
 use Rattle.book.proofs.Lists.{each, keep-true, keep-false, keep-none}
-use Rattle.book.proofs.Memory.{book-at, book-set, rows-set}
+use Rattle.book.proofs.Memory.{book-set}
 use Rattle.book.proofs.Queues.{live-number, ltb-same}
 
 -- ---- a walk from the first place on
@@ -145,11 +145,6 @@ rest-rows o rows rows′ place p e =
     let there : rows′ ≡ set rows (lowestFree (bookOf rows)) (rowOf o) = e ∙ ap (λ (n : ℕ). set rows n (rowOf o)) p in
     (there, ap bookOf there ∙ book-set rows (lowestFree (bookOf rows)) o ∙ sym (rest-set o (bookOf rows)))
 
-pub rest-of-rows :
-    (o : Order) (book : List Order)
-    → set (rowsOf book) (lowestFree book) (rowOf o) ≡ rowsOf (rest o book)
-rest-of-rows o book = sym (rows-set book (lowestFree book) o) ∙ ap rowsOf (sym (rest-set o book))
-
 -- ---- an account's own order
 
 module _ (account number : ℕ) where
@@ -236,14 +231,3 @@ module _ (account number : ℕ) where
       ∙ book-set rows place free
       ∙ ap (λ (n : ℕ). set (bookOf rows) n free) p
       ∙ sym (cancel-set (bookOf rows) a)
-
-  pub cancel-rows-left :
-      (rows : List (List ℕ)) (place : ℕ) (o : Order)
-      → Apart (bookOf rows)
-      → place ≡ placeOf account number (bookOf rows)
-      → o ≡ orderOf (getD rows place [])
-      → o .left ≡ total (λ x. x .left) (keep (isOwn account number) (bookOf rows))
-  cancel-rows-left rows place o a p e =
-      ap (λ (x : Order). x .left) (e ∙ book-at rows place)
-      ∙ ap (λ (n : ℕ). getD (bookOf rows) n free .left) p
-      ∙ sym (cancel-left (bookOf rows) a)

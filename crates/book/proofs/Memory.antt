@@ -23,8 +23,3 @@ map-set {A} {B} f (y ∷ xs) (suc i) x = ap (λ (l : List B). f y ∷ l) (map-se
 pub book-set :
     (rows : List (List ℕ)) (place : ℕ) (o : Order) → bookOf (set rows place (rowOf o)) ≡ set (bookOf rows) place o
 book-set rows place o = map-set orderOf rows place (rowOf o)
-
-pub rows-set :
-    (book : List Order) (place : ℕ) (o : Order)
-    → rowsOf (set book place o) ≡ set (rowsOf book) place (rowOf o)
-rows-set book place o = map-set rowOf book place o

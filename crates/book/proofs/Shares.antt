@@ -6,19 +6,17 @@ use mathlib.Core.List.{List, [], _∷_, map}
 use mathlib.Core.Logic.{_⊎_, inl, inr}
 use native.Mathlib.Omega.{arith}
 use native.Mathlib.Nat.{not-suc-le-zero, le-of-suc-le-suc}
-use lib.ListN.{length, length-map, getD, set}
+use lib.ListN.{length, length-map, getD}
 use lib.Dec.{ltb, eqb}
 use borrow.Author.Tests.{eq-eqb, ne-eqb, eqb-true, eqb-false, ltb-true, ltb-false}
 use Rattle.model.specs.declared.Order.{Order}
 use Rattle.model.specs.declared.Trade.{Trade}
-use Rattle.model.specs.Lists.{keep, total}
-use Rattle.model.specs.Book.{free, isLive, standsOn, queue}
+use Rattle.model.specs.Lists.{total}
+use Rattle.model.specs.Book.{free, isLive}
 use Rattle.model.specs.Matching.{isIn, filledOf, lessBy, settle, rest}
 use Rattle.book.specs.Standing.{Each, Fair, Apart}
 use Rattle.book.specs.Places.{firstWith, lowestFree}
-use Rattle.book.proofs.Lists.{both, each, every, each-keep, total-same, total-add, total-zero, total-set}
-use Rattle.book.proofs.Queues.{on-live, total-queue}
-use Rattle.book.proofs.Best.{each-kept}
+use Rattle.book.proofs.Lists.{both, each, every, total-same, total-add, total-zero, total-set}
 use Rattle.book.proofs.Finding.{rest-set}
 use Rattle.book.proofs.Settlements.{part, filled-none, filled-cons}
 use Rattle.book.proofs.Kept.{Less, after, after-less, free-left, free-number}
@@ -64,29 +62,6 @@ each-only (o ∷ os) a = (
       (a .0)
       (each-only os (a .1)),
 )
-
-apart-keep : (p : Order → Bool) (os : List Order) → Apart os → Apart (keep p os)
-unfolding keep
-apart-keep p [] a = tt
-apart-keep p (o ∷ os) a = go (p o) (apart-keep p os (a .1))
-  where
-    go : (b : Bool) → Apart (keep p os) → Apart (cond b (o ∷ keep p os) (keep p os))
-    go true h = (each-keep (λ x. x .number ≡ o .number → o .number ≡ 0) p os (a .0), h)
-    go false h = h
-
--- an order of a side is in its queue once
-pub queue-once :
-    (side : ℕ) (book : List Order)
-    → Apart book
-    → Each (λ o. standsOn side o ≡ true → (g : Order → ℕ) → ofNumber (o .number) g (queue side book) ≡ g o) book
-unfolding ofNumber
-queue-once side book a =
-    each (λ o. standsOn side o ≡ true → Only (keep (standsOn side) book) o)
-    (λ o. standsOn side o ≡ true → (g : Order → ℕ) → ofNumber (o .number) g (queue side book) ≡ g o) book
-    (λ o f t g.
-    total-queue (λ x. cond (eqb (x .number) (o .number)) (g x) 0) side book ∙ f t (on-live side o t) g)
-    (each-kept (Only (keep (standsOn side) book)) (standsOn side) book
-    (each-only (keep (standsOn side) book) (apart-keep (standsOn side) book a)))
 
 -- ---- what trades fill, over the book
 
@@ -244,9 +219,3 @@ rest-total o book f h =
     in
     omega
     (arith, ap (total (λ x. x .left)) (rest-set o book), total-set (λ x. x .left) book (lowestFree book) o free h)
-
-pub free-total :
-    (book : List Order) (place : ℕ)
-    → place < length book
-    → total (λ x. x .left) (set book place free) + getD book place free .left ≡ total (λ x. x .left) book
-free-total book place h = omega (arith, total-set (λ x. x .left) book place free free h, free-left)

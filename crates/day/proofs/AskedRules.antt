@@ -1,17 +1,16 @@
 -- An order's rules before the book is looked at: which is the first to hold, from the tests' answers; and the groups in which
 -- the code goes through them are document 01's rules in its order. Assumes nothing.
 use Prim.Native.Nat.{ℕ, _≤_, _<_}
-use mathlib.Core.Path.{_≡_, refl, sym}
-use mathlib.Core.Bool.{Bool, true, false, not, _&&_, _||_}
-use mathlib.Core.List.{List, [], _∷_, _++_}
-use lib.Dec.{leb, eqb}
+use mathlib.Core.Path.{_≡_, refl}
+use mathlib.Core.Bool.{true, false}
+use mathlib.Core.List.{List, _∷_, _++_}
 use borrow.Author.Tests.{le-leb, lt-leb, eq-eqb, ne-eqb, eqb-false}
 use Rattle.model.specs.declared.Order.{Order}
 use Rattle.model.specs.declared.Asked.{Asked}
 use Rattle.model.specs.declared.Day.{Day}
 use Rattle.model.specs.Clock.{phaseAt, continuous, takesOrders}
 use Rattle.model.specs.Limits.{isPrice, isQuantity, inBand}
-use Rattle.model.specs.Refusals.{Rule, _when_, firstOf, unsound}
+use Rattle.model.specs.Refusals.{_when_, firstOf, unsound}
 use Rattle.model.specs.Calls.{orderRules}
 use Rattle.model.proofs.Rules.{Numbered, given-by, passed-by}
 use Rattle.day.specs.Checks.{formRules, hourRules, numberRules, askedRules, bookRules}

@@ -2,13 +2,13 @@
 -- Assumes nothing.
 use Prim.Native.Nat.{ℕ, _+_, _-_, _*_, _^_, _≤_, _<_}
 use mathlib.Core.Path.{_≡_, refl, sym, ap, _∙_}
-use mathlib.Core.Bool.{Bool, true, false, not}
+use mathlib.Core.Bool.{Bool, true, false}
 use mathlib.Core.List.{List, [], _∷_, _++_}
 use native.Mathlib.Omega.{arith}
 use native.Mathlib.Nat.{mul-le-mul-right, mul-add}
 use native.Mathlib.Numerals.{add-one}
 use lib.ListN.{length, length-map, take}
-use lib.Dec.{ltb, eqb}
+use lib.Dec.{eqb}
 use borrow.Author.Tests.{eq-eqb, ne-eqb, eqb-false, ltb-false, not-false}
 use Rattle.model.specs.declared.Order.{Order}
 use Rattle.model.specs.declared.Asked.{Asked}
@@ -22,16 +22,14 @@ use Rattle.model.specs.Matching.{filled, levels, lastPrice, settle, rest}
 use Rattle.model.specs.Lists.{total}
 use Rattle.model.specs.Figures.{reference, nextNumber, issue, money, tally}
 use Rattle.model.specs.Entry.{entryTrades, restPrice}
-use Rattle.model.specs.Refusals.{Rule, _when_, firstOf, unsound}
+use Rattle.model.specs.Refusals.{_when_, firstOf, unsound}
 use Rattle.model.specs.declared.OrderAnswer.{OrderAnswer}
 use Rattle.model.specs.Calls.{Outcome, written, orderRules, ended, placed, entered, orderCall}
-use Rattle.model.proofs.Bools.{true-or-false}
 use Rattle.model.proofs.Rules.{hit, skip, Numbered, NoneHolds, none-holds, given-by, passed-by}
 use Rattle.book.specs.Rows.{bookOf, tradeOf, tradesOf, tradeRows}
-use Rattle.book.specs.Standing.{Price, Each}
+use Rattle.book.specs.Standing.{Each}
 use Rattle.book.specs.Writing.{front}
 use Rattle.book.proofs.Written.{front-trades, front-written}
-use Rattle.soundness.specs.SoundDay.{SoundDay}
 use Rattle.soundness.proofs.Clauses.{says-price}
 use Rattle.soundness.proofs.Sizes.{says-quantity, sized-most}
 use Rattle.matching.specs.declared.Swept.{Swept}

@@ -11,7 +11,7 @@ use Rattle.model.specs.declared.Day.{Day}
 use Rattle.model.specs.Choice.{if_then_else_}
 use Rattle.model.specs.Lists.{total}
 use Rattle.model.specs.Book.{free, isLive, standsOn}
-use Rattle.model.specs.Sound.{hasPlaces, sound}
+use Rattle.model.specs.Sound.{hasPlaces}
 use Rattle.model.specs.Calls.{isOwn, cancelCall}
 use Rattle.model.proofs.Bools.{not-both}
 use Rattle.book.specs.Standing.{Standing}

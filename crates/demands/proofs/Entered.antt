@@ -20,7 +20,7 @@ use Rattle.model.specs.Book.{isLive}
 use Rattle.model.specs.Matching.{filled, settle, rest}
 use Rattle.model.specs.Figures.{nextNumber, issue, tally}
 use Rattle.model.specs.Entry.{entryTrades, restPrice}
-use Rattle.model.specs.Sound.{hasPlaces, sound}
+use Rattle.model.specs.Sound.{hasPlaces}
 use Rattle.model.specs.Refusals.{_when_, firstOf}
 use Rattle.model.specs.Calls.{orderRules, placed, entered, orderCall}
 use Rattle.model.proofs.Bools.{and-left, and-right, and-true, not-both}
@@ -42,7 +42,7 @@ use Rattle.demands.specs.Pricing.{Sound}
 use Rattle.demands.proofs.FirstRules.{gives-none}
 use Rattle.demands.proofs.Refusals.{order-numbers}
 use Rattle.demands.proofs.Cases.{order-cases}
-use Rattle.demands.proofs.Pricings.{not-unsound, sound-stands}
+use Rattle.demands.proofs.Pricings.{sound-stands}
 use Rattle.demands.proofs.Wholes.{Traded, Whole, Timely, timely-of, sound-of}
 use Rattle.demands.proofs.Hours.{none-early, none-late, then-continuous}
 use Rattle.demands.proofs.Tallied.{traded-tally}

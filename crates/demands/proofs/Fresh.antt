@@ -15,7 +15,7 @@ use Rattle.model.specs.Lists.{total}
 use Rattle.model.specs.Limits.{isPrice}
 use Rattle.model.specs.Book.{free}
 use Rattle.model.specs.Figures.{freshDay}
-use Rattle.model.specs.Sound.{isMark, hasPlaces, sound}
+use Rattle.model.specs.Sound.{isMark, hasPlaces}
 use Rattle.model.specs.Refusals.{_when_, firstOf}
 use Rattle.model.specs.Calls.{OpenOutcome, cleared, openRules, openCall}
 use Rattle.model.proofs.Bools.{and-left, and-right}

@@ -7,7 +7,6 @@ use mathlib.Core.List.{List, [], _∷_, _++_, map}
 use native.Mathlib.Omega.{arith}
 use lib.ListN.{length, length-append}
 use Rattle.model.specs.declared.Boundary.{Boundary}
-use Rattle.model.specs.declared.OrderReply as OrderReply
 use Rattle.model.specs.Lists.{from}
 use Rattle.model.specs.Clock.{passes, boundaries}
 use Rattle.model.specs.Figures.{at, nextNumber, issue, tally}

@@ -1,6 +1,6 @@
 -- A move of the clock keeps a sound day sound, through the auctions that it passes. Assumes nothing.
 use Prim.Native.Nat.{ℕ, _+_, _≤_, _<_}
-use mathlib.Core.Path.{_≡_, refl, sym, _∙_}
+use mathlib.Core.Path.{_≡_, refl}
 use mathlib.Core.Logic.{_⊎_, ⊎-elim}
 use mathlib.Core.Bool.{Bool, true, false, cond, not, _&&_, _||_}
 use mathlib.Core.List.{List, [], _∷_, _++_}
@@ -12,13 +12,12 @@ use Rattle.model.specs.declared.Order.{Order}
 use Rattle.model.specs.declared.Trade.{Trade}
 use Rattle.model.specs.declared.Day.{Day}
 use Rattle.model.specs.declared.Boundary.{Boundary}
-use Rattle.model.specs.declared.ClockReply as ClockReply
 use Rattle.model.specs.Lists.{total}
 use Rattle.model.specs.Clock.{isTime, passes, boundaries}
 use Rattle.model.specs.Matching.{filled, settle}
 use Rattle.model.specs.Figures.{at, tally}
-use Rattle.model.specs.Sound.{hasPlaces, sound, crosses}
-use Rattle.model.specs.Refusals.{_when_, firstOf, unsound}
+use Rattle.model.specs.Sound.{hasPlaces, crosses}
+use Rattle.model.specs.Refusals.{_when_, firstOf}
 use Rattle.model.specs.Calls.{cleared}
 use Rattle.model.specs.ClockCall.{auctionPrice, auctionTrades, Held, hold, pass, through, start, moved, clockRules, clockCall}
 use Rattle.model.proofs.Bools.{not-both}
@@ -27,13 +26,12 @@ use Rattle.book.proofs.Lists.{each}
 use Rattle.book.proofs.Kept.{standing-settle}
 use Rattle.soundness.specs.SoundDay.{Empty, SoundDay}
 use Rattle.soundness.proofs.SoundDays.{sound-day, day-sound, few-places}
-use Rattle.auction.specs.Rule as Rule
 use Rattle.pairing.proofs.Auctions.{auction-priced, auction-shares, auction-cases, auction-uncrosses}
 use Rattle.demands.specs.Pricing.{Sound, EachAuction}
-use Rattle.demands.proofs.FirstRules.{gives-none, first-gives}
-use Rattle.demands.proofs.Refusals.{clock-numbers, clock-refuses}
+use Rattle.demands.proofs.FirstRules.{gives-none}
+use Rattle.demands.proofs.Refusals.{clock-numbers}
 use Rattle.demands.proofs.Cases.{clock-cases}
-use Rattle.demands.proofs.Pricings.{sound-if, sound-stands, trades-there}
+use Rattle.demands.proofs.Pricings.{sound-stands, trades-there}
 use Rattle.demands.proofs.Wholes.{Whole, whole-of, timely-of, sound-of, whole-stands}
 use Rattle.demands.proofs.Fresh.{cleared-empty, places-cleared, whole-cleared}
 use Rattle.demands.proofs.Tallied.{Proper, traded-tally}

@@ -8,7 +8,7 @@ use lib.ListN.{length}
 use Rattle.model.specs.declared.Order.{Order}
 use Rattle.model.specs.declared.Day.{Day}
 use Rattle.model.specs.Lists.{total}
-use Rattle.model.specs.Sound.{sound, crosses}
+use Rattle.model.specs.Sound.{crosses}
 use Rattle.model.proofs.Bools.{not-both, not-true-false}
 use Rattle.book.specs.Standing.{Price, Each, Apart, Standing}
 use Rattle.soundness.specs.SoundDay.{Place, Empty, SoundDay}

@@ -1,5 +1,5 @@
 -- What each call left and what was put of it is the definitions' answer to the line that asked for it. Assumes nothing.
-use Prim.Native.Nat.{ℕ, _+_, _*_, _≤_}
+use Prim.Native.Nat.{ℕ, _+_, _≤_}
 use mathlib.Core.Path.{_≡_, refl, sym, ap, subst, _∙_}
 use mathlib.Core.Bool.{Bool, true, false, cond}
 use mathlib.Core.List.{List}
@@ -7,7 +7,6 @@ use mathlib.Core.Option.{Option, none, some}
 use native.Mathlib.Omega.{arith}
 use lib.Dec.{eqb}
 use lib.ListN.{length, take, length-append, length-map}
-use lib.Seq.{length-take-le}
 use Rattle.model.specs.declared.Order.{Order}
 use Rattle.model.specs.declared.Asked.{Asked}
 use Rattle.model.specs.declared.Trade.{Trade}
@@ -24,7 +23,7 @@ use Rattle.model.specs.Calls.{Outcome, OpenOutcome, written, openRules, cleared
 use Rattle.model.specs.ClockCall.{clockRules, clockCall}
 use Rattle.model.specs.Lines.{refusalLine, tradeLines, openLine, clockLine, orderLine, cancelLine}
 use Rattle.model.specs.Session as Session
-use Rattle.model.specs.Session.{Desk, opened, openAnswer, clockAnswer, orderAnswer, cancelAnswer, onDesk, answer}
+use Rattle.model.specs.Session.{Desk, opened, openAnswer, cancelAnswer, onDesk, answer}
 use Rattle.book.specs.Rows.{orderOf, bookOf, tradeOf, tradesOf}
 use Rattle.day.specs.Promises.{openLeft, left, cancelLeft}
 use Rattle.model.proofs.Bools.{not-both}

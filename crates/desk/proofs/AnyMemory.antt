@@ -1,14 +1,12 @@
 -- One line in any memory: when the memory fits, when 15 is due, and what is left then. Assumes nothing.
-use Prim.Native.Nat.{ℕ, _≤_, _<_}
-use mathlib.Core.Path.{_≡_, refl, sym, ap, subst, _∙_}
+use Prim.Native.Nat.{ℕ, _≤_}
+use mathlib.Core.Path.{_≡_, refl, sym, ap}
 use mathlib.Core.Bool.{Bool, true, false, not, _&&_}
 use mathlib.Core.List.{List}
 use mathlib.Core.Option.{none, some}
-use native.Mathlib.Omega.{arith}
 use lib.Dec.{eqb, leb}
 use lib.ListN.{length}
 use borrow.Author.Tests.{eq-eqb, ne-eqb, eqb-true, leb-true}
-use Rattle.model.specs.declared.Order.{Order}
 use Rattle.model.specs.declared.Asked.{Asked}
 use Rattle.model.specs.declared.Trade.{Trade}
 use Rattle.model.specs.declared.Day.{Day}
@@ -34,7 +32,7 @@ use Rattle.text.proofs.Lent.{answered}
 use Rattle.text.proofs.Printed.{line-within}
 use Rattle.text.proofs.Replied.{refusal-fits}
 use Rattle.desk.specs.declared.Answered.{Answered}
-use Rattle.desk.specs.Desks.{deskOf, asksDay, asksUnsound, tradesLeft, Leaves, Answering}
+use Rattle.desk.specs.Desks.{deskOf, asksDay, asksUnsound, Leaves, Answering}
 use Rattle.desk.specs.OneLine.{fits}
 use Rattle.desk.proofs.Answers.{leaves}
 

@@ -2,7 +2,7 @@
 use Prim.Native.Nat.{ℕ, _+_, _≤_, _<_}
 use mathlib.Core.Path.{_≡_, refl, sym, ap, subst, _∙_}
 use mathlib.Core.Bool.{Bool, true, false}
-use mathlib.Core.List.{List, [], _++_, append-assoc, append-nil}
+use mathlib.Core.List.{List, [], _++_, append-assoc}
 use mathlib.Core.Option.{Option}
 use native.Mathlib.Nat.{le-refl}
 use native.Mathlib.Omega.{arith}
@@ -39,16 +39,6 @@ module _ (block : List ℕ) where
   pub through-desk : {p q : Point} → Onward block p q → Through block q → q .desk ≡ deskAfter (asksFrom block p) (p .desk)
   unfolding deskAfter
   through-desk {q = q} a t = sym (a .desk ∙ ap (λ (cs : List Command). deskAfter cs (q .desk)) (t .asks))
-
-  -- and the text is all replies
-  pub through-replies :
-      {p q : Point} {text : List ℕ}
-      → Answers block p text q
-      → Through block q
-      → text ≡ repliesTo (asksFrom block p) (p .desk)
-  unfolding repliesTo
-  through-replies {q = q} {text} a t =
-      sym (a .replies ∙ ap (λ (cs : List Command). text ++ repliesTo cs (q .desk)) (t .asks) ∙ append-nil text)
 
   -- one text behind the other
   pub answers-more :

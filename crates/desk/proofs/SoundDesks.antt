@@ -18,7 +18,7 @@ use Rattle.text.specs.Answers.{deskAfter}
 use Rattle.demands.specs.Pricing.{Sound}
 use Rattle.demands.proofs.Demands.{keeping}
 use Rattle.demands.proofs.Pricings.{not-unsound}
-use Rattle.desk.specs.Desks.{deskOf, SoundDesk, notSound, asksDay, asksUnsound}
+use Rattle.desk.specs.Desks.{deskOf, SoundDesk, notSound, asksUnsound}
 
 -- a desk that is known to be sound would pass the test, whatever is asked of it
 tested : (k : Option Desk) → SoundDesk k → notSound k ≡ false

@@ -1,8 +1,8 @@
 -- The quantity test with its balance: an odd lot by its bounds, and each side by what was tested first. Assumes nothing.
 use Prim.Native.Nat.{ℕ, _≤_, _<_}
 use mathlib.Core.Path.{_≡_, refl, sym}
-use mathlib.Core.Bool.{Bool, true, false, _||_}
-use lib.Dec.{leb, eqb}
+use mathlib.Core.Bool.{Bool, true, false}
+use lib.Dec.{eqb}
 use borrow.Author.Tests.{le-leb, lt-leb, eq-eqb, ne-eqb}
 use Rattle.model.specs.Limits.{inSize, isOddLot, isQuantity}
 use Rattle.model.proofs.Bools.{and-no, and-yes}

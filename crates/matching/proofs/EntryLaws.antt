@@ -30,7 +30,7 @@ use Rattle.matching.specs.Sweeping.{atBest}
 use Rattle.matching.specs.Entering.{mostPrices}
 use Rattle.matching.proofs.Cuts.{five-best}
 use Rattle.matching.proofs.Trades.{Some, some-each, Deal, each-trade, filled-within, count-within, levels-within}
-use Rattle.matching.proofs.Fills.{fills-within, shares-kept}
+use Rattle.matching.proofs.Fills.{shares-kept}
 use Rattle.matching.proofs.Entries.{opposite-best}
 
 -- ---- limits
@@ -276,15 +276,6 @@ module _ (d : Day) (a : Asked) (book : List Order) where
   -- ---- what they fill, in a book that stands
 
   module _ (standing : Standing book) (new : New (nextNumber d) book) where
-    -- no order is filled beyond what it has
-    pub entry-fills : Each (λ o. filledOf (o .number) (entryTrades d a book) ≤ o .left) book
-    entry-fills =
-        entry-cases (λ ts. Each (λ o. filledOf (o .number) ts ≤ o .left) book)
-        (every (λ (o : Order). filledOf (o .number) [] ≤ o .left) book (λ o. omega (arith, filled-none (o .number))))
-        (λ n.
-        rw (opposite-best a book standing)
-        (fills-within taker (a .quantity) (mostPrices (a .kind)) (other (a .side)) book standing new))
-
     -- what rests afterwards and what was traded are what rested before
     pub entry-shares :
         total (λ o. o .left) (settle (entryTrades d a book) book) + filled (entryTrades d a book)

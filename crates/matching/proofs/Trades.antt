@@ -1,6 +1,6 @@
 -- What every trade of a sweep is: within the limit, at the price of the resting order that it names, for no more than that
 -- order has; and how many they are, at how many prices, for how many shares.
-use Prim.Native.Nat.{ℕ, suc, _+_, _-_, _≤_}
+use Prim.Native.Nat.{ℕ, suc, _-_, _≤_}
 use mathlib.Core.Path.{_≡_, refl, ap, _∙_}
 use mathlib.Core.Bool.{Bool, true, false, cond}
 use mathlib.Core.List.{List, [], _∷_, map}
@@ -84,11 +84,6 @@ module _ (t : Taker) where
           → Each P (cond w (tradeWith t q o ∷ sweep t (q - o .left) os) [])
       go true v h = (e .0 (tradeWith t q o) (deal t q o v), h)
       go false v h = tt
-
-  -- each is with one of the orders
-  pub each-deal : (q : ℕ) (os : List Order) → Each (λ r. Some (λ o. Deal t o r) os) (sweep t q os)
-  each-deal q os =
-      each-trade (λ r. Some (λ o. Deal t o r) os) q os (some-each (λ (o : Order) (r : Trade). Deal t o r) os)
 
   -- ---- how much
 

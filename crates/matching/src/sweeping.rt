@@ -1,7 +1,6 @@
 // An order on its way through the other side, one resting order after the other. The book stays as it is.
 ghost use mathlib.Core.Path.{_≡_};
 ghost use Prim.Native.Nat.{_+_, _≤_, _<_, _^_, min};
-ghost use mathlib.Core.List.{[]};
 ghost use lib.ListN.{length};
 ghost use Rattle.model.specs.Book.{other, queue};
 ghost use Rattle.model.specs.Matching as matching;

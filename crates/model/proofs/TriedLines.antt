@@ -7,7 +7,7 @@ use mathlib.Core.Path.{_≡_, refl}
 use mathlib.Core.Bool.{true}
 use mathlib.Core.List.{List, [], _∷_, map}
 use mathlib.Core.Option.{Option, none, some}
-use lib.ListN.{length, replicate}
+use lib.ListN.{length}
 use Rattle.model.specs.declared.Order.{Order}
 use Rattle.model.specs.declared.Day.{Day}
 use Rattle.model.specs.Lists.{keep, all, any, total, among, once, different}
@@ -22,7 +22,7 @@ use Rattle.model.specs.Refusals.{_when_, firstOf, unsound}
 use Rattle.model.specs.Calls.{written, openRules, cleared, openCall, orderRules, ended, placed, entered, orderCall, isOwn, cancelRules, cancelCall}
 use Rattle.model.specs.ClockCall.{pass, through, start, moved, clockRules, clockCall}
 use Rattle.model.specs.Replies.{restingOf, withdrawnOf, entryNumbers}
-use Rattle.model.specs.Lines.{onto, linesOf, ontoWord, wordsOf, isDigit, valueFrom, bare, numberOf, numbersOf, commandOf, wordsCommand, lineCommand, digits, spaced, reply, refusalLine, tradeLines, openLine, clockLine, orderLine, cancelLine, Line}
+use Rattle.model.specs.Lines.{onto, linesOf, ontoWord, wordsOf, isDigit, valueFrom, bare, numberOf, numbersOf, commandOf, wordsCommand, lineCommand, digits, spaced, reply, refusalLine, tradeLines, openLine, clockLine, orderLine, cancelLine}
 use Rattle.model.specs.Session.{lentPlaces, lentTrades, opened, openAnswer, clockAnswer, orderAnswer, cancelAnswer, onDesk, answer, answers, Desk, Answered, session}
 use Rattle.model.proofs.Examples.{bytes, order, untraded}
 

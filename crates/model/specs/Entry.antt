@@ -1,6 +1,6 @@
 -- What an order does on entry, by its kind (3.3.4): its price, its trades, and what becomes of the remainder.
-use Prim.Native.Nat.{ℕ, _-_}
-use mathlib.Core.Bool.{Bool, not, _&&_}
+use Prim.Native.Nat.{ℕ}
+use mathlib.Core.Bool.{not, _&&_}
 use mathlib.Core.List.{List, []}
 use lib.Dec.{leb, eqb}
 use Rattle.model.specs.declared.Order.{Order}

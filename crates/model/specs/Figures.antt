@@ -1,6 +1,5 @@
 -- The day's own figures: how they start, what trades add to them, and what is read off them.
 use Prim.Native.Nat.{ℕ, suc, _+_, _*_}
-use mathlib.Core.Bool.{Bool}
 use mathlib.Core.List.{List}
 use lib.Dec.{eqb}
 use Rattle.model.specs.declared.Trade.{Trade}

@@ -8,7 +8,7 @@ use native.Mathlib.Numerals.{add-one}
 use native.Mathlib.Omega.{arith}
 use lib.Dec.{ltb, lit<}
 use lib.ListN.{length, take, drop, getD, set, length-append}
-use lib.Seq.{sets, length-sets, sets-eq, take-suc, take-at, length-take-le}
+use lib.Seq.{length-sets, sets-eq, take-suc, take-at, length-take-le}
 use borrow.Author.Tests.{lt-ltb, le-ltb}
 use Rattle.model.specs.Lines.{digits, spaced, reply}
 use Rattle.book.proofs.Lists.{sets-more}
@@ -103,9 +103,6 @@ module _ (out : List ℕ) (at x d : ℕ) where
   put-last-digit h f e w = rw (more-digits x h f, e) (and-then w (record { place = refl; bytes = refl }))
 
 -- ---- a line's numbers
-
-pub number-fits : (n : ℕ) → length (32 ∷ digits 20 n) ≤ 21
-number-fits n = let h = most 20 n in omega arith
 
 spaced-more : (ns : List ℕ) (n : ℕ) → spaced (ns ++ (n ∷ [])) ≡ spaced ns ++ (32 ∷ digits 20 n)
 unfolding spaced

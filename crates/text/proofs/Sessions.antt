@@ -31,13 +31,6 @@ answers-are [] desk = refl
 answers-are (l ∷ ls) desk =
     ap (λ (t : List ℕ). answer (lineCommand l) desk .text ++ t) (answers-are ls (answer (lineCommand l) desk .desk))
 
-pub answers-append :
-    (ls ms : List Line) (desk : Option Desk)
-    → answers (ls ++ ms) desk ≡ answers ls desk ++ answers ms (deskAfter (map lineCommand ls) desk)
-unfolding answers deskAfter
-answers-append [] ms desk = refl
-answers-append (l ∷ ls) ms desk = rw (answers-append ls ms (answer (lineCommand l) desk .desk), append-assoc)
-
 pub session-is : (input : List ℕ) → session input ≡ repliesTo (commandsFrom false input) none
 unfolding session commandsFrom
 session-is input = answers-are (linesOf input) none
@@ -57,10 +50,6 @@ at-newline b s (cut t rest u e c) =
         ∙ ap linesOf (append-assoc t (10 ∷ rest) (10 ∷ x))
         ∙ lines-ended t (rest ++ 10 ∷ x) u
 at-newline b s (uncut u) = lines-ended s b u ∙ sym (ap (λ (ls : List Line). ls ++ linesOf b) (lines-ended s [] u))
-
--- at a newline the lines of the two parts stand one behind the other
-pub lines-append : (a b : List ℕ) → linesOf (a ++ 10 ∷ b) ≡ linesOf (a ++ 10 ∷ []) ++ linesOf b
-lines-append a b = at-newline b a (cut-up a)
 
 from-ended :
     (long : Bool) (t rest : List ℕ)

@@ -1,5 +1,5 @@
 -- `first_calls::main` meets its contract: what the opening promises of its reply, evaluated, is the refusal 14. Assumes nothing.
-use mathlib.Core.Path.{_≡_, refl, ap, _∙_}
+use mathlib.Core.Path.{ap, _∙_}
 use borrow.Author.Needs.{needs}
 use borrow.Author.Tests.{eq-eqb}
 use Rattle.model.specs.Limits.{isPrice}

@@ -1,5 +1,4 @@
 -- `first_calls::open_refusal` meets its contract: the number of each case. Assumes nothing.
-use mathlib.Core.Path.{refl}
 use borrow.Author.Needs.{needs}
 use Rattle.model.specs.Replies.{openNumbers}
 use Rattle.first_calls.specs.Refusal.{openRefusal}

@@ -1,7 +1,6 @@
 -- By the tests on the two keys.
 use borrow.Author.Tests.{eq-eqb, ne-eqb}
 use Rattle.book.specs.Priority.{isSooner}
-use borrow.Author.Needs.{needs}
 use Rattle.book.proofs.priority.is_sooner.Statement.{statement}
 use Rattle.book.proofs.priority.is_sooner.Tie as tie
 

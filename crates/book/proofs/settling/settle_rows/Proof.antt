@@ -1,11 +1,7 @@
 -- No trades leave a fair book as it is; else every place is settled.
-use mathlib.Core.Path.{_≡_, sym, ap, _∙_}
-use mathlib.Core.List.{List}
-use lib.ListN.{take}
+use mathlib.Core.Path.{sym, ap, _∙_}
 use borrow.Author.Needs.{needs}
-use Rattle.model.specs.declared.Trade.{Trade}
-use Rattle.model.specs.Matching.{settle}
-use Rattle.book.specs.Rows.{bookOf, tradesOf}
+use Rattle.book.specs.Rows.{bookOf}
 use Rattle.book.proofs.Memory.{book-rows}
 use Rattle.book.proofs.Settlements.{settle-none}
 use Rattle.book.proofs.settling.settle_rows.Statement.{statement}

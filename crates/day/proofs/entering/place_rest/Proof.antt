@@ -1,5 +1,5 @@
 -- `day::entering::place_rest` meets its contract: nothing is left, it is withdrawn, or it rests. Assumes nothing.
-use mathlib.Core.Path.{_∙_, sym}
+use mathlib.Core.Path.{_∙_}
 use borrow.Author.Needs.{needs}
 use Rattle.day.proofs.OrderLaws.{placed-nothing, placed-withdrawn, placed-rests}
 use Rattle.day.proofs.entering.place_rest.Statement.{statement}

@@ -1,5 +1,4 @@
 -- `day::figures::issued_one` meets its contract: the record with one field set. Assumes nothing.
-use mathlib.Core.Path.{_≡_, refl}
 use native.Mathlib.Numerals.{add-one}
 use borrow.Author.Needs.{needs}
 use Rattle.model.specs.Figures.{issue, nextNumber}

@@ -1,7 +1,7 @@
 -- `day::figures::tally_trades` meets its contract: no trade adds nothing; else the totals, and the prices of the first and
 -- the last. Assumes nothing.
 use Prim.Native.Nat.{suc, _-_, _<_}
-use mathlib.Core.Path.{_≡_, ap, _∙_}
+use mathlib.Core.Path.{_≡_}
 use native.Mathlib.Omega.{arith}
 use lib.ListN.{length}
 use borrow.Author.Needs.{needs}

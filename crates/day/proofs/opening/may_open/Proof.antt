@@ -1,6 +1,5 @@
 -- `day::opening::may_open` meets its contract: three tests, one after the other. Assumes nothing.
 use mathlib.Core.Path.{sym, _∙_}
-use mathlib.Core.Bool.{_&&_}
 use borrow.Author.Needs.{needs}
 use borrow.Author.Tests.{not-true, not-false, le-leb, lt-leb}
 use Rattle.model.specs.Sound.{isMark}
