@@ -66,6 +66,48 @@ unfolding cutSame cutLevels
 cut-away zero p o os e = rw (ne-eqb (o .price) p e)
 cut-away (suc n) p o os e = rw (ne-eqb (o .price) p e)
 
+-- the next order is taken, or cut off where its price would be one too many
+module _ (most levels last : ℕ) (o : Order) (os : List Order) where
+  -- how many prices there are with its own
+  abbrev with-it : Bool → ℕ
+  with-it b = cond b levels (levels + 1)
+
+  pub cut-next :
+      with-it (eqb (o .price) last) ≤ most
+      → cutSame (most - levels) last (o ∷ os) ≡ o ∷ cutSame (most - with-it (eqb (o .price) last)) (o .price) os
+  cut-next = go (eqb (o .price) last) refl
+    where
+      go :
+          (b : Bool)
+          → eqb (o .price) last ≡ b
+          → with-it b ≤ most
+          → cutSame (most - levels) last (o ∷ os) ≡ o ∷ cutSame (most - with-it b) (o .price) os
+      go true f h =
+          let same : o .price ≡ last = eqb-true (o .price) last f in
+          cut-here (most - levels) last o os same ∙ ap (λ (p : ℕ). o ∷ cutSame (most - levels) p os) (sym same)
+      go false f h =
+          let one : most - levels ≡ suc (most - (levels + 1)) = omega arith in
+          ap (λ (n : ℕ). cutSame n last (o ∷ os)) one
+          ∙ cut-away (suc (most - (levels + 1))) last o os (eqb-false (o .price) last f)
+          ∙ levels-cons (most - (levels + 1)) o os
+
+  pub cut-end : levels ≤ most → most < with-it (eqb (o .price) last) → cutSame (most - levels) last (o ∷ os) ≡ []
+  cut-end few = go (eqb (o .price) last) refl
+    where
+      go : (b : Bool) → eqb (o .price) last ≡ b → most < with-it b → cutSame (most - levels) last (o ∷ os) ≡ []
+      go true f h = absurd (omega arith)
+      go false f h =
+          let none : most - levels ≡ 0 = omega arith in
+          ap (λ (n : ℕ). cutSame n last (o ∷ os)) none
+          ∙ cut-away 0 last o os (eqb-false (o .price) last f)
+          ∙ levels-none (o ∷ os)
+
+-- before the first price no order goes on at one
+pub cut-from :
+    (n : ℕ) (os : List Order) → Each (λ (o : Order). o .price ≡ 0 → ⊥) os → cutSame n 0 os ≡ cutLevels n os
+cut-from n [] e = same-nil n 0 ∙ sym (levels-nil n)
+cut-from n (o ∷ os) e = cut-away n 0 o os (e .0)
+
 -- ---- prices that never get better
 
 -- the ranks of a side never fall, from a on

@@ -7,56 +7,34 @@ use mathlib.Core.List.{List, [], _∷_, map}
 use native.Mathlib.Omega.{arith}
 use lib.ListN.{length}
 use lib.Dec.{eqb}
-use borrow.Author.Tests.{eq-eqb, ne-eqb, eqb-true, eqb-false}
+use borrow.Author.Tests.{ne-eqb, eqb-true, eqb-false}
 use Rattle.model.specs.declared.Order.{Order}
 use Rattle.model.specs.declared.Trade.{Trade}
 use Rattle.model.specs.declared.Taker.{Taker}
 use Rattle.model.specs.Lists.{keep, total, once, different}
 use Rattle.model.specs.Book.{queue}
 use Rattle.model.specs.Matching.{tradeWith, sweep, filled, levels, lastPrice}
-use Rattle.book.specs.Standing.{Standing}
+use Rattle.book.specs.Standing.{Each, Standing}
 use Rattle.book.specs.Priority.{rank}
 use Rattle.matching.specs.declared.Swept.{Swept}
-use Rattle.matching.specs.Sweeping.{wants, comesTo, withTrade, withPrice}
+use Rattle.matching.specs.Sweeping.{wants, comesTo, pricesWith, withTrade}
 use Rattle.matching.proofs.Prices.{once-again, once-new}
 use Rattle.matching.proofs.Cuts.{cutSame, cutLevels, Worsens, pricesOf, queue-worsens, no-return, worse}
 use Rattle.matching.proofs.Partners.{sweep-cons, sweep-nil}
 
 -- ---- counted one at a time
 
--- trades that go on at the price p
-unfoldable pub goOn : ℕ → Swept → List Trade → Swept
-goOn p s [] = s
-goOn p s (t ∷ ts) =
-    cond (eqb (t .price) p) (goOn p (withTrade s t) ts) (goOn (t .price) (withTrade (withPrice s) t) ts)
+unfoldable pub counted : Swept → List Trade → Swept
+counted s [] = s
+counted s (t ∷ ts) = counted (withTrade s t) ts
 
--- trades that begin with another price
-unfoldable pub begin : Swept → List Trade → Swept
-begin s [] = s
-begin s (t ∷ ts) = goOn (t .price) (withTrade (withPrice s) t) ts
+pub counted-none : (s : Swept) → counted s [] ≡ s
+unfolding counted
+counted-none s = refl
 
-pub go-here :
-    (p : ℕ) (s : Swept) (t : Trade) (ts : List Trade) → t .price ≡ p → goOn p s (t ∷ ts) ≡ goOn p (withTrade s t) ts
-unfolding goOn
-go-here p s t ts e = rw (eq-eqb (t .price) p e)
-
-pub go-away :
-    (p : ℕ) (s : Swept) (t : Trade) (ts : List Trade) → (t .price ≡ p → ⊥) → goOn p s (t ∷ ts) ≡ begin s (t ∷ ts)
-unfolding goOn begin
-go-away p s t ts e = rw (ne-eqb (t .price) p e)
-
-pub go-nil : (p : ℕ) (s : Swept) → goOn p s [] ≡ s
-unfolding goOn
-go-nil p s = refl
-
-pub begin-nil : (s : Swept) → begin s [] ≡ s
-unfolding begin
-begin-nil s = refl
-
-pub begin-one :
-    (p : ℕ) (s : Swept) (t : Trade) (ts : List Trade) → t .price ≡ p → begin s (t ∷ ts) ≡ goOn p (withPrice s) (t ∷ ts)
-unfolding begin
-begin-one p s t ts e = ap (λ (n : ℕ). goOn n (withTrade (withPrice s) t) ts) e ∙ sym (go-here p (withPrice s) t ts e)
+pub counted-one : (s : Swept) (t : Trade) (ts : List Trade) → counted s (t ∷ ts) ≡ counted (withTrade s t) ts
+unfolding counted
+counted-one s t ts = refl
 
 -- ---- in one go, with the prices that begin
 
@@ -78,45 +56,28 @@ swept-path :
     (record { trades = b; filled = d; levels = f; last = h })
 swept-path a b c d e f g h p q r s = cc
 
-go-counts :
-    (p : ℕ) (s : Swept) (ts : List Trade)
-    → goOn p s ts
+in-one-go :
+    (s : Swept) (ts : List Trade)
+    → counted s ts
     ≡ record {
       trades = s .trades + length ts;
       filled = s .filled + filled ts;
-      levels = s .levels + changes p (paid ts);
+      levels = s .levels + changes (s .last) (paid ts);
       last = lastPrice (s .last) ts;
     }
-unfolding goOn changes filled total lastPrice withTrade withPrice
-go-counts p s [] = swept-path _ _ _ _ _ _ _ _ (omega arith) (omega arith) (omega arith) refl
-go-counts p s (t ∷ ts) =
-    pick (eqb (t .price) p) (go-counts p (withTrade s t) ts) (go-counts (t .price) (withTrade (withPrice s) t) ts)
+unfolding counted changes filled total lastPrice pricesWith withTrade
+in-one-go s [] = swept-path _ _ _ _ _ _ _ _ (omega arith) (omega arith) (omega arith) refl
+in-one-go s (t ∷ ts) =
+    in-one-go (withTrade s t) ts
+    ∙ swept-path _ _ _ _ _ _ _ _ (omega arith) (omega arith) (pick (eqb (t .price) (s .last)) refl) refl
   where
     pick :
         (b : Bool)
-        → goOn p (withTrade s t) ts
-        ≡ record {
-          trades = s .trades + 1 + length ts;
-          filled = s .filled + t .quantity + filled ts;
-          levels = s .levels + changes p (paid ts);
-          last = lastPrice (t .price) ts;
-        }
-        → goOn (t .price) (withTrade (withPrice s) t) ts
-        ≡ record {
-          trades = s .trades + 1 + length ts;
-          filled = s .filled + t .quantity + filled ts;
-          levels = s .levels + 1 + changes (t .price) (paid ts);
-          last = lastPrice (t .price) ts;
-        }
-        → cond b (goOn p (withTrade s t) ts) (goOn (t .price) (withTrade (withPrice s) t) ts)
-        ≡ record {
-          trades = s .trades + suc (length ts);
-          filled = s .filled + (t .quantity + filled ts);
-          levels = s .levels + cond b (changes p (paid ts)) (suc (changes (t .price) (paid ts)));
-          last = lastPrice (t .price) ts;
-        }
-    pick true x y = x ∙ swept-path _ _ _ _ _ _ _ _ (omega arith) (omega arith) refl refl
-    pick false x y = y ∙ swept-path _ _ _ _ _ _ _ _ (omega arith) (omega arith) (omega arith) refl
+        → eqb (t .price) (s .last) ≡ b
+        → cond b (s .levels) (s .levels + 1) + changes (t .price) (paid ts)
+        ≡ s .levels + cond b (changes (s .last) (paid ts)) (suc (changes (t .price) (paid ts)))
+    pick true e = ap (λ (p : ℕ). s .levels + changes p (paid ts)) (eqb-true (t .price) (s .last) e)
+    pick false e = omega arith
 
 -- the different prices are those that begin
 runs :
@@ -146,16 +107,29 @@ runs side p (r ∷ ps) hp w = pick (eqb r p) refl (runs side p ps hp) (runs side
 abbrev pub unswept : Swept
 unswept = record { trades = 0; filled = 0; levels = 0; last = 0 }
 
-begin-counts : (side a : ℕ) (ts : List Trade) → Worsens side a (paid ts) → begin unswept ts ≡ comesTo ts
-unfolding begin comesTo filled total levels different lastPrice withTrade withPrice
-begin-counts side a [] w = unfold once in refl
-begin-counts side a (t ∷ ts) w =
-    go-counts (t .price) (record { trades = 1; filled = 0 + t .quantity; levels = 1; last = t .price }) ts
+pub nothing-yet : comesTo [] ≡ unswept
+unfolding comesTo filled total levels different once lastPrice
+nothing-yet = refl
+
+-- no price is 0, so the first trade begins one
+abbrev Begins : List Trade → Type 0
+Begins [] = Unit {0}
+Begins (t ∷ ts) = t .price ≡ 0 → ⊥
+
+comes-to :
+    (side a : ℕ) (ts : List Trade)
+    → Begins ts
+    → Worsens side a (paid ts)
+    → counted unswept ts ≡ comesTo ts
+unfolding changes comesTo filled levels different
+comes-to side a [] n w = counted-none unswept ∙ sym nothing-yet
+comes-to side a (t ∷ ts) n w =
+    in-one-go unswept (t ∷ ts)
     ∙ swept-path _ _ _ _ _ _ _ _ (omega arith) (omega arith)
     (let r : length (once (paid (t ∷ ts))) ≡ suc (changes (t .price) (paid ts)) =
     runs side (t .price) (paid ts) (w .1) (w .2)
     in
-    omega arith)
+    rw (ne-eqb (t .price) 0 n) (omega arith))
     refl
 
 -- ---- the prices of a sweep never get better
@@ -212,11 +186,25 @@ worsens-sweep side a t q (o ∷ os) w =
     go true h = unfold tradeWith in (w .0, w .1, h)
     go false h = tt
 
+begins :
+    (t : Taker) (q n : ℕ) (os : List Order)
+    → Each (λ (o : Order). o .price ≡ 0 → ⊥) os
+    → Begins (sweep t q (cutLevels n os))
+unfolding cutLevels
+begins t q zero os e = rw (sweep-nil t q) tt
+begins t q (suc n) [] e = rw (sweep-nil t q) tt
+begins t q (suc n) (o ∷ os) e = rw (sweep-cons t q o (cutSame n (o .price) os)) (go (wants t q (o .price)))
+  where
+    go : (b : Bool) → Begins (cond b (tradeWith t q o ∷ sweep t (q - o .left) (cutSame n (o .price) os)) [])
+    go true = unfold tradeWith in e .0
+    go false = tt
+
 pub sweep-counts :
     (t : Taker) (q n side : ℕ) (book : List Order)
     → Standing book
-    → begin unswept (sweep t q (cutLevels n (queue side book))) ≡ comesTo (sweep t q (cutLevels n (queue side book)))
-sweep-counts t q n side book s =
-    begin-counts side 0 (sweep t q (cutLevels n (queue side book)))
+    → Each (λ (o : Order). o .price ≡ 0 → ⊥) (queue side book)
+    → counted unswept (sweep t q (cutLevels n (queue side book))) ≡ comesTo (sweep t q (cutLevels n (queue side book)))
+sweep-counts t q n side book s priced =
+    comes-to side 0 (sweep t q (cutLevels n (queue side book))) (begins t q n (queue side book) priced)
     (worsens-sweep side 0 t q (cutLevels n (queue side book))
     (worsens-levels side 0 n (queue side book) (queue-worsens side book s)))

@@ -3,7 +3,7 @@ use Prim.Native.Nat.{ℕ, _+_}
 use mathlib.Core.Bool.{Bool, _&&_}
 use mathlib.Core.List.{List, [], _∷_, map}
 use lib.ListN.{length, take}
-use lib.Dec.{ltb}
+use lib.Dec.{ltb, eqb}
 use Rattle.model.specs.declared.Order.{Order}
 use Rattle.model.specs.declared.Trade.{Trade}
 use Rattle.model.specs.declared.Taker.{Taker}
@@ -34,10 +34,11 @@ unfoldable pub partnerOf : Taker → ℕ → List Order → Next
 partnerOf t q [] = Nothing
 partnerOf t q (o ∷ os) = if wants t q (o .price) then At o (key o) else Nothing
 
+-- how many prices there are with this one, which is the last one or one more
+unfoldable pub pricesWith : Swept → ℕ → ℕ
+pricesWith s p = if eqb p (s .last) then s .levels else s .levels + 1
+
 -- one trade more
 unfoldable pub withTrade : Swept → Trade → Swept
-withTrade s t = record { trades = s .trades + 1; filled = s .filled + t .quantity; levels = s .levels; last = t .price }
-
--- one price more
-unfoldable pub withPrice : Swept → Swept
-withPrice s = record { trades = s .trades; filled = s .filled; levels = s .levels + 1; last = s .last }
+withTrade s t =
+    record { trades = s .trades + 1; filled = s .filled + t .quantity; levels = pricesWith s (t .price); last = t .price }

@@ -1,7 +1,6 @@
 // What an order does on entry, by its kind: its price, its trades, and where what is left rests.
 ghost use mathlib.Core.Path.{_≡_};
 ghost use Prim.Native.Nat.{_≤_};
-ghost use mathlib.Core.List.{[]};
 ghost use lib.ListN.{length, set};
 ghost use Rattle.model.specs.Clock.{phaseAt};
 ghost use Rattle.model.specs.Book.{best, other};
@@ -14,6 +13,7 @@ ghost use Rattle.book.specs.Writing.{front};
 ghost use Rattle.matching.specs.Sweeping.{comesTo};
 ghost use Rattle.matching.specs.Entering.{bestFor, entryAt, restAt, mostPrices};
 use crate::Swept;
+use crate::sweeping::nothing_yet;
 use crate::sweeping::other_side;
 use crate::sweeping::sweep;
 use book::places::lowest_free;
@@ -79,17 +79,6 @@ fn most_prices(kind: u64) -> u64
     ensures { λ r. ⌜ r ≡ mostPrices kind ⌝ }
 {
     if 3 <= kind { 5 } else { 4_096 }
-}
-
-fn nothing_yet() -> Swept
-    ensures { λ r. ⌜ r ≡ comesTo [] ⌝ }
-{
-    Swept {
-        trades: 0,
-        filled: 0,
-        levels: 0,
-        last: 0,
-    }
 }
 
 // That price in the book: no best price is looked for that the kind does not take.

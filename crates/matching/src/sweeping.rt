@@ -1,6 +1,7 @@
 // An order on its way through the other side, one resting order after the other. The book stays as it is.
 ghost use mathlib.Core.Path.{_≡_};
 ghost use Prim.Native.Nat.{_+_, _≤_, _<_, _^_, min};
+ghost use mathlib.Core.List.{[]};
 ghost use lib.ListN.{length};
 ghost use Rattle.model.specs.Book.{other, queue};
 ghost use Rattle.model.specs.Matching as matching;
@@ -8,7 +9,7 @@ ghost use Rattle.book.specs.Rows.{bookOf, tradeRows};
 ghost use Rattle.book.specs.Standing.{Each, Fair, Standing};
 ghost use Rattle.book.specs.Priority.{beyond};
 ghost use Rattle.book.specs.Writing.{front};
-ghost use Rattle.matching.specs.Sweeping.{atBest, comesTo, partnerOf, withTrade, withPrice};
+ghost use Rattle.matching.specs.Sweeping.{atBest, comesTo, partnerOf, pricesWith, withTrade};
 use crate::Swept;
 use book::Next;
 use book::priority::next_after;
@@ -90,28 +91,41 @@ fn trade_with(t: Taker, left: u64, o: Order) -> Trade
     }
 }
 
+// Before the first trade.
+pub fn nothing_yet() -> Swept
+    ensures { λ r. ⌜ r ≡ comesTo [] ⌝ }
+{
+    Swept {
+        trades: 0,
+        filled: 0,
+        levels: 0,
+        last: 0,
+    }
+}
+
+// How many prices there are with this one. No price is 0, so that of the first trade is one more.
+fn prices_with(s: Swept, price: u64) -> u64
+    requires { ⌜ s .levels + 1 < 2 ^ 64 ⌝ }
+    ensures { λ r. ⌜ r ≡ pricesWith s price ⌝ }
+{
+    if price == s.last {
+        s.levels
+    } else {
+        s.levels + 1
+    }
+}
+
 fn with_trade(s: Swept, t: Trade) -> Swept
     requires { ⌜ s .trades + 1 < 2 ^ 64 ⌝ }
     requires { ⌜ s .filled + t .quantity < 2 ^ 64 ⌝ }
+    requires { ⌜ s .levels + 1 < 2 ^ 64 ⌝ }
     ensures { λ r. ⌜ r ≡ withTrade s t ⌝ }
 {
     Swept {
         trades: s.trades + 1,
         filled: s.filled + t.quantity,
-        levels: s.levels,
+        levels: prices_with(s, t.price),
         last: t.price,
-    }
-}
-
-fn with_price(s: Swept) -> Swept
-    requires { ⌜ s .levels + 1 < 2 ^ 64 ⌝ }
-    ensures { λ r. ⌜ r ≡ withPrice s ⌝ }
-{
-    Swept {
-        trades: s.trades,
-        filled: s.filled,
-        levels: s.levels + 1,
-        last: s.last,
     }
 }
 
@@ -130,40 +144,22 @@ pub fn sweep(
     ensures { λ r. ⌜ r ≡ comesTo (matching.sweep t quantity (atBest most (queue (other (t .side)) (bookOf (now (rows .entry)))))) ⌝ }
     ensures { λ r. ⌜ now (trades .exit) ≡ front room (tradeRows (matching.sweep t quantity (atBest most (queue (other (t .side)) (bookOf (now (rows .entry))))))) (now (trades .entry)) ⌝ }
 {
-    let mut s = Swept {
-        trades: 0,
-        filled: 0,
-        levels: 0,
-        last: 0,
-    };
+    let mut s = nothing_yet();
     let mut left = quantity;
     let mut after: u64 = 0;
-    let mut next = partner(rows, t, left, after);
-    'prices: while s.levels < most {
-        let Next::At {
-            order: best,
-            key: _,
-        } = next
-        else {
-            break 'prices;
+    loop {
+        let next = partner(rows, t, left, after);
+        let Next::At { order, key } = next else {
+            break;
         };
-        let price = best.price;
-        s = with_price(s);
-        'orders: loop {
-            // Left where the quantity or the limit is spent, or nobody stands there any more.
-            let Next::At { order, key } = next else {
-                break 'prices;
-            };
-            if order.price != price {
-                break 'orders;
-            }
-            let trade = trade_with(t, left, order);
-            put_trade_below(&mut *trades, room, s.trades, trade);
-            s = with_trade(s, trade);
-            left -= trade.quantity;
-            after = key;
-            next = partner(rows, t, left, after);
+        if most < prices_with(s, order.price) {
+            break;
         }
+        let trade = trade_with(t, left, order);
+        put_trade_below(&mut *trades, room, s.trades, trade);
+        s = with_trade(s, trade);
+        left -= trade.quantity;
+        after = key;
     }
     s
 }
