@@ -9,7 +9,7 @@
 #include <stdlib.h>
 #include <string.h>
 
-enum { SEEDS = 800, TRIES = 100 };
+enum { SEEDS = 900, TRIES = 100 };
 
 static uint64_t number_in(const char *word) { return strtoull(word, NULL, 10); }
 

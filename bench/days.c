@@ -23,8 +23,8 @@ static int once_in(uint64_t n) { return chance(n) == 0; }
 /* A number that is likely to sit on an edge. */
 static uint64_t edge(void) {
     static const uint64_t edges[] = {
-        0,     1,     2,     4,     99,     100,    33299,   33300,   33899,      33900,          53819,      53820,
-        53999, 54000, 86399, 86400, 999998, 999999, 1000000, 1000001, UINT32_MAX, UINT64_MAX - 1, UINT64_MAX, 1ull << 63};
+        0,     1,     2,     4,     99,    100,   33299,  33300,  33899,   33900,   53819,      53820,          53999,
+        54000, 65535, 65536, 86399, 86400, 999998, 999999, 1000000, 1000001, UINT32_MAX, UINT64_MAX - 1, UINT64_MAX, 1ull << 63};
     return once_in(4) ? chance(2000000) : edges[chance(sizeof edges / sizeof edges[0])];
 }
 
@@ -37,9 +37,16 @@ struct plan {
 
 static uint64_t random_price(const struct plan *plan) { return plan->close - plan->spread + chance(2 * plan->spread + 1); }
 
+/* Few trades, 64, as many as the book has places or a byte less, or as many as there can be. */
 static void random_lengths(void) {
     struct lent *m = &lent;
-    size_t list = once_in(3) ? chance(600) : once_in(20) ? LONGEST - chance(50) : 64 * TRADE_BYTES + chance(60);
+    size_t list = 64 * TRADE_BYTES + chance(60), all = m->book_length / 40 * TRADE_BYTES;
+    if (once_in(3))
+        list = chance(600);
+    else if (once_in(6) && all && all < LONGEST)
+        list = all - chance(2);
+    else if (once_in(20))
+        list = LONGEST - chance(50);
     lend(m->day_length, m->book_length, list, once_in(2) ? 48 : chance(70));
 }
 
@@ -145,25 +152,28 @@ static void damaged_call(const struct plan *plan) {
     restore_memory();
 }
 
-/* A book that is nearly full from the start, at a time that takes orders; its sides meet only where they may. */
+/* A book that is nearly full from the start, at a time that takes orders; its sides meet only where they may. Its numbers are the
+ * first, those around 65,536, or the last. */
 static void fill_book(const struct plan *plan) {
     static const uint64_t times[] = {33300, 33600, 34200, 46800, 53820};
     const struct lent *m = &lent;
     uint64_t time = times[chance(5)], n = m->book_length / 40;
+    const uint64_t before[] = {0, 65536 - chance(n + 2), 999999 - n};
+    uint64_t first = before[chance(3)];
     int apart = time == 34200 || time == 46800;
     put_number(m->day, 2, time);
-    put_number(m->day, 3, n);
+    put_number(m->day, 3, first + n);
     for (uint64_t p = 0; p < n; p++) {
         uint64_t side = chance(2), price = random_price(plan);
         if (once_in(8) || (apart && (price == plan->close || (price > plan->close) != (side == 1)))) continue;
-        const uint64_t order[5] = {side, 1 + chance(3), 1 + chance(5000), price, n - p};
+        const uint64_t order[5] = {side, 1 + chance(3), 1 + chance(5000), price, first + n - p};
         for (size_t i = 0; i < 5; i++) put_number(m->book, 5 * p + i, order[i]);
     }
 }
 
 static struct plan plan_day(uint64_t seed) {
     static const uint64_t closes[] = {1, 5, 100, 1000, 1001, 25000, 999999};
-    static const uint64_t sizes[] = {1, 2, 3, 8, 8, 30, 30, 100, 1024, 4096};
+    static const uint64_t sizes[] = {1, 2, 3, 8, 8, 30, 30, 100, 1024, 1025, 4096};
     struct plan plan = {seed, closes[chance(sizeof closes / sizeof closes[0])], 0, 0};
     plan.spread = 1 + chance(once_in(2) ? 8 : 60);
     if (plan.spread >= plan.close) plan.spread = plan.close - 1;

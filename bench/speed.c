@@ -1,6 +1,7 @@
 /* Measures each call on bytes beside the independent engine, which tests soundness as well, and beside one pass over the book: a
  * plain sum of its 64-bit numbers. In a round each case is measured once in all three ways, one after the other, from the same
- * memory; the least time of all rounds counts, as what else runs on the machine only adds. Prints docs/SPEED.md's tables. */
+ * memory; the least time of all rounds counts, as what else runs on the machine only adds. Prints docs/SPEED.md's tables: each call
+ * by places and live orders, and an order by its trades. */
 #define _POSIX_C_SOURCE 199309L
 #include "compare.h"
 #include <stdio.h>
@@ -8,7 +9,7 @@
 #include <string.h>
 #include <time.h>
 
-enum { ROUNDS = 300, SUMS = 16, CASES = 9, MOST = 4096 };
+enum { ROUNDS = 300, SUMS = 16, CASES = 9, MOST = 4096, MOST_TRADES = 64 };
 
 static uint8_t day_bytes[64], book_bytes[40 * MOST], list_bytes[TRADE_BYTES * MOST], reply_bytes[48];
 static uint8_t day_before[64], book_before[40 * MOST];
@@ -123,24 +124,37 @@ static void print_times(const struct measured *c, const struct times *t) {
            t->proved / t->independent, t->proved / t->pass, t->independent / t->pass);
 }
 
-static void print_table(size_t places, size_t live) {
+static void print_table(const struct measured *rows, int count, size_t places, size_t live) {
     struct times times[CASES] = {{0, 0, 0}};
     double pass = 0;
     for (int round = 0; round < ROUNDS; round++)
-        for (int c = 0; c < CASES; c++) measure(&cases[c], places, live, &times[c]);
-    for (int c = 0; c < CASES; c++) keep_least(&pass, times[c].pass);
-    for (int c = 0; c < CASES; c++) times[c].pass = pass;
+        for (int c = 0; c < count; c++) measure(&rows[c], places, live, &times[c]);
+    for (int c = 0; c < count; c++) keep_least(&pass, times[c].pass);
+    for (int c = 0; c < count; c++) times[c].pass = pass;
     printf("%zu places, %zu live orders; a pass takes %.2f microseconds.\n\n", places, live, pass / 1000);
     printf("| call | proved, us | independent, us | proved / independent | proved, passes | independent, passes |\n");
     printf("|---|---|---|---|---|---|\n");
-    for (int c = 0; c < CASES; c++) print_times(&cases[c], &times[c]);
+    for (int c = 0; c < count; c++) print_times(&rows[c], &times[c]);
     printf("\n");
+}
+
+/* An order with 2, 4, 8 trades and on: each sell has 100 shares. */
+static void print_by_trades(size_t places) {
+    static char names[CASES][32];
+    struct measured orders[CASES];
+    int count = 0;
+    for (uint64_t trades = 2; trades <= MOST_TRADES; trades *= 2, count++) {
+        snprintf(names[count], sizeof names[count], "order with %d trades", (int)trades);
+        orders[count] = (struct measured){names[count], ORDER, 0, 34200, {0, 0, 9, 100 * trades, 1050}};
+    }
+    print_table(orders, count, places, places - 8);
 }
 
 int main(void) {
     for (size_t places = 1024; places <= MOST; places *= 4) {
-        print_table(places, 8);
-        print_table(places, places - 8);
+        print_table(cases, CASES, places, 8);
+        print_table(cases, CASES, places, places - 8);
     }
+    print_by_trades(1024);
     return 0;
 }
