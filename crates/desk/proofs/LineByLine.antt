@@ -20,7 +20,7 @@ use Rattle.desk.specs.declared.Answered.{Answered}
 use Rattle.desk.specs.declared.Progress.{Progress}
 use Rattle.desk.specs.Desks.{deskOf, Leaves}
 use Rattle.desk.proofs.SoundDesks.{stays-sound}
-use Rattle.desk.specs.Blocks.{Point, pointOf, asksFrom, Onward, Answers, Through, Serves}
+use Rattle.desk.specs.Blocks.{Point, pointOf, asksFrom, Onward, Answers, Through, Serves, pastLine}
 
 module _ (block : List ℕ) where
   pub onward-none : (p : Point) → p .at ≤ length block → Onward block p p
@@ -104,21 +104,19 @@ module _ (block : List ℕ) (p : Point) (before : List ℕ) where
         (e : nextCommand (r .long) block (r .at) ≡ Next.the-variants.Line command place)
         {rows′ : List (List ℕ)} {after′ : List ℕ} (a : Answered)
         (l : Leaves (answer command (deskOf (r .begun) (r .day) rows)) after (r .next) rows′ after′ a) where
-      abbrev reached : Progress
-      reached = record { begun = a .begun; day = a .day; at = place; long = false; next = a .next; done = false }
-
       shown : take (a .next) after′ ≡ take (r .next) after ++ answer command (deskOf (r .begun) (r .day) rows) .text
       shown =
           let w = and-then (g .text) (l .text) in
           put-shown w (omega (arith, w .place, put-long w, l .fits))
 
-      pub going-on : Going rows′ after′ reached
-      going-on =
+      pub going-on : {s : Progress} → s ≡ pastLine a place → Going rows′ after′ s
+      going-on s =
           let t = taken block (r .at) (r .long) command place e in
+          rw s
           record {
             text = put-as (sym shown) (and-then (g .text) (l .text));
             answers =
-                subst (λ (x : List ℕ). Answers block p x (pointOf reached rows′)) (sym shown)
+                subst (λ (x : List ℕ). Answers block p x (pointOf (pastLine a place) rows′)) (sym shown)
                 (subst (λ (k : Option Desk). Answers block p (take (r .next) after ++ answer command (deskOf (r .begun) (r .day) rows) .text) (record { desk = k; at = place; long = false }))
                 (sym (l .desk)) (answers-more block (g .answers) (answers-one block (pointOf r rows) command place e)));
             fits = l .fits;

@@ -11,6 +11,7 @@ use Rattle.model.specs.Session.{Desk}
 use Rattle.text.specs.Blocks.{asksOf, tailOf, tailLong}
 use Rattle.text.specs.Answers.{repliesTo, deskAfter}
 use Rattle.text.specs.Printing.{Wrote}
+use Rattle.desk.specs.declared.Answered.{Answered}
 use Rattle.desk.specs.declared.Progress.{Progress}
 use Rattle.desk.specs.Desks.{deskOf, SoundDesk}
 
@@ -22,6 +23,10 @@ pub record Point : Type 0 where
 
 abbrev pub pointOf : Progress → List (List ℕ) → Point
 pointOf p rows = record { desk = deskOf (p .begun) (p .day) rows; at = p .at; long = p .long }
+
+-- past a line that is answered
+abbrev pub pastLine : Answered → ℕ → Progress
+pastLine a place = record { begun = a .begun; day = a .day; at = place; long = false; next = a .next; done = false }
 
 -- what the block asks for from a point on
 abbrev pub asksFrom : List ℕ → Point → List Command

@@ -1,4 +1,5 @@
 // The lines of a block, answered one behind the other into the lent output.
+use crate::Answered;
 use crate::Progress;
 use crate::answering::answer_command;
 use text::Next;
@@ -7,7 +8,22 @@ ghost use mathlib.Core.Path.{_≡_};
 ghost use Prim.Native.Nat.{_≤_};
 ghost use lib.ListN.{length};
 ghost use Rattle.desk.specs.Desks.{deskOf, SoundDesk};
-ghost use Rattle.desk.specs.Blocks.{pointOf, Serves};
+ghost use Rattle.desk.specs.Blocks.{pointOf, Serves, pastLine};
+
+// Past a line that is answered.
+fn past_line(a: Answered, place: usize) -> Progress
+    ensures { λ r. ⌜ r ≡ pastLine a place ⌝ }
+{
+    let day = a.day;
+    Progress {
+        begun: a.begun,
+        day,
+        at: place,
+        long: false,
+        next: a.next,
+        done: false,
+    }
+}
 
 // Goes on from a place of the block until no line is left, or the output might not hold another reply: 2,048 trades and a
 // line.
@@ -46,15 +62,7 @@ pub fn answer_lines(
             &mut *out,
             p.next,
         );
-        let next = a.day;
-        p = Progress {
-            begun: a.begun,
-            day: next,
-            at: place,
-            long: false,
-            next: a.next,
-            done: false,
-        };
+        p = past_line(a, place);
     }
     p
 }
