@@ -26,8 +26,7 @@ pub fn trade_room() -> [[u64; 6]; 4096] {
     [none; 4096]
 }
 
-// The same for books of up to 1,024 places: a call sets its rooms to zero, which takes longer than the rest of its work where they
-// are larger than the book.
+// The same for books of up to 1,024 places: a call sets its rooms to zero, and with the large ones that can be half its time.
 pub fn small_room() -> [[u64; 5]; 1024] {
     let free = [0u64; 5];
     [free; 1024]

@@ -54,6 +54,7 @@ fn order_in(
     answer
 }
 
+// In rooms for 4,096 places.
 fn order_on_many(day: &[u8], book: &mut [u8], trades: &mut [u8], a: Asked) -> OrderAnswer
     requires { ⌜ length (now day) ≡ 64 ⌝ }
     requires { ⌜ length (now book) / 40 ≤ 4_096 ⌝ }
@@ -66,6 +67,7 @@ fn order_on_many(day: &[u8], book: &mut [u8], trades: &mut [u8], a: Asked) -> Or
     order_in(day, book, trades, &mut rows[..n], &mut list[..k], a)
 }
 
+// In rooms for 1,024.
 fn order_on_few(day: &[u8], book: &mut [u8], trades: &mut [u8], a: Asked) -> OrderAnswer
     requires { ⌜ length (now day) ≡ 64 ⌝ }
     requires { ⌜ length (now book) / 40 ≤ 1_024 ⌝ }
@@ -78,6 +80,7 @@ fn order_on_few(day: &[u8], book: &mut [u8], trades: &mut [u8], a: Asked) -> Ord
     order_in(day, book, trades, &mut rows[..n], &mut list[..k], a)
 }
 
+// In rooms as small as the book allows.
 fn order_on(day: &[u8], book: &mut [u8], trades: &mut [u8], a: Asked) -> OrderAnswer
     requires { ⌜ length (now day) ≡ 64 ⌝ }
     requires { ⌜ length (now book) / 40 ≤ 4_096 ⌝ }
@@ -148,6 +151,7 @@ fn clock_in(
     answer
 }
 
+// In rooms for 4,096 places.
 fn clock_on_many(day: &[u8], book: &mut [u8], trades: &mut [u8], time: u64) -> ClockAnswer
     requires { ⌜ length (now day) ≡ 64 ⌝ }
     requires { ⌜ length (now book) / 40 ≤ 4_096 ⌝ }
@@ -160,6 +164,7 @@ fn clock_on_many(day: &[u8], book: &mut [u8], trades: &mut [u8], time: u64) -> C
     clock_in(day, book, trades, &mut rows[..n], &mut list[..k], time)
 }
 
+// In rooms for 1,024.
 fn clock_on_few(day: &[u8], book: &mut [u8], trades: &mut [u8], time: u64) -> ClockAnswer
     requires { ⌜ length (now day) ≡ 64 ⌝ }
     requires { ⌜ length (now book) / 40 ≤ 1_024 ⌝ }
@@ -172,6 +177,7 @@ fn clock_on_few(day: &[u8], book: &mut [u8], trades: &mut [u8], time: u64) -> Cl
     clock_in(day, book, trades, &mut rows[..n], &mut list[..k], time)
 }
 
+// In rooms as small as the book allows.
 fn clock_on(day: &[u8], book: &mut [u8], trades: &mut [u8], time: u64) -> ClockAnswer
     requires { ⌜ length (now day) ≡ 64 ⌝ }
     requires { ⌜ length (now book) / 40 ≤ 4_096 ⌝ }
