@@ -3,7 +3,8 @@
  * Every slice is a pointer and a length in bytes. Any length is taken, also 0. The slices of one call must not overlap.
  * Every call returns its refusal number, 0 where it is accepted, and writes its reply to the lent reply buffer as numbers of
  * 8 bytes, as many whole ones as the buffer holds: the refusal number first, then the values named below, zeros after a
- * refusal. A refused call leaves day, book, trades and prices as they were. */
+ * refusal. A refused call leaves day, book, trades and prices as they were. A call takes up to half a megabyte of stack, and
+ * nothing from the heap. */
 #ifndef FLEMORIX_H
 #define FLEMORIX_H
 
