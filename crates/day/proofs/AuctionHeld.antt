@@ -12,7 +12,6 @@ use borrow.Author.Tests.{lt-ltb, le-ltb}
 use Rattle.model.specs.declared.Order.{Order}
 use Rattle.model.specs.declared.Trade.{Trade}
 use Rattle.model.specs.declared.Day.{Day}
-use Rattle.model.specs.Book.{isLive}
 use Rattle.model.specs.Matching.{filled, settle}
 use Rattle.model.specs.Figures.{money, tally, reference}
 use Rattle.model.specs.Auction.{leftBy}
@@ -25,9 +24,9 @@ use Rattle.model.proofs.Rules.{hit}
 use Rattle.book.specs.Rows.{orderOf, bookOf, tradesOf, tradeRows}
 use Rattle.book.specs.Standing.{Standing}
 use Rattle.book.specs.Writing.{front}
-use Rattle.book.proofs.Lists.{length-keep}
 use Rattle.book.proofs.Written.{front-nil, front-trades, front-written}
-use Rattle.pairing.proofs.Auctions.{uncrossed-none, auction-trades-are, auction-money, auction-shares, auction-fewer, auction-cases}
+use Rattle.pairing.proofs.Auctions.{uncrossed-none, auction-trades-are, auction-money, auction-shares, auction-cases}
+use Rattle.pairing.proofs.Moves.{auction-few}
 use Rattle.day.specs.Promises.{left}
 use Rattle.day.specs.Ready.{Ready}
 use Rattle.day.specs.Moving.{auctioned, auctionRules, reached}
@@ -64,8 +63,7 @@ pub list-enough :
     → Standing (bookOf rows)
     → length rows ≤ room
     → length (auctionTrades d (bookOf rows)) ≤ room
-list-enough d rows room s h =
-    omega (arith, h, auction-fewer (bookOf rows) s d, length-keep isLive (bookOf rows), length-map rows orderOf)
+list-enough d rows room s h = omega (arith, h, auction-few (bookOf rows) s d, length-map rows orderOf)
 
 -- ---- room in the day's figures
 

@@ -15,7 +15,7 @@ use Rattle.model.specs.declared.Trade.{Trade}
 use Rattle.model.specs.Lists.{all}
 use Rattle.model.specs.Clock.{phaseAt, continuous}
 use Rattle.model.specs.Limits.{isPrice, inRange}
-use Rattle.model.specs.Book.{isLive, standsOn, best, other}
+use Rattle.model.specs.Book.{isLive, best, other}
 use Rattle.model.specs.Figures.{reference}
 use Rattle.model.specs.Entry.{entryTrades, base}
 use Rattle.model.specs.Refusals.{_when_, firstOf}
@@ -25,10 +25,9 @@ use Rattle.book.specs.Standing.{Standing}
 use Rattle.book.specs.Places.{lowestFree}
 use Rattle.book.proofs.Finding.{full, not-full, lowest-bound}
 use Rattle.book.proofs.Best.{best-price}
-use Rattle.book.proofs.Lists.{length-keep}
 use Rattle.matching.specs.declared.Swept.{Swept}
 use Rattle.matching.specs.Sweeping.{comesTo}
-use Rattle.matching.proofs.EntryLaws.{entry-count}
+use Rattle.matching.proofs.EntryLaws.{entry-few}
 use Rattle.day.specs.Checks.{outside, bookRules}
 
 -- ---- the base of the range
@@ -143,9 +142,7 @@ pub list-enough :
     → false ≡ ltb room (length (entryTrades d a (bookOf rows)))
 list-enough d a rows room h =
     let book = bookOf rows in
-    let few : length (entryTrades d a book) ≤ room =
-    omega (arith, h, entry-count d a book, length-keep (standsOn (other (a .side))) book, length-map rows orderOf) in
-    sym (le-ltb room (length (entryTrades d a book)) few)
+    sym (le-ltb room (length (entryTrades d a book)) (omega (arith, h, entry-few d a book, length-map rows orderOf)))
 
 pub counted-trades : {s : Swept} (ts : List Trade) → s ≡ comesTo ts → s .trades ≡ length ts
 unfolding comesTo

@@ -34,13 +34,14 @@ use Rattle.book.proofs.Shares.{room-after}
 use Rattle.book.proofs.Settlements.{filled-none, part, filled-cons, less-some}
 use Rattle.soundness.proofs.SoundDays.{sound-day, next-new}
 use Rattle.pairing.proofs.Auctions.{auction-uncrosses, uncrossed-none}
+use Rattle.pairing.proofs.Moves.{both, moved-by}
 use Rattle.demands.specs.Pricing.{Sound}
 use Rattle.demands.specs.Leaving.{leftIn, Falls, lastLeft, Stands, EachFalls, EachStands, Incoming}
 use Rattle.demands.proofs.Elements.{each-at, each-map}
 use Rattle.demands.proofs.Cases.{order-cases, clock-cases}
 use Rattle.demands.proofs.Settled.{settle-length}
 use Rattle.demands.proofs.Pricings.{sound-stands}
-use Rattle.demands.proofs.Moved.{both, not-reached, moved-by}
+use Rattle.demands.proofs.Moved.{not-reached}
 use Rattle.demands.proofs.Staying.{settle-at, rest-elsewhere}
 use Rattle.demands.proofs.Entries.{all-ends, rests-somewhere, placed-rests, accepted-cases}
 use Rattle.demands.proofs.Once.{Once, book-once}

@@ -13,6 +13,7 @@ pub mod Settled
 pub mod EntryPrices
 pub mod Entered
 pub mod Moved
+pub mod LongLists
 pub mod Answers
 pub mod Issued
 pub mod Owned

@@ -26,6 +26,7 @@ use Rattle.book.proofs.Lists.{each}
 use Rattle.book.proofs.Kept.{standing-settle}
 use Rattle.soundness.specs.SoundDay.{Empty, SoundDay}
 use Rattle.soundness.proofs.SoundDays.{sound-day, day-sound, few-places}
+use Rattle.pairing.proofs.Moves.{both, moved-by}
 use Rattle.pairing.proofs.Auctions.{auction-priced, auction-shares, auction-cases, auction-uncrosses}
 use Rattle.demands.specs.Pricing.{Sound, EachAuction}
 use Rattle.demands.proofs.FirstRules.{gives-none}
@@ -143,57 +144,45 @@ module _ (second old new : ℕ) where
   long-past a = rw (le-ltb old second a)
 
 module _ (d : Day) (t : ℕ) (book : List Order) where
-  -- the book after the two boundaries, by whether each is passed
-  abbrev pub opened : Bool → Held
-  opened p = cond p (hold (record { second = 33_900; lapse = false }) (start d book)) (start d book)
-
-  abbrev pub both : Bool → Bool → Held
-  both p q = cond q (hold (record { second = 54_000; lapse = true }) (opened p)) (opened p)
-
-  pub moved-by :
-      (p q : Bool) → passes 33_900 (d .time) t ≡ p → passes 54_000 (d .time) t ≡ q → moved d t book ≡ both p q
-  unfolding moved boundaries through pass
-  moved-by p q e f = rw (e, f)
-
   module _ (s : SoundDay d book) (k : Standing book) (ordered : d .time ≤ t) where
     early-empty : t < 33_300 → Empty (moved d t book .book)
     unfolding start
     early-empty h =
-        rw (moved-by false false (not-reached 33_900 (d .time) t (omega arith)) (not-reached 54_000 (d .time) t (omega arith)))
+        rw (moved-by d t book false false (not-reached 33_900 (d .time) t (omega arith)) (not-reached 54_000 (d .time) t (omega arith)))
         (s .early (omega arith))
 
     late-empty : 54_000 ≤ t → Empty (moved d t book .book)
     late-empty h = go (ltb (d .time) 54_000) refl
       where
-        lapsed : (p : Bool) → Empty (both p true .book)
+        lapsed : (p : Bool) → Empty (both d t book p true .book)
         lapsed p = unfold hold in cleared-empty _
 
         go : (b : Bool) → ltb (d .time) 54_000 ≡ b → Empty (moved d t book .book)
         go true e =
-            rw (moved-by (passes 33_900 (d .time) t) true refl (passed 54_000 (d .time) t (ltb-true (d .time) 54_000 e) h))
+            rw (moved-by d t book (passes 33_900 (d .time) t) true refl (passed 54_000 (d .time) t (ltb-true (d .time) 54_000 e) h))
             (lapsed (passes 33_900 (d .time) t))
         go false e =
             let l : 54_000 ≤ d .time = ltb-false (d .time) 54_000 e in
-            rw (moved-by false false (long-past 33_900 (d .time) t (omega arith)) (long-past 54_000 (d .time) t l))
+            rw (moved-by d t book false false (long-past 33_900 (d .time) t (omega arith)) (long-past 54_000 (d .time) t l))
             (unfold start in s .late l)
 
     then-uncrossed : 33_900 ≤ t → t ≤ 53_819 → crosses (moved d t book .book) ≡ false
     then-uncrossed a b = go (ltb (d .time) 33_900) refl
       where
-        after : crosses (both true false .book) ≡ false
+        after : crosses (both d t book true false .book) ≡ false
         after = unfold hold start in auction-uncrosses book k d
 
-        before : 33_900 ≤ d .time → crosses (both false false .book) ≡ false
+        before : 33_900 ≤ d .time → crosses (both d t book false false .book) ≡ false
         before l = unfold start in timely-of d book s .uncrossed l (omega arith)
 
         short : passes 54_000 (d .time) t ≡ false
         short = not-reached 54_000 (d .time) t (omega arith)
 
         go : (c : Bool) → ltb (d .time) 33_900 ≡ c → crosses (moved d t book .book) ≡ false
-        go true e = rw (moved-by true false (passed 33_900 (d .time) t (ltb-true (d .time) 33_900 e) a) short) after
+        go true e = rw (moved-by d t book true false (passed 33_900 (d .time) t (ltb-true (d .time) 33_900 e) a) short) after
         go false e =
             let l : 33_900 ≤ d .time = ltb-false (d .time) 33_900 e in
-            rw (moved-by false false (long-past 33_900 (d .time) t l) short) (before l)
+            rw (moved-by d t book false false (long-past 33_900 (d .time) t l) short) (before l)
 
 -- ---- the call
 

@@ -2,23 +2,23 @@
 use Prim.Native.Nat.{ℕ, _+_, _-_, _<_}
 use mathlib.Core.Path.{_≡_, refl, sym, ap, _∙_}
 use mathlib.Core.Logic.{_⊎_, ⊎-elim}
-use mathlib.Core.Bool.{Bool, true, false}
+use mathlib.Core.Bool.{Bool, true, false, _&&_}
 use mathlib.Core.List.{List, [], _∷_}
 use native.Mathlib.Omega.{arith}
 use lib.ListN.{length, getD}
 use lib.Dec.{ltb}
-use borrow.Author.Tests.{ltb-true, ltb-false}
+use borrow.Author.Tests.{ltb-true, ltb-false, not-false}
 use Rattle.model.specs.declared.Order.{Order}
 use Rattle.model.specs.declared.Day.{Day}
 use Rattle.model.specs.Lists.{any, from, among}
 use Rattle.model.specs.Matching.{settle}
 use Rattle.model.specs.Figures.{reference}
 use Rattle.model.specs.Auction.{qualifying, leftBy}
-use Rattle.model.specs.Sound.{crosses}
+use Rattle.model.specs.Sound.{hasPlaces, sound, crosses}
 use Rattle.model.specs.Refusals.{_when_, firstOf, unsound}
 use Rattle.model.specs.ClockCall.{auctionPrice, auctionTrades}
 use Rattle.model.specs.AuctionCalls.{due, listRules, listCall}
-use Rattle.model.proofs.Bools.{not-both, true-or-false, and-both}
+use Rattle.model.proofs.Bools.{and-left, and-right, not-both, true-or-false, and-both}
 use Rattle.book.specs.Standing.{Standing}
 use Rattle.book.proofs.Crossing.{uncrossed, not-crossed}
 use Rattle.book.proofs.Kept.{standing-settle}
@@ -38,6 +38,12 @@ use Rattle.demands.specs.Pricing.{Sound, Listing, Called, OneLeft, Trade
 pub not-unsound : (d : Day) (book : List Order) → Sound d book → unsound d book ≡ false
 unfolding unsound
 not-unsound d book s = rw (s .0, s .1)
+
+pub sound-if : (d : Day) (book : List Order) → unsound d book ≡ false → Sound d book
+unfolding unsound
+sound-if d book u =
+    let h = not-false (hasPlaces book && sound d book) u in
+    (and-left (hasPlaces book) (sound d book) h, and-right (hasPlaces book) (sound d book) h)
 
 pub sound-stands : (d : Day) (book : List Order) → Sound d book → Standing book
 sound-stands d book s = stands d book (and-both (s .0) (s .1))

@@ -76,7 +76,7 @@ module _ (d : Day) (a : Asked) (book : List Order) (lent : List Trade) where
   unfolding orderRules _when_
   order-numbers = (real 15 refl, (real 2 refl, (real 3 refl, (real 4 refl, (real 5 refl, (real 6 refl, (real 7 refl, (real 8 refl, (real 9 refl, (real 10 refl, (real 11 refl, (real 13 refl, tt))))))))))))
 
-  order-apart : (n : ℕ) → entered d a book lent .answer .reply ≡ OrderReply.the-variants.Refused n → ⊥
+  pub order-apart : (n : ℕ) → entered d a book lent .answer .reply ≡ OrderReply.the-variants.Refused n → ⊥
   unfolding entered
   order-apart n e = let z : _≡_ {A = ℕ} 0 1 = cc in omega arith
 
@@ -125,7 +125,7 @@ module _ (d : Day) (t : ℕ) (book : List Order) (lent : List Trade) where
   unfolding clockRules _when_
   clock-numbers = (real 15 refl, (real 1 refl, (real 13 refl, tt)))
 
-  clock-apart : (n : ℕ) → ClockReply.the-variants.Moved (phaseAt t) (length (moved d t book .trades)) ≡ ClockReply.the-variants.Refused n → ⊥
+  pub clock-apart : (n : ℕ) → ClockReply.the-variants.Moved (phaseAt t) (length (moved d t book .trades)) ≡ ClockReply.the-variants.Refused n → ⊥
   clock-apart n e = let z : _≡_ {A = ℕ} 0 1 = cc in omega arith
 
   pub clock-refuses : RefusesBy ClockReply.the-variants.Refused (clockRules d t book (length lent)) (clockCall d t book lent .answer .reply)

@@ -29,11 +29,12 @@ use Rattle.book.proofs.Lists.{keep-none}
 use Rattle.book.proofs.Queues.{number-live}
 use Rattle.book.proofs.Settlements.{less-nothing}
 use Rattle.book.proofs.Finding.{rest-set}
+use Rattle.pairing.proofs.Moves.{both, moved-by}
 use Rattle.demands.specs.Owning.{Stays}
 use Rattle.demands.proofs.Cases.{order-cases, clock-cases}
 use Rattle.demands.proofs.Elements.{each-at}
 use Rattle.demands.proofs.Settled.{settle-length}
-use Rattle.demands.proofs.Moved.{both, not-reached, moved-by}
+use Rattle.demands.proofs.Moved.{not-reached}
 use Rattle.demands.proofs.Owns.{first-passes}
 
 -- ---- trades that do not name it

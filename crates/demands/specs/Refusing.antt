@@ -1,5 +1,6 @@
--- Demand 1: a refusal is given exactly when its rule says, and a refused call leaves all that it was lent as it was.
-use Prim.Native.Nat.{ℕ}
+-- Demand 1: a refusal is given exactly when its rule says, and a refused call leaves all that it was lent as it was; and a long
+-- trade list never lacks room.
+use Prim.Native.Nat.{ℕ, _≤_}
 use mathlib.Core.Path.{_≡_}
 use mathlib.Core.Logic.{_↔_}
 use mathlib.Core.Bool.{true, false}
@@ -99,3 +100,16 @@ pub record Untouched : Type 0 where
       (d : Day) (asked n : ℕ) (book : List Order) (lent : List ℕ)
       → listCall d asked book lent .reply ≡ ListReply.the-variants.Refused n
       → listCall d asked book lent .prices ≡ lent
+
+-- a trade list as long as the book has room for every event: 13 is not given
+pub record NeverLacking : Type 0 where
+  pub order :
+      (d : Day) (a : Asked) (book : List Order) (lent : List Trade)
+      → length book ≤ length lent
+      → orderCall d a book lent .answer .reply ≡ OrderReply.the-variants.Refused 13
+      → ⊥
+  pub clock :
+      (d : Day) (t : ℕ) (book : List Order) (lent : List Trade)
+      → length book ≤ length lent
+      → clockCall d t book lent .answer .reply ≡ ClockReply.the-variants.Refused 13
+      → ⊥

@@ -196,11 +196,17 @@ module _ (d : Day) (a : Asked) (book : List Order) where
   pub entry-adds-up : filled (entryTrades d a book) + (a .quantity - filled (entryTrades d a book)) ≡ a .quantity
   entry-adds-up = omega (arith, entry-filled)
 
-  -- at most one with each order of the other side
-  pub entry-count : length (entryTrades d a book) ≤ length (keep (standsOn (other (a .side))) book)
-  entry-count =
-      entry-cases (λ ts. length ts ≤ length (keep (standsOn (other (a .side))) book)) (omega arith)
-      (λ n. omega (arith, count-within taker (a .quantity) (opposite a book), opposite-short a book))
+  -- at most one with each order of the other side, so no more than the book has places
+  pub entry-few : length (entryTrades d a book) ≤ length book
+  entry-few =
+      entry-cases (λ ts. length ts ≤ length book) (omega arith)
+      (λ n.
+      omega (
+        arith,
+        count-within taker (a .quantity) (opposite a book),
+        opposite-short a book,
+        length-keep (standsOn (other (a .side))) book,
+      ))
 
   -- kinds 3 and 4 at no more than five prices
   pub entry-levels : 3 ≤ a .kind → levels (entryTrades d a book) ≤ 5

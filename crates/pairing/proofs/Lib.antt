@@ -7,3 +7,4 @@ pub mod Filling
 pub mod Auctioned
 pub mod Uncrossing
 pub mod Auctions
+pub mod Moves

@@ -15,48 +15,16 @@ use Rattle.model.specs.declared.Day.{Day}
 use Rattle.model.specs.declared.OrderAnswer.{OrderAnswer}
 use Rattle.model.specs.declared.ClockAnswer.{ClockAnswer}
 use Rattle.model.specs.Choice.{if_then_else_}
-use Rattle.model.specs.Clock.{boundaries}
-use Rattle.model.specs.Book.{isLive, standsOn, other}
 use Rattle.model.specs.Entry.{entryTrades}
 use Rattle.model.specs.Refusals.{firstOf, unsound}
 use Rattle.model.specs.Calls.{Outcome, written, orderRules, entered, orderCall}
-use Rattle.model.specs.ClockCall.{auctionTrades, start, moved, clockRules, clockCall}
+use Rattle.model.specs.ClockCall.{moved, clockRules, clockCall}
 use Rattle.model.proofs.Rules.{hit}
-use Rattle.book.specs.Standing.{Standing}
-use Rattle.book.proofs.Lists.{length-keep}
-use Rattle.matching.proofs.EntryLaws.{entry-count}
-use Rattle.pairing.proofs.Auctions.{auction-fewer}
-use Rattle.day.specs.declared.Passed.{Passed}
-use Rattle.day.specs.declared.Passed.the-variants.{Nothing, Auction, Lapse}
-use Rattle.day.specs.Moving.{passed, past}
+use Rattle.matching.proofs.EntryLaws.{entry-few}
+use Rattle.pairing.proofs.Moves.{moved-few}
 use Rattle.day.proofs.Readiness.{ready-if}
 use Rattle.day.proofs.OrderLaws.{taken}
-use Rattle.day.proofs.Boundaries.{moved-past}
-use Rattle.day.proofs.ClockLaws.{moved-trades, auction-is-some, lapse-is-some, move-fits}
-
--- ---- how many trades an event has
-
-entry-few : (d : Day) (a : Asked) (book : List Order) → length (entryTrades d a book) ≤ length book
-entry-few d a book = omega (arith, entry-count d a book, length-keep (standsOn (other (a .side))) book)
-
-auction-few : (d : Day) (book : List Order) → Standing book → length (auctionTrades d book) ≤ length book
-auction-few d book s = omega (arith, auction-fewer book s d, length-keep isLive book)
-
-nothing-moved :
-    (d : Day) (t : ℕ) (book : List Order) → Standing book → passed (d .time) t boundaries Nothing ≡ Nothing → moved d t book .trades ≡ []
-unfolding past start
-nothing-moved d t book s e = rw (moved-past d t book s, e)
-
-moved-few : (d : Day) (t : ℕ) (book : List Order) → unsound d book ≡ false → length (moved d t book .trades) ≤ length book
-moved-few d t book u = go (passed (d .time) t boundaries Nothing) refl
-  where
-    s : Standing book
-    s = ready-if d book u .stands
-
-    go : (p : Passed) → passed (d .time) t boundaries Nothing ≡ p → length (moved d t book .trades) ≤ length book
-    go Nothing e = rw (nothing-moved d t book s e) (omega arith)
-    go Auction e = rw (moved-trades d t book s (sym e) (auction-is-some refl)) (auction-few d book s)
-    go Lapse e = rw (moved-trades d t book s (sym e) (lapse-is-some refl)) (auction-few d book s)
+use Rattle.day.proofs.ClockLaws.{move-fits}
 
 -- ---- a shorter list has room for the same
 
@@ -76,7 +44,7 @@ clock-rules d t book room = go (unsound d book) refl
   where
     go : (u : Bool) → unsound d book ≡ u → firstOf (clockRules d t book (min (length book) room)) ≡ firstOf (clockRules d t book room)
     go true u = hit 15 _ u ∙ sym (hit 15 _ u)
-    go false u = rw (room-same (length (moved d t book .trades)) (length book) room (moved-few d t book u))
+    go false u = rw (room-same (length (moved d t book .trades)) (length book) room (moved-few book (ready-if d book u .stands) d t))
 
 -- ---- two lists, one outcome but for what stands behind the trades
 
