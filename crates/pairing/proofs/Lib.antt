@@ -1,4 +1,4 @@
--- The pairing's laws: one turn, the loop that takes one turn after the other, and what the trades come to.
+-- The pairing's laws: one turn, the loop that takes one turn after the other, what the trades come to, and a move of the clock.
 pub mod Turns
 pub mod Waiting
 pub mod Dealing
