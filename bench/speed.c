@@ -9,7 +9,10 @@
 #include <string.h>
 #include <time.h>
 
-enum { ROUNDS = 300, SUMS = 16, CASES = 9, MOST = 4096, MOST_TRADES = 64 };
+enum { ROUNDS = 300, SUMS = 16, CASES = 9, MOST = 4096 };
+
+/* The book's prices: both sides apart, both sides over each other, or sells alone. */
+enum { APART, CROSSED, SELLS };
 
 static uint8_t day_bytes[64], book_bytes[40 * MOST], list_bytes[TRADE_BYTES * MOST], reply_bytes[48];
 static uint8_t day_before[64], book_before[40 * MOST];
@@ -22,34 +25,34 @@ static void put_order(size_t place, uint64_t side, uint64_t price) {
     for (size_t i = 0; i < 5; i++) put_number(book_before, 5 * place + i, order[i]);
 }
 
-/* A limited day with close 1,000 and as many live orders of 100 shares, buys and sells in turn: prices 950 to 999 and 1,001 to
- * 1,050, or, where they cross, 976 to 1,025 on both sides. */
-static void prepare(uint64_t time, size_t live, int cross) {
+/* A limited day with close 1,000 and as many live orders of 100 shares, buys and sells in turn, or sells alone: prices 950 to 999
+ * and 1,001 to 1,050, or, where they cross, 976 to 1,025 on both sides. */
+static void prepare(uint64_t time, size_t live, int prices) {
     const uint64_t day[8] = {1000, 1, time, live, 0, 0, 0, 0};
     for (size_t i = 0; i < 8; i++) put_number(day_before, i, day[i]);
     memset(book_before, 0, sizeof book_before);
     for (size_t p = 0; p < live; p++) {
-        uint64_t side = p % 2, step = p / 2 % 50;
-        put_order(p, side, cross ? 976 + step : side ? 1001 + step : 999 - step);
+        uint64_t side = prices == SELLS ? 1 : p % 2, step = p / 2 % 50;
+        put_order(p, side, prices == CROSSED ? 976 + step : side ? 1001 + step : 999 - step);
     }
 }
 
 struct measured {
     const char *name;
-    int which, cross;
+    int which, prices;
     uint64_t time, asked[ASKED];
 };
 
 static const struct measured cases[CASES] = {
-    {"open", OPEN, 0, 34200, {1000, 1}},
-    {"order that rests", ORDER, 0, 34200, {0, 0, 9, 100, 1000}},
-    {"order with 1 trade", ORDER, 0, 34200, {0, 0, 9, 100, 1001}},
-    {"order with 4 trades", ORDER, 0, 34200, {0, 0, 9, 400, 1050}},
-    {"cancel", CANCEL, 0, 34200, {7, 4}},
-    {"clock, nothing passed", CLOCK, 0, 34200, {34201}},
-    {"clock, opening auction", CLOCK, 1, 33300, {33900}},
-    {"report", REPORT, 1, 33300, {0}},
-    {"list", LIST, 1, 33300, {1}},
+    {"open", OPEN, APART, 34200, {1000, 1}},
+    {"order that rests", ORDER, APART, 34200, {0, 0, 9, 100, 1000}},
+    {"order with 1 trade", ORDER, APART, 34200, {0, 0, 9, 100, 1001}},
+    {"order with 4 trades", ORDER, APART, 34200, {0, 0, 9, 400, 1050}},
+    {"cancel", CANCEL, APART, 34200, {7, 4}},
+    {"clock, nothing passed", CLOCK, APART, 34200, {34201}},
+    {"clock, opening auction", CLOCK, CROSSED, 33300, {33900}},
+    {"report", REPORT, CROSSED, 33300, {0}},
+    {"list", LIST, CROSSED, 33300, {1}},
 };
 
 /* ---- time */
@@ -108,7 +111,7 @@ static int same_after(void) {
 
 static void measure(const struct measured *c, size_t places, size_t live, struct times *t) {
     struct lent m = {day_bytes, book_bytes, list_bytes, reply_bytes, 64, 40 * places, sizeof list_bytes, sizeof reply_bytes};
-    prepare(c->time, live, c->cross);
+    prepare(c->time, live, c->prices);
     uint64_t got = timed_call(calls[c->which].proved, &m, c->asked, &t->proved);
     keep_after();
     uint64_t want = timed_call(calls[c->which].independent, &m, c->asked, &t->independent);
@@ -138,16 +141,18 @@ static void print_table(const struct measured *rows, int count, size_t places, s
     printf("\n");
 }
 
-/* An order with 2, 4, 8 trades and on: each sell has 100 shares. */
-static void print_by_trades(size_t places) {
+/* An order with 2, 4, 8 trades and on, up to one that takes every sell: each has 100 shares. */
+static void print_by_trades(size_t places, int prices) {
     static char names[CASES][32];
     struct measured orders[CASES];
+    const uint64_t live = places - 8, sells = prices == SELLS ? live : live / 2;
     int count = 0;
-    for (uint64_t trades = 2; trades <= MOST_TRADES; trades *= 2, count++) {
+    for (uint64_t trades = 2; count < CASES; trades *= 2, count++) {
+        if (trades > sells || count == CASES - 1) trades = sells;
         snprintf(names[count], sizeof names[count], "order with %d trades", (int)trades);
-        orders[count] = (struct measured){names[count], ORDER, 0, 34200, {0, 0, 9, 100 * trades, 1050}};
+        orders[count] = (struct measured){names[count], ORDER, prices, 34200, {0, 0, 9, 100 * trades, 1050}};
     }
-    print_table(orders, count, places, places - 8);
+    print_table(orders, count, places, live);
 }
 
 int main(void) {
@@ -155,6 +160,7 @@ int main(void) {
         print_table(cases, CASES, places, 8);
         print_table(cases, CASES, places, places - 8);
     }
-    print_by_trades(1024);
+    for (size_t places = 1024; places <= MOST; places *= 4) print_by_trades(places, APART);
+    print_by_trades(1024, SELLS);
     return 0;
 }

@@ -1,8 +1,8 @@
 // Demand and supply at a price: one pass over the book.
 use crate::Interest;
+use book::smaller;
 use model::Order;
 ghost use mathlib.Core.Path.{_≡_};
-ghost use Prim.Native.Nat.{min};
 ghost use Rattle.model.specs.Auction.{demand, supply, volume};
 ghost use Rattle.book.specs.Rows.{bookOf};
 ghost use Rattle.book.specs.Standing.{Standing};
@@ -63,15 +63,6 @@ pub fn supply_at(rows: &[[u64; 5]], p: u64) -> u64
 {
     let both = interest_at(rows, p, p);
     both.supply
-}
-
-pub fn smaller(a: u64, b: u64) -> u64
-    ensures { λ r. ⌜ r ≡ min a b ⌝ }
-{
-    if a < b {
-        return a;
-    }
-    b
 }
 
 // What can trade at p: the smaller of the two.

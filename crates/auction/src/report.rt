@@ -1,6 +1,6 @@
 // The auction report: price, volume and signed surplus.
 use crate::depth::interest_at;
-use crate::depth::smaller;
+use book::smaller;
 use model::ReportReply;
 ghost use mathlib.Core.Path.{_≡_};
 ghost use Prim.Native.Nat.{_≤_};

@@ -1,5 +1,5 @@
 -- Who is in a queue and in which order, and what the best price says of the others.
-use Prim.Native.Nat.{ℕ, _-_, _≤_, _<_}
+use Prim.Native.Nat.{ℕ, _≤_, _<_}
 use mathlib.Core.Path.{_≡_, refl, sym, _∙_}
 use mathlib.Core.Bool.{Bool, true, false, cond}
 use mathlib.Core.List.{List, [], _∷_, nil≢cons}
@@ -13,17 +13,7 @@ use Rattle.book.specs.Standing.{Each, Fair, Standing}
 use Rattle.book.specs.Priority.{rank, key}
 use Rattle.book.proofs.Lists.{both, each, every, each-keep, kept}
 use Rattle.book.proofs.Sorting.{byKey, Rising, rising-over, each-sorted}
-use Rattle.book.proofs.Queues.{
-  Stands,
-  key-on,
-  ahead-key,
-  better-rank,
-  queue-is,
-  each-queue,
-  queue-stands,
-  queue-rising,
-  on-live,
-}
+use Rattle.book.proofs.Queues.{Stands, key-on, ahead-key, queue-is, each-queue, queue-stands, queue-rising, on-live}
 
 -- ---- who is in a queue: the orders of the book that stand on its side, and no others
 

@@ -1,5 +1,5 @@
 -- Buys and sells: when the best prices say that every buy is below every sell, and how trades and a new rest keep it so.
-use Prim.Native.Nat.{ℕ, _-_, _≤_, _<_, min, max}
+use Prim.Native.Nat.{ℕ, _≤_, _<_, min, max}
 use mathlib.Core.Path.{_≡_, refl, sym, ap, _∙_}
 use mathlib.Core.Bool.{Bool, true, false, cond, not, _&&_}
 use mathlib.Core.List.{List, [], _∷_}

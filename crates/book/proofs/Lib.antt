@@ -6,9 +6,14 @@ pub mod Nexts
 pub mod Written
 pub mod Rewrites
 pub mod Settlements
+pub mod Marks
 pub mod Finding
 pub mod Memory
 pub mod Kept
 pub mod Best
 pub mod Crossing
 pub mod Shares
+pub mod Numbers
+pub mod Soonest
+pub mod Stretches
+pub mod Lines

@@ -2,11 +2,12 @@
 use Prim.Native.Nat.{ℕ, zero, suc, _+_, _≤_, _<_}
 use mathlib.Core.Path.{_≡_, refl, ap, _∙_}
 use mathlib.Core.Bool.{Bool, true, false, cond, _&&_}
-use mathlib.Core.List.{List, [], _∷_, _++_}
+use mathlib.Core.List.{List, [], _∷_, _++_, map}
 use native.Mathlib.Omega.{arith}
 use native.Mathlib.Nat.{not-suc-le-zero, le-of-suc-le-suc, add-zero, add-suc, suc-add}
 use lib.ListN.{length, getD, set}
 use lib.Seq.{sets}
+use Rattle.model.specs.Choice.{if_then_else_}
 use Rattle.model.specs.Lists.{keep, total}
 use Rattle.book.specs.Standing.{Each}
 
@@ -136,3 +137,33 @@ module _ {A : Type 0} where
 pub sets-more : (l xs ys : List ℕ) (i : ℕ) → sets (sets l i xs) (i + length xs) ys ≡ sets l i (xs ++ ys)
 sets-more l [] ys i = rw add-zero
 sets-more l (x ∷ xs) ys i = rw (add-suc, ← suc-add) (sets-more (set l i x) xs ys (suc i))
+
+-- the sum of those that a test keeps, one at a time
+pub kept-next :
+    {A : Type 0} (f : A → Bool) (g : A → ℕ) (x : A) (xs : List A)
+    → total g (keep f (x ∷ xs)) ≡ (if f x then g x else 0) + total g (keep f xs)
+unfolding keep total
+kept-next f g x xs = go (f x)
+  where
+    go : (b : Bool) → total g (if b then x ∷ keep f xs else keep f xs) ≡ (if b then g x else 0) + total g (keep f xs)
+    go true = refl
+    go false = omega arith
+
+kept-none : {A : Type 0} (f : A → ℕ) (t : A → Bool) → total f (keep t []) ≡ 0
+unfolding keep total
+kept-none f t = refl
+
+-- a sum over those that a test keeps
+pub total-kept :
+    {A : Type 0} (f : A → ℕ) (t : A → Bool) (xs : List A)
+    → total f (keep t xs) ≡ total (λ x. if t x then f x else 0) xs
+unfolding total
+total-kept f t [] = kept-none f t
+total-kept f t (x ∷ xs) = kept-next t f x xs ∙ ap (λ n. (if t x then f x else 0) + n) (total-kept f t xs)
+
+-- what two functions make of a list on whose elements they agree
+pub map-same : {A B : Type 0} (f g : A → B) (xs : List A) → Each (λ x. f x ≡ g x) xs → map f xs ≡ map g xs
+map-same f g [] e = refl
+map-same f g (x ∷ xs) e =
+    let t : map f xs ≡ map g xs = map-same f g xs (e .1) in
+    rw (e .0, t)

@@ -4,6 +4,8 @@ use Prim.Native.Nat.{ℕ, _+_, _-_, _*_, _≤_, _<_}
 use mathlib.Core.Path.{_≡_, refl, sym, ap, _∙_}
 use mathlib.Core.Bool.{Bool, true, false, cond, not, _&&_, _||_}
 use mathlib.Core.List.{List, [], _∷_}
+use mathlib.Core.Logic.{_⊎_, inl, inr}
+use native.Mathlib.Decide.{ℕ-discrete}
 use native.Mathlib.Omega.{arith}
 use lib.ListN.{length}
 use lib.Dec.{ltb, eqb}
@@ -59,6 +61,29 @@ pub same-stand :
 unfolding standsOn isLive
 same-stand side o p s n =
     ap (λ (x : ℕ). not (eqb x 0) && eqb (o .side) side) n ∙ ap (λ (x : ℕ). not (eqb (p .number) 0) && eqb x side) s
+
+-- ---- where an order of the book stands
+abbrev pub Place : Order → Type 0
+Place o =
+    ((standsOn 0 o ≡ true) × (standsOn 1 o ≡ false))
+    ⊎ (((standsOn 0 o ≡ false) × (standsOn 1 o ≡ true)) ⊎ ((standsOn 0 o ≡ false) × (standsOn 1 o ≡ false) × (o .number ≡ 0)))
+
+pub place-of : (o : Order) → Fair o → Place o
+unfolding standsOn isLive
+place-of o f = elim (ℕ-discrete (o .number) 0) [
+  | yes z ↦ inr (inr (rw (eq-eqb (o .number) 0 z), rw (eq-eqb (o .number) 0 z), z))
+  | no z ↦ elim (ℕ-discrete (o .side) 0) [
+    | yes b ↦
+        inl
+        (rw (ne-eqb (o .number) 0 z, eq-eqb (o .side) 0 b), rw (ne-eqb (o .number) 0 z, ne-eqb (o .side) 1 (omega arith)))
+    | no b ↦
+        inr
+        (inl (
+          rw (ne-eqb (o .number) 0 z, ne-eqb (o .side) 0 b),
+          rw (ne-eqb (o .number) 0 z, eq-eqb (o .side) 1 (omega (arith, f .side))),
+        ))
+  ]
+]
 
 -- ---- ahead is the smaller key
 

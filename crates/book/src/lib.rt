@@ -2,9 +2,10 @@
 pub mod places;
 pub mod priority;
 pub mod settling;
+pub mod tickets;
 
 ghost use mathlib.Core.Path.{_≡_};
-ghost use Prim.Native.Nat.{_<_};
+ghost use Prim.Native.Nat.{_<_, min};
 ghost use mathlib.Core.List.{[]};
 ghost use lib.ListN.{length, getD, set};
 ghost use Rattle.book.specs.Rows.{orderOf, rowOf, tradeOf, tradeRow};
@@ -15,6 +16,18 @@ use model::Trade;
 pub enum Next {
     At { order: Order, key: u64 },
     Nothing,
+}
+
+// How far a side has traded: all orders before the key, and of the one at the key all but what is left.
+pub struct Mark {
+    pub key: u64,
+    pub left: u64,
+}
+
+pub fn smaller(a: u64, b: u64) -> u64
+    ensures { λ r. ⌜ r ≡ min a b ⌝ }
+{
+    if a < b { a } else { b }
 }
 
 // The order at a place.

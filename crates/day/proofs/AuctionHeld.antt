@@ -12,19 +12,25 @@ use borrow.Author.Tests.{lt-ltb, le-ltb}
 use Rattle.model.specs.declared.Order.{Order}
 use Rattle.model.specs.declared.Trade.{Trade}
 use Rattle.model.specs.declared.Day.{Day}
+use Rattle.model.specs.Book.{queue}
 use Rattle.model.specs.Matching.{filled, settle}
 use Rattle.model.specs.Figures.{money, tally, reference}
-use Rattle.model.specs.Auction.{leftBy}
+use Rattle.model.specs.Auction.{volume, leftBy}
 use Rattle.model.specs.Sound.{crosses}
 use Rattle.model.specs.Pairing.{tradesAt}
 use Rattle.model.specs.Refusals.{_when_, firstOf}
 use Rattle.model.specs.Calls.{written}
 use Rattle.model.specs.ClockCall.{auctionPrice, auctionTrades, hold, start}
 use Rattle.model.proofs.Rules.{hit}
+use Rattle.book.specs.declared.Mark.{Mark}
 use Rattle.book.specs.Rows.{orderOf, bookOf, tradesOf, tradeRows}
 use Rattle.book.specs.Standing.{Standing}
 use Rattle.book.specs.Writing.{front}
+use Rattle.book.specs.Marks.{tradedTo, untouched}
+use Rattle.book.proofs.Marks.{settled-none}
 use Rattle.book.proofs.Written.{front-nil, front-trades, front-written}
+use Rattle.pairing.specs.Marks.{markAfter}
+use Rattle.pairing.proofs.Marks.{settled-to}
 use Rattle.pairing.proofs.Auctions.{uncrossed-none, auction-trades-are, auction-money, auction-shares, auction-cases}
 use Rattle.pairing.proofs.Moves.{auction-few}
 use Rattle.day.specs.Promises.{left}
@@ -38,6 +44,14 @@ module _ (d : Day) (book : List Order) (s : Standing book) {r p : ℕ} (er : r �
   pub trades-found : tradesAt p book ≡ auctionTrades d book
   trades-found = ap (λ (q : ℕ). tradesAt q book) (price-found d book er ep) ∙ sym (auction-trades-are book s d)
 
+  -- the book after them is the one whose sides have traded as far as the volume takes them
+  pub found-settled :
+      {buys sells : Mark}
+      → buys ≡ markAfter 0 (volume book p) (queue 0 book)
+      → sells ≡ markAfter 0 (volume book p) (queue 1 book)
+      → settle (auctionTrades d book) book ≡ tradedTo buys sells book
+  found-settled eb es = rw (← trades-found, eb, es) (settled-to p book s)
+
 module _ (d : Day) (book : List Order) (s : Standing book) {c : Bool} (e : c ≡ crosses book) (n : c ≡ false) where
   none : auctionTrades d book ≡ []
   none = uncrossed-none book s d (sym e ∙ n)
@@ -45,6 +59,10 @@ module _ (d : Day) (book : List Order) (s : Standing book) {c : Bool} (e : c ≡
   -- none are made, and none are written
   pub none-made : (room : ℕ) (lent : List (List ℕ)) → (0 ≡ length (auctionTrades d book)) × (lent ≡ front room (tradeRows (auctionTrades d book)) lent)
   none-made room lent = rw none (refl, sym (front-nil room lent))
+
+  -- neither side has traded
+  pub none-settled : settle (auctionTrades d book) book ≡ tradedTo untouched untouched book
+  none-settled = rw none (settled-none book (s .fair))
 
 -- ---- what it is refused for
 
@@ -58,12 +76,12 @@ module _ (d : Day) (book : List Order) (room : ℕ) where
   auction-none h = rw (le-ltb room (length (auctionTrades d book)) h)
 
 -- no auction has more trades than the book has places
-pub list-enough :
+pub list-holds-auction :
     (d : Day) (rows : List (List ℕ)) (room : ℕ)
     → Standing (bookOf rows)
     → length rows ≤ room
     → length (auctionTrades d (bookOf rows)) ≤ room
-list-enough d rows room s h = omega (arith, h, auction-few (bookOf rows) s d, length-map rows orderOf)
+list-holds-auction d rows room s h = omega (arith, h, auction-few (bookOf rows) s d, length-map rows orderOf)
 
 -- ---- room in the day's figures
 
@@ -107,12 +125,11 @@ module _ (d : Day) (rows lent : List (List ℕ)) where
 
     pub auction-held :
         (rows₂ : List (List ℕ)) {day : Day}
-        → bookOf rows₂ ≡ settle (tradesOf (take n after)) book
+        → bookOf rows₂ ≡ settle ts book
         → day ≡ tally (tradesOf (take n after)) d
         → left (record { day = day; made = n }) rows₂ after ≡ reached (auctioned false (start d book)) (tradesOf lent)
     unfolding reached auctioned hold start
     auction-held rows₂ {day} er ed =
-        let b : bookOf rows₂ ≡ settle ts book = er ∙ ap (λ (l : List Trade). settle l book) back in
         let t : tradesOf after ≡ written ts (tradesOf lent) = ap tradesOf ea ∙ front-written (length lent) ts lent fits in
         let f : day ≡ tally ts d = ed ∙ ap (λ (l : List Trade). tally l d) back in
-        rw (b, t, f, en)
+        rw (er, t, f, en)

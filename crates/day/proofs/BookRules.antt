@@ -136,11 +136,11 @@ module _ (rows : List (List ℕ)) {n : ℕ} (e : n ≡ lowestFree (bookOf rows))
   free-of h = not-full (bookOf rows) (omega (arith, places, lowest-bound (bookOf rows)))
 
 -- no order has more trades than the book has places
-pub list-enough :
+pub list-holds-entry :
     (d : Day) (a : Asked) (rows : List (List ℕ)) (room : ℕ)
     → length rows ≤ room
     → false ≡ ltb room (length (entryTrades d a (bookOf rows)))
-list-enough d a rows room h =
+list-holds-entry d a rows room h =
     let book = bookOf rows in
     sym (le-ltb room (length (entryTrades d a book)) (omega (arith, h, entry-few d a book, length-map rows orderOf)))
 

@@ -32,11 +32,13 @@ use Rattle.book.specs.Writing.{front}
 use Rattle.book.proofs.Written.{front-trades, front-written}
 use Rattle.soundness.proofs.Clauses.{says-price}
 use Rattle.soundness.proofs.Sizes.{says-quantity, sized-most}
+use Rattle.soundness.proofs.SoundDays.{next-new}
 use Rattle.matching.specs.declared.Swept.{Swept}
 use Rattle.matching.specs.Sweeping.{comesTo}
 use Rattle.matching.specs.Entering.{restAt}
+use Rattle.matching.specs.Marks.{SweptBy}
 use Rattle.matching.proofs.Entries.{rest-price}
-use Rattle.matching.proofs.EntryLaws.{entry-filled}
+use Rattle.matching.proofs.EntryLaws.{entry-filled, entry-swept}
 use Rattle.matching.proofs.EntryKept.{traded-bound}
 use Rattle.day.specs.Checks.{formRules, hourRules, numberRules, askedRules, bookRules}
 use Rattle.day.specs.Promises.{left}
@@ -208,6 +210,10 @@ module _ (d : Day) (a : Asked) (rows lent : List (List ℕ)) where
 
       pub count-fits : length trades ≡ length lent → s .trades ≤ length trades
       count-fits k = omega (arith, made, t .fits)
+
+      -- the order's number is new, so its trades settle the book in one pass
+      pub swept-in : SweptBy (a .side) (tradesOf (take (s .trades) trades)) book
+      swept-in = rw back (entry-swept d a book (t .ready .stands) (next-new d book (t .ready .sound)))
 
       module _ {i : Day} (ei : i ≡ issue d) where
         few : filled ts ≤ 1_000_000

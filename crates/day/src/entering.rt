@@ -3,11 +3,11 @@ use crate::book_checks::book_refusal;
 use crate::checks::asked_refusal;
 use crate::figures::issued_one;
 use crate::figures::tally_trades;
-use book::settling::settle_rows;
 use clock::phase_at;
 use matching::entering::enter_trades;
 use matching::entering::price_of_rest;
 use matching::entering::rest_order;
+use matching::settling::settle_entry;
 use model::Asked;
 use model::Day;
 use model::Entry;
@@ -81,7 +81,7 @@ fn enter(rows: &mut [[u64; 5]], trades: &mut [[u64; 6]], d: Day, a: Asked) -> Or
     let s = enter_trades(rows, &mut *trades, room, d, phase, a);
     let q = a.quantity - s.filled;
     let p = price_of_rest(rows, a, s);
-    settle_rows(&mut *rows, trades, s.trades);
+    settle_entry(&mut *rows, trades, s.trades, a.side);
     place_rest(&mut *rows, a, d.issued + 1, q, p);
     let next = tally_trades(issued_one(d), trades, s.trades);
     let entry = Entry {

@@ -5,13 +5,15 @@ use crate::figures::day_at;
 use crate::figures::reference_of;
 use crate::figures::tally_trades;
 use auction::price::auction_price;
+use book::Mark;
 use book::settling::clear_rows;
-use book::settling::settle_rows;
+use book::settling::settle_to;
 use clock::phase_at;
 use model::Boundary;
 use model::ClockAnswer;
 use model::ClockReply;
 use model::Day;
+use pairing::Paired;
 use pairing::pair_at;
 use soundness::is_sound;
 use soundness::places::buys_reach_sells;
@@ -21,11 +23,13 @@ ghost use Prim.Native.Nat.{_≤_};
 ghost use lib.ListN.{length};
 ghost use Rattle.model.specs.Clock.{boundaries};
 ghost use Rattle.model.specs.Clock as clock;
+ghost use Rattle.model.specs.Matching.{settle};
 ghost use Rattle.model.specs.Refusals.{firstOf, unsound};
 ghost use Rattle.model.specs.ClockCall.{auctionTrades, start, moved, clockRules, clockCall};
 ghost use Rattle.book.specs.Rows.{bookOf, tradesOf, tradeRows};
 ghost use Rattle.book.specs.Standing.{Standing};
 ghost use Rattle.book.specs.Writing.{front};
+ghost use Rattle.book.specs.Marks.{tradedTo};
 ghost use Rattle.day.specs.declared.Passed.the-variants.{Nothing};
 ghost use Rattle.day.specs.Promises.{left, clockRefused};
 ghost use Rattle.day.specs.Ready.{Ready};
@@ -85,15 +89,21 @@ fn passed(old: u64, new: u64) -> Passed
     p
 }
 
-// The trades of an auction held now: all are counted, and written while there is room. No price is looked for where no buy
-// reaches a sell.
-fn auction_trades(d: Day, rows: &[[u64; 5]], trades: &mut [[u64; 6]], room: usize) -> usize
+// The trades of an auction held now, and how far each side has traded: all are counted, and written while there is room. No
+// price is looked for where no buy reaches a sell.
+fn auction_trades(d: Day, rows: &[[u64; 5]], trades: &mut [[u64; 6]], room: usize) -> Paired
     requires { ⌜ Standing (bookOf (now rows)) ⌝ }
     requires { ⌜ room ≤ length (now trades) ⌝ }
-    ensures { λ r. ⌜ (r ≡ length (auctionTrades d (bookOf (now (rows .entry))))) × (now (trades .exit) ≡ front room (tradeRows (auctionTrades d (bookOf (now (rows .entry))))) (now (trades .entry))) ⌝ }
+    ensures { λ r. ⌜ (r .made ≡ length (auctionTrades d (bookOf (now (rows .entry))))) × (now (trades .exit) ≡ front room (tradeRows (auctionTrades d (bookOf (now (rows .entry))))) (now (trades .entry))) ⌝ }
+    ensures { λ r. ⌜ settle (auctionTrades d (bookOf (now (rows .entry)))) (bookOf (now (rows .entry))) ≡ tradedTo (r .buys) (r .sells) (bookOf (now (rows .entry))) ⌝ }
 {
     if !buys_reach_sells(rows) {
-        return 0;
+        let untouched = Mark { key: 0, left: 0 };
+        return Paired {
+            made: 0,
+            buys: untouched,
+            sells: untouched,
+        };
     }
     let price = auction_price(rows, reference_of(d));
     pair_at(rows, &mut *trades, room, price)
@@ -109,7 +119,7 @@ fn auction_refusal(d: Day, rows: &[[u64; 5]], trades: &mut [[u64; 6]]) -> u64
         return 0;
     }
     let counted = auction_trades(d, rows, &mut *trades, 0);
-    if trades.len() < counted {
+    if trades.len() < counted.made {
         return 13;
     }
     0
@@ -134,15 +144,16 @@ fn clock_refusal(d: Day, time: u64, rows: &[[u64; 5]], trades: &mut [[u64; 6]]) 
     }
 }
 
-// An auction: its trades at the front of the list, off the book, and onto the day's figures.
+// An auction: its trades at the front of the list, off the book in one pass, and onto the day's figures.
 fn hold_auction(d: Day, rows: &mut [[u64; 5]], trades: &mut [[u64; 6]]) -> Passage
     requires { ⌜ Ready d (bookOf (now rows)) ⌝ }
     requires { ⌜ length (auctionTrades d (bookOf (now rows))) ≤ length (now trades) ⌝ }
     ensures { λ r. ⌜ left r (now (rows .exit)) (now (trades .exit)) ≡ reached (auctioned false (start d (bookOf (now (rows .entry))))) (tradesOf (now (trades .entry))) ⌝ }
 {
     let room = trades.len();
-    let made = auction_trades(d, rows, &mut *trades, room);
-    settle_rows(&mut *rows, trades, made);
+    let paired = auction_trades(d, rows, &mut *trades, room);
+    settle_to(&mut *rows, paired.buys, paired.sells);
+    let made = paired.made;
     Passage {
         day: tally_trades(d, trades, made),
         made,

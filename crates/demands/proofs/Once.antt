@@ -13,7 +13,7 @@ use Rattle.book.specs.Standing.{Each, Apart}
 use Rattle.book.proofs.Lists.{each, each-keep, total-keep}
 use Rattle.book.proofs.Queues.{each-queue, total-queue}
 use Rattle.book.proofs.Shares.{ofNumber, Only, each-only}
-use Rattle.pairing.proofs.Filling.{tick, times, times-next, none-bears}
+use Rattle.book.proofs.Numbers.{tick, times, times-next, none-bears}
 
 pub record Once (n had : ℕ) (os : List Order) : Type 0 where
   pub few : times n os ≤ 1

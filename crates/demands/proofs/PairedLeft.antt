@@ -21,8 +21,8 @@ use Rattle.book.specs.Standing.{Each, Fair, Standing}
 use Rattle.book.proofs.Lists.{both, each}
 use Rattle.book.proofs.Best.{each-on}
 use Rattle.pairing.proofs.Turns.{head-stays, head-goes, dealt, pair-turn, pair-no-buy, pair-no-sell, cut-some, cut-nothing, cut-nobody}
-use Rattle.pairing.proofs.Filling.{times, times-other, none-bears}
-use Rattle.pairing.proofs.Auctioned.{place-of}
+use Rattle.book.proofs.Queues.{place-of}
+use Rattle.book.proofs.Numbers.{times, times-other, none-bears}
 use Rattle.pairing.proofs.Auctions.{auction-trades-are}
 use Rattle.demands.specs.Leaving.{leftIn, Falls, EachFalls}
 use Rattle.demands.proofs.Once.{Once, once-behind, once-first, once-queue, book-once}

@@ -1,7 +1,7 @@
 -- The trades of an order on entry: how much, at how many prices, with whom and within which limit; and the limit of its
 -- rest.
 use Prim.Native.Nat.{ℕ, _+_, _-_, _≤_, min, max}
-use mathlib.Core.Path.{_≡_, refl, sym}
+use mathlib.Core.Path.{_≡_, refl, sym, ap}
 use mathlib.Core.Bool.{Bool, true, false, cond, not, _&&_}
 use mathlib.Core.List.{List, [], _∷_}
 use native.Mathlib.Omega.{arith}
@@ -28,7 +28,9 @@ use Rattle.book.proofs.Settlements.{filled-nil, filled-none}
 use Rattle.book.proofs.Shares.{settle-total}
 use Rattle.matching.specs.Sweeping.{atBest}
 use Rattle.matching.specs.Entering.{mostPrices}
+use Rattle.matching.specs.Marks.{SweptBy}
 use Rattle.matching.proofs.Cuts.{five-best}
+use Rattle.matching.proofs.Partners.{sweep-spent}
 use Rattle.matching.proofs.Trades.{Some, some-each, Deal, each-trade, filled-within, count-within, levels-within}
 use Rattle.matching.proofs.Fills.{shares-kept}
 use Rattle.matching.proofs.Entries.{opposite-best}
@@ -304,3 +306,25 @@ module _ (d : Day) (a : Asked) (book : List Order) where
                   (every (λ (o : Order). filledOf (o .number) [] ≡ 0) book (λ o. filled-none (o .number))),
               filled-nil,
             )
+
+    -- they are those of a sweep by an order with a number of its own
+    pub entry-swept : SweptBy (a .side) (entryTrades d a book) book
+    entry-swept =
+        entry-cases (λ ts. SweptBy (a .side) ts book)
+        (record {
+          taker = taker;
+          quantity = 0;
+          prices = 0;
+          its-side = refl;
+          fresh = new .fresh;
+          trades = sym (sweep-spent taker (atBest 0 (queue (other (a .side)) book)));
+        })
+        (λ n.
+        record {
+          taker = taker;
+          quantity = a .quantity;
+          prices = mostPrices (a .kind);
+          its-side = refl;
+          fresh = new .fresh;
+          trades = ap (sweep taker (a .quantity)) (opposite-best a book standing);
+        })

@@ -71,6 +71,14 @@ module _ (t : Taker) where
           )
       go false i = omega (arith, filled-none n)
 
+  -- a number that none of them has
+  pub fills-none :
+      (q n : ℕ) (os : List Order)
+      → (n ≡ t .number → ⊥)
+      → Each (λ o. o .number ≡ n → ⊥) os
+      → filledOf n (sweep t q os) ≡ 0
+  fills-none q n os h e = omega (arith, fills-held q n os h, of-none n (λ (o : Order). o .left) os e)
+
 -- ---- in a book that stands, for a taker whose number no order of it has
 
 module _ (t : Taker) (q n side : ℕ) (book : List Order) (standing : Standing book) (new : New (t .number) book) where

@@ -12,4 +12,7 @@ pub mod Fills
 pub mod Leftovers
 pub mod EntryLaws
 pub mod AfterEntry
+pub mod Marks
+pub mod MarkedBook
+pub mod LastTrade
 pub mod EntryKept

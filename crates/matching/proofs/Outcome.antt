@@ -20,7 +20,7 @@ use Rattle.matching.specs.declared.Swept.{Swept}
 use Rattle.matching.specs.Sweeping.{atBest, comesTo}
 use Rattle.matching.proofs.Cuts.{cutSame, cutLevels, cut-from, cut-best, queue-worsens}
 use Rattle.matching.proofs.Tallies.{counted, unswept, sweep-counts}
-use Rattle.matching.proofs.Sweeps.{against, all}
+use Rattle.matching.proofs.Sweeps.{against, in-all}
 
 -- all the trades, at however many of the best prices
 abbrev pub swept : Taker → ℕ → ℕ → List (List ℕ) → List Trade
@@ -39,7 +39,7 @@ module _ (t : Taker) (room most quantity : ℕ) (rows lent : List (List ℕ)) (s
   best : cutLevels most (against t rows) ≡ atBest most (against t rows)
   best = cut-best side 0 most (against t rows) (queue-worsens side (bookOf rows) standing)
 
-  first : all t quantity room most rows lent ≡ sweep t quantity (cutLevels most (against t rows))
+  first : in-all t quantity room most rows lent ≡ sweep t quantity (cutLevels most (against t rows))
   first =
       let z : most - 0 ≡ most = omega arith in
       ap (λ (n : ℕ). sweep t quantity (cutSame n 0 (beyond 0 (against t rows)))) z
@@ -50,7 +50,7 @@ module _ (t : Taker) (room most quantity : ℕ) (rows lent : List (List ℕ)) (s
   pub outcome :
       {s : Swept} {out : List (List ℕ)}
       → room ≤ length lent
-      → (s ≡ counted unswept (all t quantity room most rows lent)) × (out ≡ puts room 0 (all t quantity room most rows lent) lent)
+      → (s ≡ counted unswept (in-all t quantity room most rows lent)) × (out ≡ puts room 0 (in-all t quantity room most rows lent) lent)
       → (s ≡ comesTo (swept t most quantity rows)) × (out ≡ front room (tradeRows (swept t most quantity rows)) lent)
   outcome h d = (
     d .0

@@ -5,15 +5,14 @@ use mathlib.Core.Bool.{Bool, true, false, cond, _&&_, and-false}
 use mathlib.Core.List.{List, [], _∷_}
 use native.Mathlib.Omega.{arith}
 use lib.Dec.{ltb}
-use borrow.Author.Tests.{eq-eqb, ne-eqb, lt-ltb, le-ltb}
+use borrow.Author.Tests.{eq-eqb, ne-eqb, lt-ltb, le-ltb, ltb-true}
 use Rattle.model.specs.declared.Order.{Order}
 use Rattle.model.specs.declared.Trade.{Trade}
 use Rattle.model.specs.declared.Taker.{Taker}
-use Rattle.model.specs.Book.{queue, other}
 use Rattle.model.specs.Matching.{meets, tradeWith, sweep}
 use Rattle.book.specs.declared.Next.{Next}
 use Rattle.book.specs.declared.Next.the-variants.{At, Nothing}
-use Rattle.book.specs.Priority.{beyond, nextOf}
+use Rattle.book.specs.Priority.{nextOf}
 use Rattle.matching.specs.Sweeping.{wants, partnerOf}
 
 -- ---- whether it trades
@@ -47,6 +46,14 @@ wants-allows t q p e = go (ltb 0 q) (allows t p) e
     go true b e = e
     go false b e = let z : _≡_ {A = ℕ} 0 1 = cc in absurd (omega arith)
 
+pub wants-some : (t : Taker) (q p : ℕ) → wants t q p ≡ true → 0 < q
+unfolding wants
+wants-some t q p e = go (ltb 0 q) refl e
+  where
+    go : (b : Bool) → ltb 0 q ≡ b → b && allows t p ≡ true → 0 < q
+    go true f e = ltb-true 0 q f
+    go false f e = let z : _≡_ {A = ℕ} 0 1 = cc in absurd (omega arith)
+
 -- ---- the sweep, one order at a time
 
 pub sweep-nil : (t : Taker) (q : ℕ) → sweep t q [] ≡ []
@@ -68,6 +75,11 @@ pub sweep-one :
     → wants t q (o .price) ≡ true
     → sweep t q (o ∷ os) ≡ tradeWith t q o ∷ sweep t (q - o .left) os
 sweep-one t q o os e = sweep-cons t q o os ∙ rw e
+
+-- who wants nothing trades nothing
+pub sweep-spent : (t : Taker) (os : List Order) → sweep t 0 os ≡ []
+sweep-spent t [] = sweep-nil t 0
+sweep-spent t (o ∷ os) = sweep-none t 0 o os (wants-nothing t 0 (o .price) refl)
 
 -- ---- with whom
 
@@ -106,13 +118,6 @@ module _ (t : Taker) (q : ℕ) where
   the-first (p ∷ os) n o k f e z m =
       let same : o ≡ p = cc in
       rw (wants-near t q (p .price) z (ap (λ (x : Order). allows t (x .price)) (sym same) ∙ m)) (sym e ∙ f)
-
-pub on-the-other :
-    (taking side after : ℕ) (book : List Order) (n : Next)
-    → side ≡ other taking
-    → n ≡ nextOf (beyond after (queue side book))
-    → n ≡ nextOf (beyond after (queue (other taking) book))
-on-the-other taking side after book n e f = f ∙ ap (λ (s : ℕ). nextOf (beyond after (queue s book))) e
 
 -- ---- the trade
 

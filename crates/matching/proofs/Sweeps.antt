@@ -15,10 +15,14 @@ use Rattle.model.specs.Matching.{tradeWith, sweep}
 use Rattle.book.specs.declared.Next.{Next}
 use Rattle.book.specs.declared.Next.the-variants.{At, Nothing}
 use Rattle.book.specs.Rows.{orderOf, bookOf}
-use Rattle.book.specs.Priority.{key, beyond}
+use Rattle.book.specs.Priority.{key, isPast, beyond}
+use Rattle.book.specs.Standing.{Each, Fair, Standing}
+use Rattle.book.specs.Tickets.{Line}
 use Rattle.book.specs.Writing.{put, puts}
+use Rattle.book.proofs.Lists.{each-keep}
 use Rattle.book.proofs.Sorting.{Rising}
-use Rattle.book.proofs.Queues.{beyond-next, beyond-short}
+use Rattle.book.proofs.Queues.{Stands, queue-stands, beyond-next, beyond-short}
+use Rattle.book.proofs.Lines.{key-most, line-later}
 use Rattle.book.proofs.Written.{length-put, puts-none, puts-one}
 use Rattle.matching.specs.declared.Swept.{Swept}
 use Rattle.matching.specs.Sweeping.{wants, partnerOf, comesTo, pricesWith, withTrade}
@@ -26,12 +30,18 @@ use Rattle.matching.proofs.Cuts.{cutSame, cutLevels, same-nil, levels-n
 use Rattle.matching.proofs.Partners.{sweep-nil, sweep-none, sweep-one, trade-takes}
 use Rattle.matching.proofs.Tallies.{counted, counted-none, counted-one, unswept, nothing-yet}
 
+-- the orders that a taker may meet
+abbrev pub against : Taker → List (List ℕ) → List Order
+against t rows = queue (other (t .side)) (bookOf rows)
+
 -- ---- what a partner, and what none, says of the rest of the queue
 
 -- the next is o, with the key k, and the taker is willing
 pub record Met (t : Taker) (q after : ℕ) (queue : List Order) (o : Order) (k : ℕ) : Type 0 where
   pub rest : beyond after queue ≡ o ∷ beyond k queue
   pub willing : wants t q (o .price) ≡ true
+  pub later : after < k
+  pub its-key : k ≡ key o
 
 pub met :
     (t : Taker) (q after : ℕ) (queue : List Order) (o : Order) (k : ℕ) (r : Next)
@@ -58,7 +68,28 @@ met t q after queue o k r rising e at = go (beyond after queue) refl e
                   ∙ ap (λ (n : ℕ). p ∷ beyond n queue) at-key
                   ∙ ap (λ (x : Order). x ∷ beyond k queue) same;
               willing = ap (λ (x : Order). wants t q (x .price)) (sym same) ∙ v;
+              later = omega (arith, beyond-next after queue p os rising b .0);
+              its-key = sym at-key ∙ ap key same;
             }
+
+-- the line goes on behind it
+pub line-on :
+    {t : Taker} {q after : ℕ} {o : Order} {k : ℕ} {rows : List (List ℕ)} {tickets kept : List ℕ}
+    → Standing (bookOf rows)
+    → Met t q after (against t rows) o k
+    → Line rows tickets after kept
+    → Line rows tickets k kept
+line-on {t} {after = after} {o = o} {k} {rows} s m l =
+    line-later l k (omega (arith, m .later)) (omega (arith, m .its-key, key-most o fair))
+  where
+    fair : Fair o
+    fair =
+        let all : Each (Stands (other (t .side))) (beyond after (against t rows)) =
+        unfold beyond in
+        each-keep (Stands (other (t .side))) (isPast after) (against t rows) (queue-stands (other (t .side)) (bookOf rows) (s .fair))
+        in
+        let first : Each (Stands (other (t .side))) (o ∷ beyond k (against t rows)) = rw (m .rest) at all in
+        first .0 .0
 
 -- nobody is met: no trade is left, at however many prices
 none-new :
@@ -91,20 +122,17 @@ idle t q n p (o ∷ os) r e z = pick (wants t q (o .price)) refl e
 
 -- ---- what holds at every turn
 
-abbrev pub against : Taker → List (List ℕ) → List Order
-against t rows = queue (other (t .side)) (bookOf rows)
-
 -- the trades still to come: at the last price, and at as many more as are left
 abbrev pub coming : Taker → ℕ → List Order → Swept → ℕ → ℕ → List Trade
 coming t most queue s left after = sweep t left (cutSame (most - s .levels) (s .last) (beyond after queue))
 
 module _ (t : Taker) (quantity room most : ℕ) (rows lent : List (List ℕ)) where
-  abbrev pub all : List Trade
-  all = coming t most (against t rows) unswept quantity 0
+  abbrev pub in-all : List Trade
+  in-all = coming t most (against t rows) unswept quantity 0
 
   pub record Under (s : Swept) (left after : ℕ) (out : List (List ℕ)) : Type 0 where
-    pub adds-up : counted s (coming t most (against t rows) s left after) ≡ counted unswept all
-    pub laid : puts room (s .trades) (coming t most (against t rows) s left after) out ≡ puts room 0 all lent
+    pub adds-up : counted s (coming t most (against t rows) s left after) ≡ counted unswept in-all
+    pub laid : puts room (s .trades) (coming t most (against t rows) s left after) out ≡ puts room 0 in-all lent
     pub long : length out ≡ length lent
     pub filled : s .filled + left ≡ quantity
     pub count : s .trades + length (beyond after (against t rows)) ≤ length rows
@@ -128,7 +156,7 @@ module _ (t : Taker) (quantity room most : ℕ) (rows lent : List (List ℕ)) wh
     -- nothing is left to do
     pub under-end :
         coming t most (against t rows) s left after ≡ []
-        → (s ≡ counted unswept all) × (out ≡ puts room 0 all lent)
+        → (s ≡ counted unswept in-all) × (out ≡ puts room 0 in-all lent)
     under-end z = (
       sym (counted-none s) ∙ ap (counted s) (sym z) ∙ u .adds-up,
       sym (puts-none room (s .trades) out) ∙ ap (λ (ts : List Trade). puts room (s .trades) ts out) (sym z) ∙ u .laid,

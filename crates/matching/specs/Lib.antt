@@ -1,3 +1,5 @@
--- What the functions of continuous trading say: an order on its way through the other side, and its prices by its kind.
+-- What the functions of continuous trading say: an order on its way through the other side, its prices by its kind, and how far
+-- the other side has traded.
 pub mod Sweeping
 pub mod Entering
+pub mod Marks

@@ -1,6 +1,7 @@
 // Continuous trading: an order meets the other side of the book, best price first, then lowest number.
 pub mod entering;
 pub mod remainders;
+pub mod settling;
 pub mod sweeping;
 
 // What a run of trades comes to: how many, the shares filled, how many different prices, and the last price.

@@ -1,13 +1,12 @@
 -- What the trades of an auction at a price come to: their prices and money, their number, and what each order is filled.
 use Prim.Native.Nat.{ℕ, _+_, _-_, _*_, _≤_, min}
 use mathlib.Core.Path.{_≡_, refl, sym, ap, ap₂, _∙_}
-use mathlib.Core.Logic.{_⊎_, inl, inr, ⊎-elim}
+use mathlib.Core.Logic.{inl, inr, ⊎-elim}
 use mathlib.Core.Bool.{Bool, true, false}
 use mathlib.Core.List.{List, [], _∷_}
 use native.Mathlib.Nat.{mul-add}
-use native.Mathlib.Decide.{ℕ-discrete}
 use native.Mathlib.Omega.{arith}
-use borrow.Author.Tests.{eq-eqb, ne-eqb, eqb-true}
+use borrow.Author.Tests.{eqb-true}
 use lib.ListN.{length}
 use lib.Dec.{eqb}
 use Rattle.model.specs.declared.Order.{Order}
@@ -20,9 +19,9 @@ use Rattle.model.specs.Figures.{money}
 use Rattle.model.specs.Auction.{volume}
 use Rattle.model.specs.Pairing.{cut, tradesAt}
 use Rattle.book.specs.Standing.{Each, Fair, Standing}
-use Rattle.book.proofs.Lists.{both, each, total-same}
+use Rattle.book.proofs.Lists.{both, each, total-same, total-kept}
 use Rattle.book.proofs.Sorting.{Distinct}
-use Rattle.book.proofs.Queues.{Stands, on-live, queue-stands, queue-length, total-queue}
+use Rattle.book.proofs.Queues.{Stands, Place, place-of, on-live, queue-stands, queue-length, total-queue}
 use Rattle.book.proofs.Best.{each-on}
 use Rattle.book.proofs.Shares.{settle-total}
 use Rattle.pairing.specs.Granted.{held, granted}
@@ -30,7 +29,8 @@ use Rattle.pairing.proofs.Turns.{pairs, cut-short, fewer-trades}
 use Rattle.pairing.proofs.Waiting.{shares}
 use Rattle.pairing.proofs.Dealing.{volume-buys, volume-sells}
 use Rattle.pairing.proofs.Grants.{Filled, pairs-fill, pairs-at, cut-held, in-both}
-use Rattle.pairing.proofs.Filling.{times, times-other, none-bears, queue-own, no-grant, first-grant, later-grants, grants-within, total-kept}
+use Rattle.pairing.proofs.Filling.{no-grant, first-grant, later-grants, grants-within}
+use Rattle.book.proofs.Numbers.{times, times-other, none-bears, queue-own}
 
 -- ---- all at one price
 pub priced-money : (p : ℕ) (ts : List Trade) → Each (λ t. t .price ≡ p) ts → money ts ≡ p * filled ts
@@ -55,28 +55,7 @@ unfolding lastPrice filled total
 priced-last p [] e h q = absurd (omega arith)
 priced-last p (t ∷ ts) e h q = ap (λ q. lastPrice q ts) (e .0) ∙ last-on p ts (e .1)
 
--- ---- where an order of the book stands
-abbrev pub Place : Order → Type 0
-Place o =
-    ((standsOn 0 o ≡ true) × (standsOn 1 o ≡ false))
-    ⊎ (((standsOn 0 o ≡ false) × (standsOn 1 o ≡ true)) ⊎ ((standsOn 0 o ≡ false) × (standsOn 1 o ≡ false) × (o .number ≡ 0)))
-
-pub place-of : (o : Order) → Fair o → Place o
-unfolding standsOn isLive
-place-of o f = elim (ℕ-discrete (o .number) 0) [
-  | yes z ↦ inr (inr (rw (eq-eqb (o .number) 0 z), rw (eq-eqb (o .number) 0 z), z))
-  | no z ↦ elim (ℕ-discrete (o .side) 0) [
-    | yes b ↦
-        inl
-        (rw (ne-eqb (o .number) 0 z, eq-eqb (o .side) 0 b), rw (ne-eqb (o .number) 0 z, ne-eqb (o .side) 1 (omega arith)))
-    | no b ↦
-        inr
-        (inl (
-          rw (ne-eqb (o .number) 0 z, ne-eqb (o .side) 0 b),
-          rw (ne-eqb (o .number) 0 z, eq-eqb (o .side) 1 (omega (arith, f .side))),
-        ))
-  ]
-]
+-- ---- both sides
 
 -- a sum over the book is that over its two sides, where free places add nothing
 module _ (f : Order → ℕ) (none : (o : Order) → o .number ≡ 0 → f o ≡ 0) where

@@ -1,20 +1,19 @@
--- The loop of the pairing: the trades made so far, with those still to come of the volume that is left, are the auction's.
+-- The loop of the pairing: the trades made so far, with those still to come of the volume that is left, are the auction's, and
+-- the heads end where the volume takes their sides.
 use Prim.Native.Nat.{ℕ, _+_, _-_, _≤_, _<_, min}
 use mathlib.Core.Path.{_≡_, refl, sym, ap, ap₂, _∙_}
 use mathlib.Core.List.{List, [], _∷_}
 use native.Mathlib.Omega.{arith}
-use borrow.Author.Tests.{lt-ltb, le-ltb}
 use lib.ListN.{length}
 use Rattle.model.specs.declared.Order.{Order}
 use Rattle.model.specs.declared.Trade.{Trade}
 use Rattle.model.specs.Book.{standsOn, queue}
 use Rattle.model.specs.Auction.{sharesOf, demand, supply, volume}
 use Rattle.model.specs.Pairing.{Share, cut, tradesAt}
-use Rattle.book.specs.declared.Next.{Next}
-use Rattle.book.specs.declared.Next.the-variants.{At, Nothing}
+use Rattle.book.specs.declared.Mark.{Mark}
 use Rattle.book.specs.Rows.{tradeRows}
 use Rattle.book.specs.Standing.{Standing}
-use Rattle.book.specs.Priority.{key, beyond, nextOf}
+use Rattle.book.specs.Priority.{key, beyond}
 use Rattle.book.specs.Writing.{put, puts, front}
 use Rattle.book.proofs.Lists.{each, length-keep}
 use Rattle.book.proofs.Queues.{Stands, on-live, queue-stands, queue-rising, queue-length, total-queue, beyond-all}
@@ -23,42 +22,11 @@ use Rattle.model.proofs.Bools.{and-left}
 use Rattle.auction.proofs.Sums.{shares-le}
 use Rattle.auction.proofs.Conditions.{volume-is}
 use Rattle.pairing.specs.declared.Head.{Head}
-use Rattle.pairing.specs.Heads.{headOf, headPast, waiting}
+use Rattle.pairing.specs.Heads.{headOf, headPast, waiting, headMark}
+use Rattle.pairing.specs.Marks.{markAfter}
 use Rattle.pairing.proofs.Turns.{dealt, pairs, turn, no-buys, cut-nothing, cut-short, fewer-trades}
 use Rattle.pairing.proofs.Waiting.{shares, shareOf, Queued, head-cut, head-shares, past-cut, past-shares, head-ready, waiting-cut}
-
--- ---- a head as the code finds it
-nobody-next : (after : ℕ) (q : List Order) → nextOf q ≡ Nothing → record { number = 0; left = 0; key = after } ≡ headOf after q
-unfolding nextOf headOf
-nobody-next after [] e = refl
-nobody-next after (o ∷ os) e = absurd (let z : _≡_ {A = ℕ} 0 1 = cc in omega arith)
-
-first-next :
-    (after : ℕ) (q : List Order) {o : Order} {k : ℕ}
-    → nextOf q ≡ At o k
-    → record { number = o .number; left = o .left; key = k } ≡ headOf after q
-unfolding nextOf headOf
-first-next after [] e = absurd (let z : _≡_ {A = ℕ} 0 1 = cc in omega arith)
-first-next after (x ∷ os) {o} {k} e =
-    let f : x ≡ o = cc in
-    let g : k ≡ key o = cc in
-    rw (f, g)
-
-module _ (after : ℕ) (q : List Order) {next : Next} (e : next ≡ nextOf q) where
-  pub head-none : next ≡ Nothing → record { number = 0; left = 0; key = after } ≡ headOf after q
-  head-none f = nobody-next after q (sym e ∙ f)
-
-  pub head-some : {o : Order} {k : ℕ} → next ≡ At o k → record { number = o .number; left = o .left; key = k } ≡ headOf after q
-  head-some f = first-next after q (sym e ∙ f)
-
-module _ (q : ℕ) (h : Head) (os : List Order) where
-  pub head-kept : q < h .left → record { number = h .number; left = h .left - q; key = h .key } ≡ headPast q h os
-  unfolding headPast
-  head-kept l = rw (lt-ltb q (h .left) l)
-
-  pub head-next : {r : Head} → h .left ≤ q → r ≡ headOf (h .key) (beyond (h .key) os) → r ≡ headPast q h os
-  unfolding headPast
-  head-next l e = rw (le-ltb q (h .left) l) e
+use Rattle.pairing.proofs.Reaching.{Reaches, reaches-start, reaches-past, reaches-end}
 
 -- ---- what holds at each turn
 module _ (book : List Order) (price : ℕ) where
@@ -67,11 +35,13 @@ module _ (book : List Order) (price : ℕ) where
   coming left buy sell =
       pairs price (cut left (waiting buy (queue 0 book))) (cut left (waiting sell (queue 1 book)))
 
-  pub record Paired (room : ℕ) (lent : List (List ℕ)) (left : ℕ) (buy sell : Head) (made : ℕ) (out : List (List ℕ)) : Type 0 where
+  pub record Underway (room : ℕ) (lent : List (List ℕ)) (left : ℕ) (buy sell : Head) (made : ℕ) (out : List (List ℕ)) : Type 0 where
     pub count : made + length (coming left buy sell) ≡ length (tradesAt price book)
     pub same : puts room made (coming left buy sell) out ≡ puts room 0 (tradesAt price book) lent
     pub buys : left ≤ shares (waiting buy (queue 0 book))
     pub sells : left ≤ shares (waiting sell (queue 1 book))
+    pub buying : Reaches (queue 0 book) (volume book price) left buy
+    pub selling : Reaches (queue 1 book) (volume book price) left sell
     pub long : length out ≡ length lent
 
 -- ---- the queues at the start
@@ -128,14 +98,14 @@ module _ (book : List Order) (s : Standing book) where
 
   -- ---- the loop
   module _ (price room : ℕ) (lent : List (List ℕ)) where
-    pub paired-start :
+    pub underway-start :
         {left : ℕ} {buy sell : Head}
         → left ≡ volume book price
         → buy ≡ headOf 0 (beyond 0 (queue 0 book))
         → sell ≡ headOf 0 (beyond 0 (queue 1 book))
-        → Paired book price room lent left buy sell 0 lent
+        → Underway book price room lent left buy sell 0 lent
     unfolding tradesAt pairs
-    paired-start {left} {buy} {sell} hl hb hs =
+    underway-start {left} {buy} {sell} hl hb hs =
         let b = all-wait 0 left in
         let c = all-wait 1 left in
         let e : coming book price left buy sell ≡ tradesAt price book =
@@ -145,10 +115,12 @@ module _ (book : List Order) (s : Standing book) where
           same = ap (λ ts. puts room 0 ts lent) e;
           buys = rw (hb, all-shares 0) (rw (← hl) at (volume-buys price));
           sells = rw (hs, all-shares 1) (rw (← hl) at (volume-sells price));
+          buying = rw (hl, hb) (reaches-start (queue 0 book) (queued 0) (volume book price));
+          selling = rw (hl, hs) (reaches-start (queue 1 book) (queued 1) (volume book price));
           long = refl;
         }
 
-    module _ {left : ℕ} {buy sell : Head} {made : ℕ} {out : List (List ℕ)} (k : Paired book price room lent left buy sell made out) (some : 0 < left) where
+    module _ {left : ℕ} {buy sell : Head} {made : ℕ} {out : List (List ℕ)} (k : Underway book price room lent left buy sell made out) (some : 0 < left) where
       pub buy-ready : 0 < buy .left
       buy-ready = head-ready (queue 0 book) (queued 0) left buy some (k .buys)
 
@@ -191,13 +163,13 @@ module _ (book : List Order) (s : Standing book) where
         pub count-fits : made + 1 ≤ 8_192
         count-fits = omega (arith, ap length one-turn, k .count, few-trades price)
 
-        pub paired-next :
+        pub underway-next :
             {b c : Head} {out′ : List (List ℕ)}
             → out′ ≡ put room made traded out
             → b ≡ headPast q buy (queue 0 book)
             → c ≡ headPast q sell (queue 1 book)
-            → Paired book price room lent (left - q) b c (made + 1) out′
-        paired-next {b} {c} {out′} ho hb hc =
+            → Underway book price room lent (left - q) b c (made + 1) out′
+        underway-next {b} {c} {out′} ho hb hc =
             rw (ho, hb, hc)
             (record {
               count = omega (arith, ap length one-turn, k .count);
@@ -207,6 +179,8 @@ module _ (book : List Order) (s : Standing book) where
                   ∙ k .same;
               buys = past-shares (queue 0 book) (queued 0) left q buy buy-ready (omega arith) (k .buys);
               sells = past-shares (queue 1 book) (queued 1) left q sell sell-ready (omega arith) (k .sells);
+              buying = reaches-past (queue 0 book) (queued 0) (volume book price) left q buy (omega arith) (omega arith) (k .buying);
+              selling = reaches-past (queue 1 book) (queued 1) (volume book price) left q sell (omega arith) (omega arith) (k .selling);
               long = length-put room made traded out ∙ k .long;
             })
 
@@ -215,18 +189,29 @@ module _ (book : List Order) (s : Standing book) where
         ap (λ l. pairs price l (cut 0 (waiting sell (queue 1 book)))) (cut-nothing (waiting buy (queue 0 book)))
         ∙ no-buys price (cut 0 (waiting sell (queue 1 book)))
 
-    pub paired-end :
-        {left : ℕ} {buy sell : Head} {made : ℕ} {out : List (List ℕ)}
-        → Paired book price room lent left buy sell made out
+    pub underway-end :
+        {left : ℕ} {buy sell : Head} {made : ℕ} {out : List (List ℕ)} {b c : Mark}
+        → Underway book price room lent left buy sell made out
         → left ≤ 0
         → room ≤ length lent
-        → (made ≡ length (tradesAt price book)) × (out ≡ front room (tradeRows (tradesAt price book)) lent)
-    paired-end {left} {buy} {sell} {made} {out} k h r =
+        → b ≡ headMark buy
+        → c ≡ headMark sell
+        → (made ≡ length (tradesAt price book))
+        × ((b ≡ markAfter 0 (volume book price) (queue 0 book))
+        × ((c ≡ markAfter 0 (volume book price) (queue 1 book))
+        × (out ≡ front room (tradeRows (tradesAt price book)) lent)))
+    underway-end {left} {buy} {sell} {made} {out} k h r hb hc =
         let z : left ≡ 0 = omega arith in
         let e : coming book price left buy sell ≡ [] = ap (λ n. coming book price n buy sell) z ∙ nothing-comes buy sell in (
           omega (arith, ap length e, k .count),
-          sym (puts-none room made out)
-              ∙ sym (ap (λ ts. puts room made ts out) e)
-              ∙ k .same
-              ∙ puts-front room (tradesAt price book) lent r,
+          (
+            hb ∙ reaches-end (queue 0 book) (queued 0) (volume book price) buy (rw z at (k .buying)),
+            (
+              hc ∙ reaches-end (queue 1 book) (queued 1) (volume book price) sell (rw z at (k .selling)),
+              sym (puts-none room made out)
+                  ∙ sym (ap (λ ts. puts room made ts out) e)
+                  ∙ k .same
+                  ∙ puts-front room (tradesAt price book) lent r,
+            ),
+          ),
         )

@@ -16,7 +16,7 @@ use Rattle.model.specs.Lists.{keep, total}
 use Rattle.model.specs.Matching.{filled, isIn, filledOf}
 use Rattle.model.specs.Pairing.{Share, cut, headLess, pair}
 use Rattle.book.specs.Standing.{Each}
-use Rattle.book.proofs.Lists.{total-keep}
+use Rattle.book.proofs.Lists.{total-keep, kept-next}
 use Rattle.book.proofs.Settlements.{filled-nil, filled-more, part, filled-none, filled-cons}
 use Rattle.pairing.specs.Granted.{held, granted, bought, sold}
 use Rattle.pairing.proofs.Turns.{brings, less, head-stays, head-goes, one-goes, dealt, pair-turn, pair-no-buy, pair-no-sell, pairs, cut-some, cut-nothing, cut-nobody}
@@ -30,17 +30,6 @@ held-next s ss = refl
 pub held-none : held [] ≡ 0
 unfolding held total
 held-none = refl
-
--- the sum of those that a test keeps, one at a time
-pub kept-next :
-    {A : Type 0} (f : A → Bool) (g : A → ℕ) (x : A) (xs : List A)
-    → total g (keep f (x ∷ xs)) ≡ (if f x then g x else 0) + total g (keep f xs)
-unfolding keep total
-kept-next f g x xs = go (f x)
-  where
-    go : (b : Bool) → total g (if b then x ∷ keep f xs else keep f xs) ≡ (if b then g x else 0) + total g (keep f xs)
-    go true = refl
-    go false = omega arith
 
 module _ (n : ℕ) where
   pub granted-next :

@@ -17,7 +17,7 @@ use Rattle.model.specs.Auction.{sharesOf, demand, supply, volume}
 use Rattle.model.specs.Pairing.{cut, tradesAt}
 use Rattle.model.specs.Sound.{crosses}
 use Rattle.book.specs.Standing.{Each, Standing}
-use Rattle.book.proofs.Lists.{each, every, total-same, total-zero}
+use Rattle.book.proofs.Lists.{each, every, total-same, total-zero, total-kept}
 use Rattle.book.proofs.Sorting.{Distinct}
 use Rattle.book.proofs.Queues.{total-queue}
 use Rattle.book.proofs.Best.{Ordered, queue-ordered}
@@ -29,7 +29,8 @@ use Rattle.auction.proofs.Sides.{interest-next, interest-end, interest-buys, in
 use Rattle.auction.proofs.Conditions.{volume-is, qualifies-clears}
 use Rattle.auction.proofs.Crossing.{ahead-meets, crosses-told, best-demand, best-supply}
 use Rattle.pairing.specs.Granted.{granted}
-use Rattle.pairing.proofs.Filling.{total-kept, queue-own, first-grant, later-grants}
+use Rattle.pairing.proofs.Filling.{first-grant, later-grants}
+use Rattle.book.proofs.Numbers.{queue-own}
 use Rattle.pairing.proofs.Auctioned.{buys-filled, sells-filled}
 
 module _ (side x : ℕ) where

@@ -55,13 +55,23 @@ alike :
     → record { number = n; left = a; whole = whole } ∷ cut v os ≡ record { number = n; left = b; whole = whole } ∷ cut w os
 alike n whole os e f = rw (e, f)
 
+-- a head that trades q: it stays while something of it is left, else the next is the head
+module _ (q : ℕ) (h : Head) (queue : List Order) where
+  pub past-kept : q < h .left → headPast q h queue ≡ record { number = h .number; left = h .left - q; key = h .key }
+  unfolding headPast
+  past-kept l = rw (lt-ltb q (h .left) l)
+
+  pub past-none : h .left ≤ q → headPast q h queue ≡ headOf (h .key) (beyond (h .key) queue)
+  unfolding headPast
+  past-none l = rw (le-ltb q (h .left) l)
+
 -- a queue in priority, whose orders all have shares
 pub record Queued (queue : List Order) : Type 0 where
   pub rising : Rising key 0 queue
   pub some : Each (λ o. 1 ≤ o .left) queue
 
 module _ (queue : List Order) (k : Queued queue) where
-  each-past : (after : ℕ) → Each (λ o. 1 ≤ o .left) (beyond after queue)
+  pub each-past : (after : ℕ) → Each (λ o. 1 ≤ o .left) (beyond after queue)
   unfolding beyond
   each-past after = each-keep (λ o. 1 ≤ o .left) _ queue (k .some)
 
@@ -93,14 +103,9 @@ module _ (queue : List Order) (k : Queued queue) where
       (q : ℕ) (h : Head)
       → q < h .left
       → waiting (headPast q h queue) queue ≡ asOrder (record { number = h .number; left = h .left - q; key = h .key }) ∷ beyond (h .key) queue
-  unfolding headPast
   past-some q h l =
-      rw (lt-ltb q (h .left) l)
+      rw (past-kept q h queue l)
       (waiting-some (record { number = h .number; left = h .left - q; key = h .key }) queue (omega arith))
-
-  past-none : (q : ℕ) (h : Head) → h .left ≤ q → headPast q h queue ≡ headOf (h .key) (beyond (h .key) queue)
-  unfolding headPast
-  past-none q h l = rw (le-ltb q (h .left) l)
 
   -- what is granted to the head, less what it trades, is what the rest of the volume grants to the rest of the side
   pub past-cut :
@@ -133,7 +138,7 @@ module _ (queue : List Order) (k : Queued queue) where
             head-goes q s (cut (v - h .left) behind) (omega arith)
             ∙ ap (λ n. cut n behind) z
             ∙ sym
-            (ap (λ g. cut (v - q) (waiting g queue)) (past-none q h (omega arith))
+            (ap (λ g. cut (v - q) (waiting g queue)) (past-none q h queue (omega arith))
             ∙ head-cut (v - q) (h .key))
       ]
 
@@ -145,7 +150,7 @@ module _ (queue : List Order) (k : Queued queue) where
       → v - q ≤ shares (waiting (headPast q h queue) queue)
   past-shares v q h a b c = elim (decLt q (h .left)) [
     | yes l ↦ omega (arith, ap shares (past-some q h l), head-holds (record { number = h .number; left = h .left - q; key = h .key }) (beyond (h .key) queue), ap shares (waiting-some h queue a), head-holds h (beyond (h .key) queue))
-    | no l ↦ omega (arith, ap (λ g. shares (waiting g queue)) (past-none q h (omega arith)), head-shares (h .key), ap shares (waiting-some h queue a), head-holds h (beyond (h .key) queue))
+    | no l ↦ omega (arith, ap (λ g. shares (waiting g queue)) (past-none q h queue (omega arith)), head-shares (h .key), ap shares (waiting-some h queue a), head-holds h (beyond (h .key) queue))
   ]
 
   -- some shares are still to trade: so the head has some

@@ -1,3 +1,4 @@
 -- What the pairing's functions say beside the definitions of the model.
 pub mod Heads
 pub mod Granted
+pub mod Marks

@@ -21,7 +21,7 @@ use Rattle.book.specs.Rows.{orderOf, bookOf}
 use Rattle.book.specs.Standing.{Each, Apart}
 use Rattle.book.proofs.Lists.{each, both, every}
 use Rattle.book.proofs.Kept.{free-number}
-use Rattle.soundness.specs.Numbers.{noNumbers, Ready}
+use Rattle.soundness.specs.Numbers.{noNumbers, FreshMap}
 use Rattle.soundness.specs.SoundDay.{Rests, Place}
 use Rattle.soundness.proofs.Says.{Says, fails, says-itself, says-and, says-not, says-all, says-same}
 use Rattle.soundness.proofs.Clauses.{Beside, sits, whole, says-place, says-live, says-whole}
@@ -122,7 +122,7 @@ unfolding noNumbers
 none-used used e o w =
     not-both (w .1) (ap (λ (m : List ℕ). hasBit m (o .number)) e ∙ empty-map (length used) (o .number))
 
-pub tested-none : (d : Day) (rows : List (List ℕ)) (used : List ℕ) → Ready (d .issued) used → Tested d rows used 0
+pub tested-none : (d : Day) (rows : List (List ℕ)) (used : List ℕ) → FreshMap (d .issued) used → Tested d rows used 0
 tested-none d rows used r =
     record {
       wide = r .wide;
@@ -135,9 +135,9 @@ tested-none d rows used r =
     }
 
 -- a map of so many words
-pub map-ready : (issued words : ℕ) (map : List ℕ) → map ≡ noNumbers words → issued / 64 < words → Ready issued map
+pub map-fresh : (issued words : ℕ) (map : List ℕ) → map ≡ noNumbers words → issued / 64 < words → FreshMap issued map
 unfolding noNumbers
-map-ready issued words map e h =
+map-fresh issued words map e h =
     let l : length map ≡ words = ap length e ∙ length-replicate {A = ℕ} words 0 in
     record { empty = e ∙ ap noNumbers (sym l); wide = omega (arith, h, l) }
 

@@ -9,6 +9,6 @@ unfoldable pub noNumbers : ℕ → List ℕ
 noNumbers words = replicate words 0
 
 -- a map that has none yet, and a place for every number issued
-pub record Ready (issued : ℕ) (map : List ℕ) : Type 0 where
+pub record FreshMap (issued : ℕ) (map : List ℕ) : Type 0 where
   pub empty : map ≡ noNumbers (length map)
   pub wide : issued / 64 < length map

@@ -8,7 +8,7 @@ ghost use Rattle.model.specs.Sound.{hasPlaces, mayStand, soundFigures, isFree, 
 ghost use Rattle.bits.specs.Maps.{hasBit};
 ghost use Rattle.book.specs.Rows.{bookOf};
 ghost use Rattle.book.specs.Standing.{Each, Fair, Standing};
-ghost use Rattle.soundness.specs.Numbers.{noNumbers, Ready};
+ghost use Rattle.soundness.specs.Numbers.{noNumbers, FreshMap};
 use crate::figures::is_between;
 use bits::has;
 use bits::mark;
@@ -118,7 +118,7 @@ fn is_used(used: &[u64], o: Order) -> bool
 // Each place is free or has an order, and each order its own number: found with a map of the numbers used so far.
 fn places_with(used: &mut [u64], day: Day, rows: &[[u64; 5]]) -> bool
     requires { ⌜ soundFigures day ≡ true ⌝ }
-    requires { ⌜ Ready (day .issued) (now used) ⌝ }
+    requires { ⌜ FreshMap (day .issued) (now used) ⌝ }
     ensures { λ r. ⌜ r ≡ (all (λ o. isFree o || isOrder day o) (bookOf (now (rows .entry))) && ownNumbers (bookOf (now (rows .entry)))) ⌝ }
 {
     let mut i = 0;

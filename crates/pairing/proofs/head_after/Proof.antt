@@ -1,11 +1,12 @@
 -- The next order is the head, where there is one.
-use Rattle.pairing.proofs.Dealing.{head-none, head-some}
+use Rattle.pairing.proofs.HeadLines.{head-none, head-some}
+use mathlib.Core.Path.{sym, _∙_}
 use borrow.Author.Needs.{needs}
 use Rattle.pairing.proofs.head_after.Statement.{statement}
 use Rattle.pairing.proofs.head_after.Tie as tie
 
-next-after-requires : tie.Need-next-after-requires
-next-after-requires c κs = c .pre .fair
+next-by-ticket-requires : tie.Need-next-by-ticket-requires
+next-by-ticket-requires c κs = search needs
 
 enum-told : tie.Need-enum-told
 enum-told c = search needs
@@ -13,12 +14,30 @@ enum-told c = search needs
 enum-known-next : tie.Need-enum-known-next
 enum-known-next c = search needs
 
+same-length : tie.Need-same-length
+same-length c = search needs
+
 returns : tie.Need-returns
-returns c = head-none _ _ (c .before .before .next-after .ensures) (c .enum-told .given .1)
+returns c =
+    let n = c .before .before .before .before in
+    (head-none _ (sym (n .next-by-ticket .ensures .0) ∙ c .enum-told .given .1), n .next-by-ticket .ensures .1)
+
+same-length-2 : tie.Need-same-length-2
+same-length-2 c = search needs
 
 returns-2 : tie.Need-returns-2
-returns-2 c = head-some _ _ (c .before .before .before .next-after .ensures) (c .before .next .given .1)
+returns-2 c =
+    let n = c .before .before .before .before .before in
+    (head-some _ (sym (n .next-by-ticket .ensures .0) ∙ c .before .next .given .1), n .next-by-ticket .ensures .1)
 
 pub head-after-spec : {M : Type 1} → statement M
 head-after-spec =
-    tie.close (tie.spec next-after-requires enum-told enum-known-next returns returns-2)
+    tie.close
+    (tie.spec
+    next-by-ticket-requires
+    enum-told
+    enum-known-next
+    same-length
+    returns
+    same-length-2
+    returns-2)

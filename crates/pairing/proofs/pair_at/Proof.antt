@@ -1,107 +1,93 @@
--- The trades made so far, with those still to come, are the auction's; the volume that is left falls with each.
+-- The tickets that are handed out are those of the two sides, and nothing of them is gone yet.
+use mathlib.Core.Path.{refl, sym}
 use native.Mathlib.Omega.{arith}
-use Rattle.book.specs.Rows.{bookOf}
-use Rattle.pairing.proofs.Dealing.{Paired, paired-start, quantity-some, count-fits, paired-next, paired-end}
+use lib.ListN.{length-map}
+use lib.Seq.{length-take-le}
+use Rattle.book.specs.Rows.{orderOf}
+use Rattle.book.proofs.Lines.{tickets-fit, line-first}
 use borrow.Author.Needs.{needs}
 use Rattle.pairing.proofs.pair_at.Statement.{statement}
 use Rattle.pairing.proofs.pair_at.Tie as tie
 
-abbrev Inv-loop : tie.InvT-loop
-Inv-loop rows trades₀ room price left₀ buy₀ sell₀ made₀ trades left buy sell made = Paired (bookOf rows) price room trades₀ left buy sell made trades
+slice-aggregate-hand-out : tie.Need-slice-aggregate-hand-out
+slice-aggregate-hand-out c = search needs
 
-abbrev μ-loop : tie.MeasureT-loop
-μ-loop rows trades₀ room price left₀ buy₀ sell₀ made₀ trades left buy sell made = left
+hand-out-requires : tie.Need-hand-out-requires
+hand-out-requires c κs =
+    let s = c .before in
+    (s .pre .0, omega (arith, s .pre .0 .few, length-map (s .args .rows .now) orderOf))
 
-volume-at-requires : tie.Need-volume-at-requires Inv-loop μ-loop
-volume-at-requires c κs = search needs
+slice-aggregate-hand-out-2 : tie.Need-slice-aggregate-hand-out-2
+slice-aggregate-hand-out-2 c = search needs
 
-head-after-requires : tie.Need-head-after-requires Inv-loop μ-loop
-head-after-requires c κs = search needs
+hand-out-requires-2 : tie.Need-hand-out-requires-2
+hand-out-requires-2 c κs =
+    let s = c .before .before .before .before in
+    (s .pre .0, omega (arith, s .pre .0 .few, length-map (s .args .rows .now) orderOf))
 
-head-after-requires-2 : tie.Need-head-after-requires-2 Inv-loop μ-loop
-head-after-requires-2 c κs = search needs
+array-share-prefix-buys : tie.Need-array-share-prefix-buys
+array-share-prefix-buys c = search needs
 
-loop-holds : tie.Need-loop-holds Inv-loop μ-loop
-loop-holds c = paired-start _ (c .before .before .before .pre .0) _ _ _ (c .before .before .volume-at .ensures) (c .before .head-after .ensures) (c .head-after2 .ensures)
+slice-aggregate-pair-lines : tie.Need-slice-aggregate-pair-lines
+slice-aggregate-pair-lines c =
+    let h = c .before .before .before .before .before in
+    sym (length-take-le (h .hand-out .result) _ (omega (arith, h .hand-out .ensures .0, h .hand-out .kept .1 .1 .0)))
 
-smaller-requires : tie.Need-smaller-requires Inv-loop μ-loop
-smaller-requires c κs = search needs
+slice-aggregate-pair-lines-2 : tie.Need-slice-aggregate-pair-lines-2
+slice-aggregate-pair-lines-2 c = search needs
 
-smaller-requires-2 : tie.Need-smaller-requires-2 Inv-loop μ-loop
-smaller-requires-2 c κs = search needs
+array-share-prefix-sells : tie.Need-array-share-prefix-sells
+array-share-prefix-sells c = search needs
 
-sub-buyerleft : tie.Need-sub-buyerleft Inv-loop μ-loop
-sub-buyerleft c = omega (arith, c .before .smaller .ensures, c .smaller2 .ensures)
+slice-aggregate-pair-lines-3 : tie.Need-slice-aggregate-pair-lines-3
+slice-aggregate-pair-lines-3 c =
+    let h = c .before .before .before .before in
+    sym (length-take-le (h .hand-out2 .result) _ (omega (arith, h .hand-out2 .ensures .0, h .hand-out2 .kept .1 .1 .0)))
 
-sub-sellerleft : tie.Need-sub-sellerleft Inv-loop μ-loop
-sub-sellerleft c = omega (arith, c .before .smaller .ensures, c .smaller2 .ensures)
+slice-aggregate-pair-lines-4 : tie.Need-slice-aggregate-pair-lines-4
+slice-aggregate-pair-lines-4 c = search needs
 
-put-trade-below-requires : tie.Need-put-trade-below-requires Inv-loop μ-loop
-put-trade-below-requires c κs = search needs
-
-add-made : tie.Need-add-made Inv-loop μ-loop
-add-made c =
-    let heads = c .before .before .before in
-    let at-loop = heads .before .before .before in
-    omega (
-      arith,
-      count-fits _ (at-loop .before .before .before .before .pre .0) _ _ _ (at-loop .loop .inv) (heads .before .before .loop-test .taken)
-          (heads .before .smaller .ensures) (heads .smaller2 .ensures),
+pair-lines-requires : tie.Need-pair-lines-requires
+pair-lines-requires c κs =
+    let sells = c .before .before .before .before .before .before in
+    let buys = sells .before .before .before in
+    let s = buys .before .before in
+    let rows = s .args .rows .now in
+    let b = buys .hand-out .ensures .1 in
+    let o = sells .hand-out2 .ensures .1 in (
+      s .pre .0,
+      (
+        b,
+        (
+          o,
+          (
+            line-first 0 128 rows _ _ (s .pre .0) b refl (tickets-fit 0 rows (s .pre .0) b),
+            (line-first 1 128 rows _ _ (s .pre .0) o refl (tickets-fit 1 rows (s .pre .0) o), s .pre .1),
+          ),
+        ),
+      ),
     )
 
-sub-left : tie.Need-sub-left Inv-loop μ-loop
-sub-left c = search needs
-
-head-past-requires : tie.Need-head-past-requires Inv-loop μ-loop
-head-past-requires c κs = search needs
-
-head-past-requires-2 : tie.Need-head-past-requires-2 Inv-loop μ-loop
-head-past-requires-2 c κs = search needs
-
-loop-less : tie.Need-loop-less Inv-loop μ-loop
-loop-less c =
-    let heads = c .before .before .before .before .before in
-    let at-loop = heads .before .before .before in
-    omega (
-      arith,
-      quantity-some _ (at-loop .before .before .before .before .pre .0) _ _ _ (at-loop .loop .inv) (heads .before .before .loop-test .taken)
-          (heads .before .smaller .ensures) (heads .smaller2 .ensures),
-    )
-
-loop-again : tie.Need-loop-again Inv-loop μ-loop
-loop-again c =
-    let heads = c .before .before .before .before .before in
-    let at-loop = heads .before .before .before in
-    paired-next _ (at-loop .before .before .before .before .pre .0) _ _ _ (at-loop .loop .inv) (heads .before .before .loop-test .taken)
-    (heads .before .smaller .ensures) (heads .smaller2 .ensures) (c .before .before .before .put-trade-below .ensures) (c .before .head-past .ensures)
-    (c .head-past2 .ensures)
-
-same-length : tie.Need-same-length Inv-loop μ-loop
+same-length : tie.Need-same-length
 same-length c = search needs
 
-returns : tie.Need-returns Inv-loop μ-loop
-returns c = paired-end _ (c .before .before .before .before .before .pre .0) _ _ _ (c .before .loop .inv) (c .loop-test .left) (c .before .before .before .before .before .pre .1)
+returns : tie.Need-returns
+returns c = search needs
 
 pub pair-at-spec : {M : Type 1} → statement M
 pair-at-spec =
     tie.close
     (tie.spec
-    Inv-loop
-    μ-loop
-    volume-at-requires
-    head-after-requires
-    head-after-requires-2
-    loop-holds
-    smaller-requires
-    smaller-requires-2
-    sub-buyerleft
-    sub-sellerleft
-    put-trade-below-requires
-    add-made
-    sub-left
-    head-past-requires
-    head-past-requires-2
-    loop-less
-    loop-again
+    slice-aggregate-hand-out
+    hand-out-requires
+    slice-aggregate-hand-out-2
+    hand-out-requires-2
+    array-share-prefix-buys
+    slice-aggregate-pair-lines
+    slice-aggregate-pair-lines-2
+    array-share-prefix-sells
+    slice-aggregate-pair-lines-3
+    slice-aggregate-pair-lines-4
+    pair-lines-requires
     same-length
     returns)

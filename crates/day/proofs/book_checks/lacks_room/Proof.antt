@@ -7,14 +7,14 @@ use lib.ListN.{length}
 use Rattle.model.specs.Entry.{entryTrades}
 use Rattle.book.specs.Rows.{bookOf}
 use Rattle.book.proofs.Written.{front-zero}
-use Rattle.day.proofs.BookRules.{list-enough, counted-trades}
+use Rattle.day.proofs.BookRules.{list-holds-entry, counted-trades}
 use Rattle.day.proofs.book_checks.lacks_room.Statement.{statement}
 use Rattle.day.proofs.book_checks.lacks_room.Tie as tie
 
 returns : tie.Need-returns
 returns c =
     let a = c .before .args in
-    (list-enough (a .d) (a .a) (a .rows .now) (length (a .trades .now)) (c .if1 .taken), refl)
+    (list-holds-entry (a .d) (a .a) (a .rows .now) (length (a .trades .now)) (c .if1 .taken), refl)
 
 enter-trades-requires : tie.Need-enter-trades-requires
 enter-trades-requires c κs =

@@ -1,7 +1,7 @@
 -- `day::entering::enter` meets its contract: its trades are written and read back, the book is settled, what is left rests or is withdrawn. Assumes nothing.
 use native.Mathlib.Omega.{arith}
 use borrow.Author.Needs.{needs}
-use Rattle.day.proofs.OrderLaws.{filled-fits, count-fits, shares-fit, money-fits, entered-is}
+use Rattle.day.proofs.OrderLaws.{filled-fits, count-fits, swept-in, shares-fit, money-fits, entered-is}
 use Rattle.day.proofs.entering.enter.Statement.{statement}
 use Rattle.day.proofs.entering.enter.Tie as tie
 
@@ -22,12 +22,12 @@ sub-q c =
 price-of-rest-requires : tie.Need-price-of-rest-requires
 price-of-rest-requires c κs = c .before .before .before .before .before .before .before .before .pre .ready .stands
 
-settle-rows-requires : tie.Need-settle-rows-requires
-settle-rows-requires c κs =
+settle-entry-requires : tie.Need-settle-entry-requires
+settle-entry-requires c κs =
     let s = c .before .before .before .before .before .before .before .before .before .before .before in
     let e = c .before .before .before .before .before .before .before .enter-trades in (
       count-fits (s .args .d) (s .args .a) (s .args .rows .now) (s .args .trades .now) (s .pre .fits) (e .ensures .0) (e .ensures .1) (s .pre) (e .kept .1 .0),
-      s .pre .ready .stands .fair,
+      (s .pre .ready .stands, swept-in (s .args .d) (s .args .a) (s .args .rows .now) (s .args .trades .now) (s .pre .fits) (e .ensures .0) (e .ensures .1) (s .pre)),
     )
 
 add-place-rest : tie.Need-add-place-rest
@@ -67,10 +67,10 @@ returns : tie.Need-returns
 returns c =
     let s = c .before .before .before .before .before .before .before .before .before .before .before .before .before .before .before .before .before .before .before .before .before .before in
     let e = c .before .before .before .before .before .before .before .before .before .before .before .before .before .before .before .before .before .before .enter-trades in
-    entered-is (s .args .d) (s .args .a) (s .args .rows .now) (s .args .trades .now) (s .pre .fits) (e .ensures .0) (e .ensures .1) (c .before .before .before .before .before .before .before .before .before .before .settle-rows .last .0)
+    entered-is (s .args .d) (s .args .a) (s .args .rows .now) (s .args .trades .now) (s .pre .fits) (e .ensures .0) (e .ensures .1) (c .before .before .before .before .before .before .before .before .before .before .settle-entry .last .0)
     (c .before .before .before .before .before .before .place-rest .last .0)
     (c .before .before .before .before .before .before .before .before .before .before .before .before .before .price-of-rest .ensures)
-    (c .before .before .before .before .before .before .before .before .before .before .settle-rows .ensures)
+    (c .before .before .before .before .before .before .before .before .before .before .settle-entry .ensures)
     (c .before .before .before .before .before .before .place-rest .ensures)
     (c .remainder-of .ensures)
     (c .before .before .before .before .issued-one .ensures)
@@ -84,7 +84,7 @@ enter-spec =
     enter-trades-requires
     sub-q
     price-of-rest-requires
-    settle-rows-requires
+    settle-entry-requires
     add-place-rest
     place-rest-requires
     issued-one-requires

@@ -5,7 +5,7 @@ use lib.ListN.{length}
 use Rattle.model.specs.declared.Trade.{Trade}
 use Rattle.book.specs.Rows.{bookOf, tradeRows}
 use Rattle.book.specs.Writing.{front}
-use Rattle.day.proofs.AuctionHeld.{trades-found, none-made}
+use Rattle.day.proofs.AuctionHeld.{trades-found, found-settled, none-made, none-settled}
 use borrow.Author.Needs.{needs}
 use borrow.Author.Tests.{not-true}
 use Rattle.day.proofs.moving.auction_trades.Statement.{statement}
@@ -17,7 +17,11 @@ buys-reach-sells-requires c κs = c .pre .0 .fair
 returns : tie.Need-returns
 returns c =
     let s = c .before .before in
-    none-made (s .args .d) (bookOf (s .args .rows .now)) (s .pre .0) (c .before .buys-reach-sells .ensures) (not-true _ (c .if1 .taken)) (s .args .room) (s .args .trades .now)
+    let d = s .args .d in
+    let book = bookOf (s .args .rows .now) in
+    let e = c .before .buys-reach-sells .ensures in
+    let n = not-true _ (c .if1 .taken) in
+    (none-made d book (s .pre .0) e n (s .args .room) (s .args .trades .now), none-settled d book (s .pre .0) e n)
 
 reference-of-requires : tie.Need-reference-of-requires
 reference-of-requires c κs = search needs
@@ -37,8 +41,11 @@ returns-2 c =
     let e = c .before .pair-at .ensures in
     let t =
     trades-found (s .args .d) (bookOf (s .args .rows .now)) (s .pre .0) (c .before .before .before .before .reference-of .ensures)
-    (c .before .before .before .auction-price .ensures) in
-    (e .0 ∙ ap length t, e .1 ∙ ap (λ (ts : List Trade). front (s .args .room) (tradeRows ts) (s .args .trades .now)) t)
+    (c .before .before .before .auction-price .ensures) in (
+      (e .0 ∙ ap length t, e .1 .1 .1 ∙ ap (λ (ts : List Trade). front (s .args .room) (tradeRows ts) (s .args .trades .now)) t),
+      found-settled (s .args .d) (bookOf (s .args .rows .now)) (s .pre .0) (c .before .before .before .before .reference-of .ensures)
+          (c .before .before .before .auction-price .ensures) (e .1 .0) (e .1 .1 .0),
+    )
 
 pub auction-trades-spec : {M : Type 1} → statement M
 auction-trades-spec =

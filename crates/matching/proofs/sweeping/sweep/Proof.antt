@@ -1,136 +1,62 @@
--- `matching::sweeping::sweep` meets its contract: at every turn the trades made so far, with those still to come, are the order's
--- (`Under`). Assumes nothing.
-use mathlib.Core.Path.{refl}
-use borrow.Author.Needs.{needs}
+-- The tickets that are handed out are those of the other side, and nothing of them is gone yet.
+use Prim.Native.Nat.{ℕ}
+use mathlib.Core.Path.{refl, sym, ap, _∙_}
 use native.Mathlib.Omega.{arith}
-use lib.ListN.{length}
-use Rattle.book.specs.Priority.{beyond}
-use Rattle.book.proofs.Queues.{queue-rising}
-use Rattle.matching.proofs.Partners.{trade-takes}
-use Rattle.matching.proofs.Sweeps.{Met, met, idle, against, Under, under-start, under-next, under-end, falls, no-more, one-more, filled-fits}
-use Rattle.matching.proofs.Outcome.{outcome}
+use lib.ListN.{length-map}
+use lib.Seq.{length-take-le}
+use Rattle.book.specs.Rows.{orderOf, bookOf}
+use Rattle.book.specs.Tickets.{ticketsFrom}
+use Rattle.book.proofs.Lines.{tickets-fit, line-first}
+use borrow.Author.Needs.{needs}
 use Rattle.matching.proofs.sweeping.sweep.Statement.{statement}
 use Rattle.matching.proofs.sweeping.sweep.Tie as tie
 
-abbrev Inv-loop : tie.InvT-loop
-Inv-loop rows trades₀ room t quantity most s₀ left₀ after₀ trades s left after = Under t quantity room most rows trades₀ s left after trades
+other-side-requires : tie.Need-other-side-requires
+other-side-requires c κs = search needs
 
-abbrev μ-loop : tie.MeasureT-loop
-μ-loop rows trades₀ room t quantity most s₀ left₀ after₀ trades s left after = length (beyond after (against t rows))
+slice-aggregate-hand-out : tie.Need-slice-aggregate-hand-out
+slice-aggregate-hand-out c = search needs
 
--- ---- the way back from the partner to its turn, and to the start
+hand-out-requires : tie.Need-hand-out-requires
+hand-out-requires c κs =
+    let s = c .before .before in
+    (s .pre .0, omega (arith, s .pre .0 .few, length-map (s .args .rows .now) orderOf))
 
-abbrev turn-of : tie.After-known-told Inv-loop μ-loop → tie.At-loop Inv-loop μ-loop
-turn-of p = p .before .before .before .before
+array-share-prefix-tickets : tie.Need-array-share-prefix-tickets
+array-share-prefix-tickets c = search needs
 
-abbrev start-of : tie.After-known-told Inv-loop μ-loop → tie.Start Inv-loop μ-loop
-start-of p = turn-of p .before .before
+slice-aggregate-sweep-line : tie.Need-slice-aggregate-sweep-line
+slice-aggregate-sweep-line c =
+    let h = c .before .before in
+    sym (length-take-le (h .hand-out .result) _ (omega (arith, h .hand-out .ensures .0, h .hand-out .kept .1 .1 .0)))
 
-found :
-    (p : tie.After-known-told Inv-loop μ-loop)
-    → Met (start-of p .args .t) (turn-of p .loop .left) (turn-of p .loop .after)
-    (against (start-of p .args .t) (start-of p .args .rows .now))
-    (p .before .next .given .0 .0)
-    (p .before .next .given .0 .1 .0)
-found p =
-    met _ _ _ _ _ _ _ (queue-rising _ _ (start-of p .pre .0)) (p .before .before .before .partner .ensures) (p .before .next .given .1)
+slice-aggregate-sweep-line-2 : tie.Need-slice-aggregate-sweep-line-2
+slice-aggregate-sweep-line-2 c = search needs
 
-nothing-yet-requires : tie.Need-nothing-yet-requires Inv-loop μ-loop
-nothing-yet-requires c κs = search needs
+sweep-line-requires : tie.Need-sweep-line-requires
+sweep-line-requires c κs =
+    let h = c .before .before .before .before in
+    let s = h .before .before .before in
+    let rows = s .args .rows .now in
+    let e = h .hand-out .ensures .1 ∙ ap (λ (side : ℕ). ticketsFrom side 0 (bookOf rows)) (h .before .before .other-side .ensures) in
+    (s .pre .0, (e, (line-first _ 128 rows _ _ (s .pre .0) e refl (tickets-fit _ rows (s .pre .0) e), s .pre .1)))
 
-loop-holds : tie.Need-loop-holds Inv-loop μ-loop
-loop-holds c = under-start _ _ _ _ _ _ (c .nothing-yet .ensures)
+same-length : tie.Need-same-length
+same-length c = search needs
 
-partner-requires : tie.Need-partner-requires Inv-loop μ-loop
-partner-requires c κs = c .before .before .pre .0 .fair
-
-enum-known-next : tie.Need-enum-known-next Inv-loop μ-loop
-enum-known-next c = search needs
-
-enum-told : tie.Need-enum-told Inv-loop μ-loop
-enum-told c = search needs
-
-prices-with-requires : tie.Need-prices-with-requires Inv-loop μ-loop
-prices-with-requires c κs = one-more _ _ _ _ _ _ (turn-of c .loop .inv) (found c) (start-of c .good .0 .0) .1
-
-trade-with-requires : tie.Need-trade-with-requires Inv-loop μ-loop
-trade-with-requires c κs = search needs
-
-put-trade-below-requires : tie.Need-put-trade-below-requires Inv-loop μ-loop
-put-trade-below-requires c κs =
-    let p = c .before .before .before .before in
-    omega (arith, turn-of p .loop .inv .long, start-of p .pre .1)
-
-with-trade-requires : tie.Need-with-trade-requires Inv-loop μ-loop
-with-trade-requires c κs =
-    let traded = c .before .before .before in
-    let p = traded .before .before .before in
-    let more = one-more _ _ _ _ _ _ (turn-of p .loop .inv) (found p) (start-of p .good .0 .0) in (
-      more .0,
-      (
-        filled-fits _ _ _ _ _ _ (turn-of p .loop .inv) (found p) (traded .trade-with .ensures) (start-of p .fits .quantity .fits),
-        more .1,
-      ),
-    )
-
-sub-left : tie.Need-sub-left Inv-loop μ-loop
-sub-left c = trade-takes _ _ _ _ (c .before .before .before .before .before .trade-with .ensures)
-
-loop-less : tie.Need-loop-less Inv-loop μ-loop
-loop-less c =
-    let p = c .before .before .before .before .before .before .before .before in
-    falls _ _ _ _ _ _ (turn-of p .loop .inv) (found p)
-
-loop-again : tie.Need-loop-again Inv-loop μ-loop
-loop-again c =
-    let counted = c .before in
-    let laid = counted .before .before in
-    let traded = laid .before .before in
-    let within = traded .before in
-    let p = within .before .before in
-    under-next _ _ _ _ _ _ (turn-of p .loop .inv) (found p) (traded .trade-with .ensures) (within .before .prices-with .ensures)
-    (within .if1 .left) (laid .put-trade-below .ensures) (counted .with-trade .ensures) refl
-
-same-length : tie.Need-same-length Inv-loop μ-loop
-same-length c = c .before .before .before .loop .inv .long
-
-returns : tie.Need-returns Inv-loop μ-loop
-returns c =
-    let sought = c .before .before in
-    let turn = sought .before in
-    let start = turn .before .before in
-    outcome _ _ _ _ (start .args .rows .now) (start .args .trades .now) (start .pre .0) (start .pre .1)
-    (under-end _ _ _ _ _ _ (turn .loop .inv) (idle _ _ _ _ _ _ (sought .partner .ensures) (c .enum-told .given .1)))
-
-same-length-2 : tie.Need-same-length-2 Inv-loop μ-loop
-same-length-2 c = turn-of (c .before .before) .loop .inv .long
-
-returns-2 : tie.Need-returns-2 Inv-loop μ-loop
-returns-2 c =
-    let p = c .before .before in
-    outcome _ _ _ _ (start-of p .args .rows .now) (start-of p .args .trades .now) (start-of p .pre .0) (start-of p .pre .1)
-    (under-end _ _ _ _ _ _ (turn-of p .loop .inv)
-    (no-more _ _ _ _ _ _ (turn-of p .loop .inv) (found p) (c .before .prices-with .ensures) (c .if1 .taken)))
+returns : tie.Need-returns
+returns c = search needs
 
 pub sweep-spec : {M : Type 1} → statement M
 sweep-spec =
     tie.close
     (tie.spec
-    Inv-loop
-    μ-loop
-    nothing-yet-requires
-    loop-holds
-    partner-requires
-    enum-known-next
-    enum-told
-    prices-with-requires
-    trade-with-requires
-    put-trade-below-requires
-    with-trade-requires
-    sub-left
-    loop-less
-    loop-again
+    other-side-requires
+    slice-aggregate-hand-out
+    hand-out-requires
+    array-share-prefix-tickets
+    slice-aggregate-sweep-line
+    slice-aggregate-sweep-line-2
+    sweep-line-requires
     same-length
-    returns
-    same-length-2
-    returns-2)
+    returns)

@@ -2,7 +2,7 @@
 use native.Mathlib.Omega.{arith}
 use borrow.Author.Needs.{needs}
 use Rattle.soundness.proofs.Clauses.{says-figures}
-use Rattle.soundness.proofs.Numbers.{map-ready}
+use Rattle.soundness.proofs.Numbers.{map-fresh}
 use Rattle.soundness.proofs.places.sound_places.Statement.{statement}
 use Rattle.soundness.proofs.places.sound_places.Tie as tie
 
@@ -16,7 +16,7 @@ places-with-requires : tie.Need-places-with-requires
 places-with-requires c κs =
     let few = c .before in
     let start = few .before .before .before in
-    (start .pre, map-ready _ 1_024 _ (few .few-numbers .ensures) (omega (arith, few .before .if1 .taken)))
+    (start .pre, map-fresh _ 1_024 _ (few .few-numbers .ensures) (omega (arith, few .before .if1 .taken)))
 
 returns : tie.Need-returns
 returns c = search needs
@@ -31,7 +31,7 @@ places-with-requires-2 : tie.Need-places-with-requires-2
 places-with-requires-2 c κs =
     let all = c .before in
     let start = all .before .before .before in
-    (start .pre, map-ready _ 15_625 _ (all .all-numbers .ensures) (omega (arith, says-figures (start .args .day) .0 (start .pre) .3)))
+    (start .pre, map-fresh _ 15_625 _ (all .all-numbers .ensures) (omega (arith, says-figures (start .args .day) .0 (start .pre) .3)))
 
 returns-2 : tie.Need-returns-2
 returns-2 c = search needs

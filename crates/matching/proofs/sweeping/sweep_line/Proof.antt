@@ -1,0 +1,163 @@
+-- `matching::sweeping::sweep_line` meets its contract: at every turn the trades made so far, with those still to come, are the
+-- order's (`Under`), and the line goes on behind the last partner. Assumes nothing.
+use mathlib.Core.Path.{_≡_, refl, _∙_}
+use borrow.Author.Needs.{needs}
+use native.Mathlib.Omega.{arith}
+use lib.ListN.{length}
+use Rattle.book.specs.Priority.{beyond}
+use Rattle.book.specs.Tickets.{Line}
+use Rattle.book.proofs.Queues.{queue-rising}
+use Rattle.matching.proofs.Partners.{trade-takes}
+use Rattle.matching.proofs.Sweeps.{Met, met, idle, line-on, against, Under, under-start, under-next, under-end, falls, no-more, one-more, filled-fits}
+use Rattle.matching.proofs.Outcome.{outcome}
+use Rattle.matching.proofs.sweeping.sweep_line.Statement.{statement}
+use Rattle.matching.proofs.sweeping.sweep_line.Tie as tie
+
+abbrev Inv-loop : tie.InvT-loop
+Inv-loop rows tickets kept₀ trades₀ room t quantity most s₀ left₀ after₀ kept trades s left after =
+    (length kept ≡ length kept₀) × (Line rows tickets after kept × Under t quantity room most rows trades₀ s left after trades)
+
+abbrev μ-loop : tie.MeasureT-loop
+μ-loop rows tickets kept₀ trades₀ room t quantity most s₀ left₀ after₀ kept trades s left after =
+    length (beyond after (against t rows))
+
+-- ---- the way back from the partner to its turn, and to the start
+
+abbrev sought-of : tie.After-known-told Inv-loop μ-loop → tie.After-partner Inv-loop μ-loop
+sought-of p = p .before .before .before .before .before
+
+abbrev turn-of : tie.After-known-told Inv-loop μ-loop → tie.At-loop Inv-loop μ-loop
+turn-of p = sought-of p .before .before
+
+abbrev start-of : tie.After-known-told Inv-loop μ-loop → tie.Start Inv-loop μ-loop
+start-of p = turn-of p .before .before .before .before
+
+found :
+    (p : tie.After-known-told Inv-loop μ-loop)
+    → Met (start-of p .args .t) (turn-of p .loop .left) (turn-of p .loop .after)
+    (against (start-of p .args .t) (start-of p .args .rows .now))
+    (p .before .next .given .0 .0)
+    (p .before .next .given .0 .1 .0)
+found p =
+    met _ _ _ _ _ _ _ (queue-rising _ _ (start-of p .pre .0)) (sought-of p .partner .ensures .0) (p .before .next .given .1)
+
+nothing-yet-requires : tie.Need-nothing-yet-requires Inv-loop μ-loop
+nothing-yet-requires c κs = search needs
+
+loop-holds : tie.Need-loop-holds Inv-loop μ-loop
+loop-holds c = (refl, (c .before .before .before .pre .1 .1 .0, under-start _ _ _ _ _ _ (c .nothing-yet .ensures)))
+
+partner-requires : tie.Need-partner-requires Inv-loop μ-loop
+partner-requires c κs =
+    let start = c .before .before .before .before .before in
+    (start .pre .0, (start .pre .1 .0, c .before .loop .inv .1 .0))
+
+enum-known-next : tie.Need-enum-known-next Inv-loop μ-loop
+enum-known-next c = search needs
+
+enum-told : tie.Need-enum-told Inv-loop μ-loop
+enum-told c = search needs
+
+prices-with-requires : tie.Need-prices-with-requires Inv-loop μ-loop
+prices-with-requires c κs = one-more _ _ _ _ _ _ (turn-of c .loop .inv .1 .1) (found c) (start-of c .good .0 .0) .1
+
+trade-with-requires : tie.Need-trade-with-requires Inv-loop μ-loop
+trade-with-requires c κs = search needs
+
+put-trade-below-requires : tie.Need-put-trade-below-requires Inv-loop μ-loop
+put-trade-below-requires c κs =
+    let p = c .before .before .before .before in
+    omega (arith, turn-of p .loop .inv .1 .1 .long, start-of p .pre .1 .1 .1)
+
+with-trade-requires : tie.Need-with-trade-requires Inv-loop μ-loop
+with-trade-requires c κs =
+    let traded = c .before .before .before in
+    let p = traded .before .before .before in
+    let more = one-more _ _ _ _ _ _ (turn-of p .loop .inv .1 .1) (found p) (start-of p .good .0 .0) in (
+      more .0,
+      (
+        filled-fits _ _ _ _ _ _ (turn-of p .loop .inv .1 .1) (found p) (traded .trade-with .ensures)
+            (start-of p .fits .quantity .fits),
+        more .1,
+      ),
+    )
+
+sub-left : tie.Need-sub-left Inv-loop μ-loop
+sub-left c = trade-takes _ _ _ _ (c .before .before .before .before .before .trade-with .ensures)
+
+loop-less : tie.Need-loop-less Inv-loop μ-loop
+loop-less c =
+    let p = c .before .before .before .before .before .before .before .before in
+    falls _ _ _ _ _ _ (turn-of p .loop .inv .1 .1) (found p)
+
+loop-again : tie.Need-loop-again Inv-loop μ-loop
+loop-again c =
+    let counted = c .before in
+    let laid = counted .before .before in
+    let traded = laid .before .before in
+    let within = traded .before in
+    let p = within .before .before in (
+      sought-of p .partner .kept .1 .1 .0 ∙ turn-of p .loop .inv .0,
+      (
+        line-on (start-of p .pre .0) (found p) (sought-of p .partner .ensures .1),
+        under-next _ _ _ _ _ _ (turn-of p .loop .inv .1 .1) (found p) (traded .trade-with .ensures)
+            (within .before .prices-with .ensures) (within .if1 .left) (laid .put-trade-below .ensures)
+            (counted .with-trade .ensures) refl,
+      ),
+    )
+
+same-length : tie.Need-same-length Inv-loop μ-loop
+same-length c =
+    let sought = c .before .before .before .before in
+    sought .partner .kept .1 .1 .0 ∙ sought .before .before .loop .inv .0
+
+same-length-2 : tie.Need-same-length-2 Inv-loop μ-loop
+same-length-2 c = c .before .before .before .before .before .before .loop .inv .1 .1 .long
+
+returns : tie.Need-returns Inv-loop μ-loop
+returns c =
+    let sought = c .before .before .before .before in
+    let turn = sought .before .before in
+    let start = turn .before .before .before .before in
+    outcome _ _ _ _ (start .args .rows .now) (start .args .trades .now) (start .pre .0) (start .pre .1 .1 .1)
+    (under-end _ _ _ _ _ _ (turn .loop .inv .1 .1) (idle _ _ _ _ _ _ (sought .partner .ensures .0) (c .enum-told .given .1)))
+
+same-length-3 : tie.Need-same-length-3 Inv-loop μ-loop
+same-length-3 c =
+    let p = c .before .before in
+    sought-of p .partner .kept .1 .1 .0 ∙ turn-of p .loop .inv .0
+
+same-length-4 : tie.Need-same-length-4 Inv-loop μ-loop
+same-length-4 c = turn-of (c .before .before) .loop .inv .1 .1 .long
+
+returns-2 : tie.Need-returns-2 Inv-loop μ-loop
+returns-2 c =
+    let p = c .before .before in
+    outcome _ _ _ _ (start-of p .args .rows .now) (start-of p .args .trades .now) (start-of p .pre .0) (start-of p .pre .1 .1 .1)
+    (under-end _ _ _ _ _ _ (turn-of p .loop .inv .1 .1)
+    (no-more _ _ _ _ _ _ (turn-of p .loop .inv .1 .1) (found p) (c .before .prices-with .ensures) (c .if1 .taken)))
+
+pub sweep-line-spec : {M : Type 1} → statement M
+sweep-line-spec =
+    tie.close
+    (tie.spec
+    Inv-loop
+    μ-loop
+    nothing-yet-requires
+    loop-holds
+    partner-requires
+    enum-known-next
+    enum-told
+    prices-with-requires
+    trade-with-requires
+    put-trade-below-requires
+    with-trade-requires
+    sub-left
+    loop-less
+    loop-again
+    same-length
+    same-length-2
+    returns
+    same-length-3
+    same-length-4
+    returns-2)
