@@ -56,13 +56,15 @@ static uint64_t any_balance(uint64_t quantity) {
     return balances[chance(sizeof balances / sizeof balances[0])];
 }
 
-/* Some sells are of a whole balance below 100 shares; of the others, and of few buys, the balance is any. */
+/* A few orders are large enough to take a whole side. Some sells are of a whole balance below 100 shares; of the others, and of few
+ * buys, the balance is any. */
 static void random_order(const struct plan *plan, uint64_t *a) {
     a[0] = chance(2);
     a[1] = once_in(2) ? 0 : chance(5);
     a[2] = 1 + chance(3);
     a[3] = 100 * (1 + chance(once_in(4) ? 40 : 5)) + (once_in(5) ? chance(100) : 0);
     a[4] = random_price(plan);
+    if (once_in(15)) a[3] = 100 * (1 + chance(10000));
     if (once_in(a[0] ? 6 : 40)) a[3] = once_in(3) ? 1 : once_in(2) ? 99 : chance(102);
     if (a[0] && a[3] < 100)
         a[5] = once_in(4) ? any_balance(a[3]) : a[3];

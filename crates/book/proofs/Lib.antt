@@ -16,4 +16,7 @@ pub mod Shares
 pub mod Numbers
 pub mod Soonest
 pub mod Stretches
+pub mod FirstPast
+pub mod ByTicket
 pub mod Lines
+pub mod HandingOut

@@ -1,8 +1,8 @@
 -- Laws of the parts of a list that a test keeps, of what holds for each element, of totals, and of a list written over another.
 use Prim.Native.Nat.{ℕ, zero, suc, _+_, _≤_, _<_}
-use mathlib.Core.Path.{_≡_, refl, ap, _∙_}
+use mathlib.Core.Path.{_≡_, refl, sym, ap, _∙_}
 use mathlib.Core.Bool.{Bool, true, false, cond, _&&_}
-use mathlib.Core.List.{List, [], _∷_, _++_, map}
+use mathlib.Core.List.{List, [], _∷_, _++_, map, nil≢cons}
 use native.Mathlib.Omega.{arith}
 use native.Mathlib.Nat.{not-suc-le-zero, le-of-suc-le-suc, add-zero, add-suc, suc-add}
 use lib.ListN.{length, getD, set}
@@ -167,3 +167,24 @@ map-same f g [] e = refl
 map-same f g (x ∷ xs) e =
     let t : map f xs ≡ map g xs = map-same f g xs (e .1) in
     rw (e .0, t)
+
+-- a test that keeps none passes none
+pub none-kept : {A : Type 0} (p : A → Bool) (xs : List A) → keep p xs ≡ [] → Each (λ x. p x ≡ false) xs
+unfolding keep
+none-kept p [] e = tt
+none-kept p (x ∷ xs) e = go (p x) refl e (none-kept p xs)
+  where
+    go :
+        (b : Bool)
+        → p x ≡ b
+        → cond b (x ∷ keep p xs) (keep p xs) ≡ []
+        → (keep p xs ≡ [] → Each (λ y. p y ≡ false) xs)
+        → (p x ≡ false) × Each (λ y. p y ≡ false) xs
+    go true f h rest = absurd (nil≢cons (sym h))
+    go false f h rest = (f, rest h)
+
+-- what each has, the one at a place has
+pub each-at : {A : Type 0} (P : A → Type 0) (xs : List A) (i : ℕ) (d : A) → i < length xs → Each P xs → P (getD xs i d)
+each-at P [] i d h e = absurd (not-suc-le-zero h)
+each-at P (x ∷ xs) zero d h e = e .0
+each-at P (x ∷ xs) (suc i) d h e = each-at P xs i d (le-of-suc-le-suc h) (e .1)

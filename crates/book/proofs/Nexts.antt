@@ -1,25 +1,25 @@
 -- The laws behind `next_after`: which order counts, which of two is sooner, and that the soonest that counts is the first of
 -- the queue past the key.
-use Prim.Native.Nat.{ℕ, zero, suc, _-_, _≤_, _<_}
+use Prim.Native.Nat.{ℕ, suc, _-_, _≤_, _<_}
 use mathlib.Core.Path.{_≡_, refl, sym, ap, _∙_}
 use mathlib.Core.Bool.{Bool, true, false, cond, and-false, true≢false, false≢true}
 use mathlib.Core.List.{List, [], _∷_}
 use native.Mathlib.Omega.{arith}
-use native.Mathlib.Nat.{not-suc-le-zero, le-of-suc-le-suc}
-use lib.ListN.{length, getD, drop}
+use lib.ListN.{length, getD, drop, length-map}
 use lib.Seq.{drop-cons, drop-length}
 use lib.Dec.{ltb, leb, eqb}
 use borrow.Author.Tests.{eq-eqb, ne-eqb, eqb-true, eqb-false, leb-true, leb-false, le-ltb, lt-ltb}
 use Rattle.model.specs.declared.Order.{Order}
 use Rattle.model.specs.Lists.{keep}
-use Rattle.model.specs.Book.{isLive, standsOn, queue, headPrice, best}
+use Rattle.model.specs.Book.{free, isLive, standsOn, queue, headPrice, best}
 use Rattle.model.proofs.Bools.{and-left}
 use Rattle.book.specs.declared.Next.{Next}
 use Rattle.book.specs.declared.Next.the-variants.{At, Nothing}
 use Rattle.book.specs.Rows.{orderOf, bookOf}
 use Rattle.book.specs.Standing.{Each, Fair}
 use Rattle.book.specs.Priority.{key, isPast, beyond, nextOf, counts, sooner, isSooner}
-use Rattle.book.proofs.Lists.{keep-keep, keep-all, each}
+use Rattle.book.proofs.Lists.{keep-keep, keep-all, each, each-at}
+use Rattle.book.proofs.Memory.{book-at}
 use Rattle.book.proofs.Sorting.{insertBy, sortBy, byKey, over, keep-sort}
 use Rattle.book.proofs.Queues.{queue-keyed, on-live, queue-stands, key-positive}
 
@@ -227,18 +227,14 @@ found-all side after rows i next f l e =
 
 -- ---- one place of a fair book
 
-fair-at : (rows : List (List ℕ)) (i : ℕ) → Each Fair (bookOf rows) → i < length rows → Fair (orderOf (getD rows i []))
-fair-at [] i h l = absurd (not-suc-le-zero l)
-fair-at (r ∷ rs) zero h l = h .0
-fair-at (r ∷ rs) (suc i) h l = fair-at rs i (h .1) (le-of-suc-le-suc l)
-
 pub fair-of :
     (rows : List (List ℕ)) (i : ℕ) (o : Order)
     → Each Fair (bookOf rows)
     → i < length rows
     → o ≡ orderOf (getD rows i [])
     → Fair o
-fair-of rows i o h l e = rw e (fair-at rows i h l)
+fair-of rows i o h l e =
+    rw (e ∙ book-at rows i) (each-at Fair (bookOf rows) i free (omega (arith, length-map rows orderOf)) h)
 
 -- ---- the best price is the first one's
 

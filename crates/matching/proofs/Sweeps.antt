@@ -22,7 +22,8 @@ use Rattle.book.specs.Writing.{put, puts}
 use Rattle.book.proofs.Lists.{each-keep}
 use Rattle.book.proofs.Sorting.{Rising}
 use Rattle.book.proofs.Queues.{Stands, queue-stands, beyond-next, beyond-short}
-use Rattle.book.proofs.Lines.{key-most, line-later}
+use Rattle.book.proofs.ByTicket.{key-most}
+use Rattle.book.proofs.Lines.{line-later}
 use Rattle.book.proofs.Written.{length-put, puts-none, puts-one}
 use Rattle.matching.specs.declared.Swept.{Swept}
 use Rattle.matching.specs.Sweeping.{wants, partnerOf, comesTo, pricesWith, withTrade}

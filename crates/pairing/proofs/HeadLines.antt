@@ -18,7 +18,8 @@ use Rattle.book.specs.Priority.{key, isPast, beyond, nextOf}
 use Rattle.book.specs.Tickets.{ticketsFrom, lastOf, soonest, atTicket, Line}
 use Rattle.book.proofs.Lists.{each-keep}
 use Rattle.book.proofs.Queues.{Stands, queue-stands, queue-rising, beyond-next}
-use Rattle.book.proofs.Lines.{key-most, by-ticket, line-later}
+use Rattle.book.proofs.ByTicket.{key-most}
+use Rattle.book.proofs.Lines.{by-ticket, line-later}
 use Rattle.pairing.specs.declared.Head.{Head}
 use Rattle.pairing.specs.Heads.{headAt, headOn, headOf, headPast}
 use Rattle.pairing.proofs.Waiting.{past-kept, past-none}

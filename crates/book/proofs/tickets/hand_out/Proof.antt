@@ -5,7 +5,7 @@ use native.Mathlib.Omega.{arith}
 use lib.ListN.{length, set, length-map, length-set}
 use Rattle.book.specs.Rows.{orderOf}
 use Rattle.book.proofs.Nexts.{fair-of}
-use Rattle.book.proofs.Lines.{Handed, handed-none, handed-next, handed-all}
+use Rattle.book.proofs.HandingOut.{Handed, handed-none, handed-next, handed-all}
 use borrow.Author.Needs.{needs}
 use Rattle.book.proofs.tickets.hand_out.Statement.{statement}
 use Rattle.book.proofs.tickets.hand_out.Tie as tie

@@ -1,7 +1,7 @@
 -- A key is small enough for the place to stand behind it.
 use native.Mathlib.Omega.{arith}
 use Rattle.book.specs.Tickets.{ticketOf}
-use Rattle.book.proofs.Lines.{key-most}
+use Rattle.book.proofs.ByTicket.{key-most}
 use borrow.Author.Needs.{needs}
 use Rattle.book.proofs.tickets.ticket_of.Statement.{statement}
 use Rattle.book.proofs.tickets.ticket_of.Tie as tie
