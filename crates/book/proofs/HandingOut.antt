@@ -6,7 +6,7 @@ use mathlib.Core.List.{List, [], _∷_, _++_, append-nil}
 use native.Mathlib.Omega.{arith}
 use native.Mathlib.Numerals.{add-one}
 use lib.ListN.{length, getD, take, drop, set, drop-of-length-le}
-use lib.Seq.{drop-cons, take-suc-set, append-snoc, take-set-le}
+use lib.Seq.{drop-cons, take-suc-set, append-snoc}
 use Rattle.model.specs.declared.Order.{Order}
 use Rattle.model.specs.Book.{standsOn}
 use Rattle.book.specs.Rows.{orderOf, bookOf}
@@ -27,10 +27,10 @@ module _ {side : ℕ} {rows : List (List ℕ)} {n i : ℕ} {tickets : List ℕ} 
       → length rows ≤ length tickets
       → o ≡ orderOf (getD rows i [])
       → n′ ≡ cond (standsOn side o) (n + 1) n
-      → tickets′ ≡ set tickets n (ticketOf i o)
+      → tickets′ ≡ cond (standsOn side o) (set tickets n (ticketOf i o)) tickets
       → Handed side rows n′ (i + 1) tickets′
   unfolding ticketsFrom
-  handed-next {o} {n′} {tickets′} l long e count put = go (standsOn side o) refl count
+  handed-next {o} {n′} {tickets′} l long e count put = go (standsOn side o) refl count put
     where
       rest : List ℕ
       rest = ticketsFrom side (i + 1) (bookOf (drop (i + 1) rows))
@@ -51,20 +51,25 @@ module _ {side : ℕ} {rows : List (List ℕ)} {n i : ℕ} {tickets : List ℕ} 
           ∙ ap (λ (l : List ℕ). take n tickets ++ l) (sym next)
           ∙ h .all
 
-      go : (b : Bool) → standsOn side o ≡ b → n′ ≡ cond b (n + 1) n → Handed side rows n′ (i + 1) tickets′
-      go true f c =
+      go :
+          (b : Bool)
+          → standsOn side o ≡ b
+          → n′ ≡ cond b (n + 1) n
+          → tickets′ ≡ cond b (set tickets n (ticketOf i o)) tickets
+          → Handed side rows n′ (i + 1) tickets′
+      go true f c p =
           record {
             few = omega (arith, h .few);
             within = omega arith;
             all =
-                rw (c, put, add-one n, take-suc-set tickets n (ticketOf i o) room)
+                rw (c, p, add-one n, take-suc-set tickets n (ticketOf i o) room)
                 (append-snoc (take n tickets) (ticketOf i o) rest ∙ so-far true f);
           }
-      go false f c =
+      go false f c p =
           record {
             few = omega (arith, h .few);
             within = omega arith;
-            all = rw (c, put, take-set-le n tickets n (ticketOf i o) (omega arith)) (so-far false f);
+            all = rw (c, p) (so-far false f);
           }
 
   pub handed-all : length rows ≤ i → take n tickets ≡ ticketsFrom side 0 (bookOf rows)

@@ -1,7 +1,7 @@
 // The orders of a side by tickets: handed out once, then the first order after a key is found without a walk through the book.
 ghost use mathlib.Core.Path.{_≡_};
 ghost use Prim.Native.Nat.{_+_, _*_, _≤_, _<_, min};
-ghost use lib.ListN.{length, take};
+ghost use lib.ListN.{length, take, set};
 ghost use mathlib.Core.Bool.{cond};
 ghost use Rattle.model.specs.Book.{standsOn};
 ghost use Rattle.book.specs.Rows.{bookOf};
@@ -25,10 +25,13 @@ fn ticket_of(place: usize, o: Order) -> u64
     key_of(o) * 4_096 + (place as u64)
 }
 
-// One more where the order stands on the side.
-fn count_on(side: u64, o: Order, n: usize) -> usize
-    requires { ⌜ n < 4_096 ⌝ }
+// Where the order stands on the side, its ticket goes behind the n that are out already; how many are out then.
+fn hand_to(side: u64, place: usize, o: Order, tickets: &mut [u64], n: usize) -> usize
+    requires { ⌜ Fair o ⌝ }
+    requires { ⌜ place < 4_096 ⌝ }
+    requires { ⌜ (n < 4_096) × (n < length (now tickets)) ⌝ }
     ensures { λ r. ⌜ r ≡ cond (standsOn side o) (n + 1) n ⌝ }
+    ensures { λ r. ⌜ now (tickets .exit) ≡ cond (standsOn side o) (set (now (tickets .entry)) n (ticketOf place o)) (now (tickets .entry)) ⌝ }
 {
     if o.number == 0 {
         return n;
@@ -36,11 +39,11 @@ fn count_on(side: u64, o: Order, n: usize) -> usize
     if o.side != side {
         return n;
     }
+    tickets[n] = ticket_of(place, o);
     n + 1
 }
 
-// The tickets of the side's orders, place after place, at the front of the list; how many there are. A ticket is written at every
-// place, and the next one over it unless its order stands on the side.
+// The tickets of the side's orders, place after place, at the front of the list; how many there are.
 pub fn hand_out(rows: &[[u64; 5]], side: u64, tickets: &mut [u64]) -> usize
     requires { ⌜ Standing (bookOf (now rows)) ⌝ }
     requires { ⌜ length (now rows) ≤ length (now tickets) ⌝ }
@@ -49,9 +52,7 @@ pub fn hand_out(rows: &[[u64; 5]], side: u64, tickets: &mut [u64]) -> usize
     let mut n: usize = 0;
     let mut i: usize = 0;
     while i < rows.len() {
-        let o = order_at(rows, i);
-        tickets[n] = ticket_of(i, o);
-        n = count_on(side, o, n);
+        n = hand_to(side, i, order_at(rows, i), &mut *tickets, n);
         i += 1;
     }
     n

@@ -1,8 +1,8 @@
 -- Place by place: the tickets so far, with those of the places still to come, are the side's.
 use Prim.Native.Nat.{_-_}
-use mathlib.Core.Path.{_≡_, refl, ap, _∙_}
+use mathlib.Core.Path.{_≡_, refl, _∙_}
 use native.Mathlib.Omega.{arith}
-use lib.ListN.{length, set, length-map, length-set}
+use lib.ListN.{length, length-map}
 use Rattle.book.specs.Rows.{orderOf}
 use Rattle.book.proofs.Nexts.{fair-of}
 use Rattle.book.proofs.HandingOut.{Handed, handed-none, handed-next, handed-all}
@@ -22,45 +22,38 @@ loop-holds c = (refl, handed-none _ _ _)
 order-at-requires : tie.Need-order-at-requires Inv-loop μ-loop
 order-at-requires c κs = search needs
 
-ticket-of-requires : tie.Need-ticket-of-requires Inv-loop μ-loop
-ticket-of-requires c κs =
-    let s = c .before .before .before .before in
-    let l = c .before .loop-test .taken in (
-      fair-of (s .args .rows .now) (c .before .before .loop .i) _ (s .pre .0 .fair) l (c .order-at .ensures),
-      omega (arith, s .pre .0 .few, length-map (s .args .rows .now) orderOf),
+hand-to-requires : tie.Need-hand-to-requires Inv-loop μ-loop
+hand-to-requires c κs =
+    let at = c .before in
+    let l = at .before .before in
+    let s = l .before .before in
+    let within = at .before .loop-test .taken in
+    let places = length-map (s .args .rows .now) orderOf in (
+      fair-of (s .args .rows .now) (l .loop .i) _ (s .pre .0 .fair) within (at .order-at .ensures),
+      (
+        omega (arith, s .pre .0 .few, places, within),
+        (
+          omega (arith, l .loop .inv .1 .few, within, s .pre .0 .few, places),
+          omega (arith, l .loop .inv .0, l .loop .inv .1 .few, within, s .pre .1),
+        ),
+      ),
     )
-
-mul-tickets : tie.Need-mul-tickets Inv-loop μ-loop
-mul-tickets c =
-    let l = c .before .before .before in
-    let s = l .before .before in
-    omega (arith, l .loop .inv .1 .few, c .before .before .loop-test .taken, s .pre .0 .few, length-map (s .args .rows .now) orderOf)
-
-slice-write-tickets : tie.Need-slice-write-tickets Inv-loop μ-loop
-slice-write-tickets c =
-    let l = c .before .before .before in
-    omega (arith, l .loop .inv .0, l .loop .inv .1 .few, c .before .before .loop-test .taken, l .before .before .pre .1)
-
-count-on-requires : tie.Need-count-on-requires Inv-loop μ-loop
-count-on-requires c κs =
-    let l = c .before .before .before in
-    let s = l .before .before in
-    omega (arith, l .loop .inv .1 .few, c .before .before .loop-test .taken, s .pre .0 .few, length-map (s .args .rows .now) orderOf)
 
 add-i : tie.Need-add-i Inv-loop μ-loop
 add-i c = search needs
 
 loop-less : tie.Need-loop-less Inv-loop μ-loop
-loop-less c = omega arith
+loop-less c = omega (arith, c .before .before .before .before .before .loop-test .taken)
 
 loop-again : tie.Need-loop-again Inv-loop μ-loop
 loop-again c =
-    let t = c .before .before .before in
+    let h = c .before .before in
+    let at = h .before .before in
+    let t = at .before in
     let l = t .before in (
-      length-set (l .loop .tickets) (l .loop .n) _ ∙ l .loop .inv .0,
+      h .hand-to .kept .1 .1 .1 .0 ∙ l .loop .inv .0,
       handed-next (l .loop .inv .1) (t .loop-test .taken) (omega (arith, l .loop .inv .0, l .before .before .pre .1))
-          (c .before .before .order-at .ensures) (c .count-on .ensures)
-          (ap (set (l .loop .tickets) (l .loop .n)) (c .before .ticket-of .ensures)),
+          (at .order-at .ensures) (h .hand-to .ensures .0) (h .hand-to .ensures .1),
     )
 
 same-length : tie.Need-same-length Inv-loop μ-loop
@@ -81,10 +74,7 @@ hand-out-spec =
     μ-loop
     loop-holds
     order-at-requires
-    ticket-of-requires
-    mul-tickets
-    slice-write-tickets
-    count-on-requires
+    hand-to-requires
     add-i
     loop-less
     loop-again
