@@ -1,10 +1,11 @@
 -- The soonest ticket past a key leads to the first order of the queue past it.
-use Prim.Native.Nat.{ℕ, suc, _+_, _*_, _/_, _%_, _-_, _≤_, _<_}
+use Prim.Native.Nat.{ℕ, zero, suc, _+_, _*_, _/_, _%_, _-_, _≤_, _<_}
 use mathlib.Core.Path.{_≡_, refl, sym, ap, _∙_}
 use mathlib.Core.Bool.{Bool, true, false, cond}
 use mathlib.Core.List.{List, [], _∷_}
 use mathlib.Core.Logic.{_⊎_, inl, inr}
 use native.Mathlib.Omega.{arith}
+use native.Mathlib.Nat.{le-of-suc-le-suc, not-suc-le-zero, add-zero, zero-add}
 use lib.ListN.{length, getD}
 use lib.Dec.{ltb, eqb}
 use borrow.Author.Tests.{eqb-true, eqb-false, ltb-true, ltb-false}
@@ -14,8 +15,8 @@ use Rattle.book.specs.declared.Next.the-variants.{At, Nothing}
 use Rattle.book.specs.Rows.{orderOf, bookOf}
 use Rattle.book.specs.Standing.{Each, Fair, Standing}
 use Rattle.book.specs.Priority.{rank, key, beyond, nextOf}
-use Rattle.book.specs.Tickets.{ticketOf, ticketsFrom, lastOf, never, soonest, atTicket}
-use Rattle.book.proofs.Lists.{both, each}
+use Rattle.book.specs.Tickets.{ticketOf, ticketAt, ticketsFrom, lastOf, never, soonest, atTicket, Own}
+use Rattle.book.proofs.Lists.{both, each, each-at, at-each}
 use Rattle.book.proofs.Memory.{book-at}
 use Rattle.book.proofs.Soonest.{soonest-has, soonest-first}
 use Rattle.book.proofs.FirstPast.{nobody, somebody}
@@ -50,88 +51,100 @@ pub record Leads (side : ℕ) (book : List Order) (t : ℕ) : Type 0 where
   pub stands : standsOn side (getD book (t % 4_096) free) ≡ true
   pub its-key : t / 4_096 ≡ key (getD book (t % 4_096) free)
 
+-- a side's ticket for a place
+pub on-ticket : (side place : ℕ) (o : Order) → standsOn side o ≡ true → ticketAt side place o ≡ ticketOf place o
+unfolding ticketAt
+on-ticket side place o e = rw e
+
+pub off-ticket : (side place : ℕ) (o : Order) → standsOn side o ≡ false → ticketAt side place o ≡ never
+unfolding ticketAt
+off-ticket side place o e = rw e
+
+pub tickets-length : (side place : ℕ) (os : List Order) → length (ticketsFrom side place os) ≡ length os
+unfolding ticketsFrom
+tickets-length side place [] = refl
+tickets-length side place (o ∷ os) = omega (arith, tickets-length side (suc place) os)
+
+pub tickets-at :
+    (side place : ℕ) (os : List Order) (i : ℕ)
+    → i < length os
+    → getD (ticketsFrom side place os) i 0 ≡ ticketAt side (place + i) (getD os i free)
+unfolding ticketsFrom
+tickets-at side place [] i h = absurd (not-suc-le-zero h)
+tickets-at side place (o ∷ os) zero h = ap (λ (n : ℕ). ticketAt side n o) (sym (add-zero place))
+tickets-at side place (o ∷ os) (suc i) h =
+    let next : suc place + i ≡ place + suc i = omega arith in
+    tickets-at side (suc place) os i (le-of-suc-le-suc h) ∙ ap (λ (n : ℕ). ticketAt side n (getD os i free)) next
+
 module _ (side : ℕ) (book : List Order) (few : length book ≤ 4_096) where
-  one-leads : (place : ℕ) (o : Order) → place < length book → o ≡ getD book place free → standsOn side o ≡ true → Leads side book (ticketOf place o)
-  unfolding ticketOf
-  one-leads place o h e s =
-      let p : (key o * 4_096 + place) % 4_096 ≡ place = omega arith in
-      let k : (key o * 4_096 + place) / 4_096 ≡ key o = omega arith in
-      record {
-        place = omega arith;
-        stands = rw (p, ← e) s;
-        its-key = k ∙ ap key e ∙ ap (λ (n : ℕ). key (getD book n free)) (sym p);
-      }
+  abbrev tickets : List ℕ
+  tickets = ticketsFrom side 0 book
 
-  leads-from :
-      (place : ℕ) (os : List Order)
-      → place + length os ≡ length book
-      → ((i : ℕ) → getD os i free ≡ getD book (place + i) free)
-      → Each (Leads side book) (ticketsFrom side place os)
-  unfolding ticketsFrom
-  leads-from place [] l at = tt
-  leads-from place (o ∷ os) l at =
-      go (standsOn side o) refl
-      (leads-from (suc place) os (omega arith) (λ i. at (suc i) ∙ ap (λ (n : ℕ). getD book n free) (later i)))
+  ticket-at : (i : ℕ) → i < length book → getD tickets i 0 ≡ ticketAt side i (getD book i free)
+  ticket-at i h = tickets-at side 0 book i h ∙ ap (λ (n : ℕ). ticketAt side n (getD book i free)) (zero-add i)
+
+  -- of a place whose order stands on the side, or none
+  ticket-of : (i : ℕ) → i < length book → (getD tickets i 0 ≡ never) ⊎ ((standsOn side (getD book i free) ≡ true) × (getD tickets i 0 ≡ ticketOf i (getD book i free)))
+  ticket-of i h = go (standsOn side (getD book i free)) refl
     where
-      later : (i : ℕ) → place + suc i ≡ suc place + i
-      later i = omega arith
-
-      here : o ≡ getD book place free
-      here = at 0 ∙ ap (λ (n : ℕ). getD book n free) first
-        where
-          first : place + 0 ≡ place
-          first = omega arith
-
       go :
           (b : Bool)
-          → standsOn side o ≡ b
-          → Each (Leads side book) (ticketsFrom side (suc place) os)
-          → Each (Leads side book)
-          (cond b (ticketOf place o ∷ ticketsFrom side (suc place) os) (ticketsFrom side (suc place) os))
-      go true e rest = (one-leads place o (omega arith) here e, rest)
-      go false e rest = rest
+          → standsOn side (getD book i free) ≡ b
+          → (getD tickets i 0 ≡ never)
+          ⊎ ((standsOn side (getD book i free) ≡ true) × (getD tickets i 0 ≡ ticketOf i (getD book i free)))
+      go true e = inr (e, ticket-at i h ∙ on-ticket side i (getD book i free) e)
+      go false e = inl (ticket-at i h ∙ off-ticket side i (getD book i free) e)
 
-  pub all-lead : Each (Leads side book) (ticketsFrom side 0 book)
-  all-lead = leads-from 0 book (omega arith) (λ i. ap (λ (n : ℕ). getD book n free) (same i))
+  pub tickets-own : Each Fair book → Own tickets
+  unfolding ticketOf
+  tickets-own fair i h = elim (ticket-of i l) [
+    | inl z ↦ inl z
+    | inr (on, e) ↦
+        let most : key (getD book i free) ≤ 1_000_000_999_999 = key-most (getD book i free) (each-at Fair book i free l fair) in
+        inr (omega (arith, l, few), omega (arith, l, few))
+  ]
     where
-      same : (i : ℕ) → i ≡ 0 + i
-      same i = omega arith
+      l : i < length book
+      l = omega (arith, tickets-length side 0 book)
 
--- no more tickets than places
-pub tickets-few : (side place : ℕ) (os : List Order) → length (ticketsFrom side place os) ≤ length os
-unfolding ticketsFrom
-tickets-few side place [] = omega arith
-tickets-few side place (o ∷ os) = go (standsOn side o) (tickets-few side (suc place) os)
-  where
-    go :
-        (b : Bool)
-        → length (ticketsFrom side (suc place) os) ≤ length os
-        → length (cond b (ticketOf place o ∷ ticketsFrom side (suc place) os) (ticketsFrom side (suc place) os))
-        ≤ suc (length os)
-    go true h = omega arith
-    go false h = omega arith
+  all-lead : Each (λ t. (t ≡ never) ⊎ Leads side book t) tickets
+  unfolding ticketOf
+  all-lead = at-each (λ t. (t ≡ never) ⊎ Leads side book t) tickets 0 (λ i h. one i (omega (arith, tickets-length side 0 book)))
+    where
+      one : (i : ℕ) → i < length book → (getD tickets i 0 ≡ never) ⊎ Leads side book (getD tickets i 0)
+      one i h = elim (ticket-of i h) [
+        | inl z ↦ inl z
+        | inr (on, e) ↦
+            let p : getD tickets i 0 % 4_096 ≡ i = omega arith in
+            let k : getD tickets i 0 / 4_096 ≡ key (getD book i free) = omega arith in
+            inr
+            (record {
+              place = omega arith;
+              stands = rw p on;
+              its-key = k ∙ ap (λ (n : ℕ). key (getD book n free)) (sym p);
+            })
+      ]
 
--- ---- every order of the side has a ticket
-
-tickets-of :
-    (P : ℕ → Type 0) (Q : Order → Type 0) (side place : ℕ) (os : List Order)
-    → place + length os ≤ 4_096
-    → ((n : ℕ) (o : Order) → n < 4_096 → P (ticketOf n o) → Q o)
-    → Each P (ticketsFrom side place os)
-    → Each (λ o. standsOn side o ≡ true → Q o) os
-unfolding ticketsFrom
-tickets-of P Q side place [] l f e = tt
-tickets-of P Q side place (o ∷ os) l f e =
-    go (standsOn side o) refl e (tickets-of P Q side (suc place) os (omega arith) f)
-  where
-    go :
-        (b : Bool)
-        → standsOn side o ≡ b
-        → Each P (cond b (ticketOf place o ∷ ticketsFrom side (suc place) os) (ticketsFrom side (suc place) os))
-        → (Each P (ticketsFrom side (suc place) os) → Each (λ o. standsOn side o ≡ true → Q o) os)
-        → (standsOn side o ≡ true → Q o) × Each (λ o. standsOn side o ≡ true → Q o) os
-    go true s h rest = (λ g. f place o (omega arith) (h .0), rest (h .1))
-    go false s h rest = (λ g. absurd (let z : _≡_ {A = ℕ} 0 1 = cc in omega arith), rest h)
+  -- an order of the side past a key comes no sooner than the soonest ticket past it
+  no-later : (after : ℕ) → Each (λ o. standsOn side o ≡ true → after < key o → soonest (lastOf after) tickets ≤ lastOf (key o)) book
+  no-later after =
+      at-each (λ o. standsOn side o ≡ true → after < key o → soonest (lastOf after) tickets ≤ lastOf (key o)) book free one
+    where
+      one :
+          (i : ℕ)
+          → i < length book
+          → standsOn side (getD book i free) ≡ true
+          → after < key (getD book i free)
+          → soonest (lastOf after) tickets ≤ lastOf (key (getD book i free))
+      one i h on past =
+          let o : Order = getD book i free in
+          let e : getD tickets i 0 ≡ ticketOf i o = ticket-at i h ∙ on-ticket side i o on in
+          let first : lastOf after < getD tickets i 0 → soonest (lastOf after) tickets ≤ getD tickets i 0 =
+          each-at (λ t. lastOf after < t → soonest (lastOf after) tickets ≤ t) tickets i 0 (omega (arith, tickets-length side 0 book))
+          (soonest-first (lastOf after) tickets)
+          in
+          let l : lastOf after < getD tickets i 0 = omega (arith, past-ticket after i o past) in
+          omega (arith, first l, ticket-last i o (omega arith))
 
 -- ---- the soonest ticket
 
@@ -153,19 +166,20 @@ ticket-next side after rows s = go (eqb soon never) refl
     few = s .few
 
     -- it comes no later than any order of the side that is past the key
-    no-later : Each (λ o. standsOn side o ≡ true → after < key o → soon ≤ lastOf (key o)) book
-    no-later =
-        tickets-of (λ t. lastOf after < t → soon ≤ t) (λ o. after < key o → soon ≤ lastOf (key o)) side 0 book (omega arith)
-        (λ n o l f h. let p : soon ≤ ticketOf n o = f (past-ticket after n o h) in omega (arith, ticket-last n o l))
-        (soonest-first (lastOf after) (ticketsFrom side 0 book))
+    before : Each (λ o. standsOn side o ≡ true → after < key o → soon ≤ lastOf (key o)) book
+    before = no-later side book few after
 
     -- it is none, or past the key, and leads to an order
     leads : (soon ≡ never) ⊎ ((lastOf after < soon) × Leads side book soon)
     leads =
         soonest-has (λ t. (t ≡ never) ⊎ ((lastOf after < t) × Leads side book t)) (lastOf after) (ticketsFrom side 0 book)
         (inl refl)
-        (each (Leads side book) (λ t. lastOf after < t → (t ≡ never) ⊎ ((lastOf after < t) × Leads side book t))
-        (ticketsFrom side 0 book) (λ t l h. inr (h, l)) (all-lead side book few))
+        (each (λ t. (t ≡ never) ⊎ Leads side book t) (λ t. lastOf after < t → (t ≡ never) ⊎ ((lastOf after < t) × Leads side book t))
+        (ticketsFrom side 0 book) one (all-lead side book few))
+      where
+        one : (t : ℕ) → (t ≡ never) ⊎ Leads side book t → lastOf after < t → (t ≡ never) ⊎ ((lastOf after < t) × Leads side book t)
+        one t (inl z) h = inl z
+        one t (inr l) h = inr (h, l)
 
     go :
         (b : Bool)
@@ -178,7 +192,7 @@ ticket-next side after rows s = go (eqb soon never) refl
         none =
             both Fair (λ o. standsOn side o ≡ true → after < key o → soon ≤ lastOf (key o))
             (λ o. standsOn side o ≡ true → key o ≤ after) book
-            (λ o f l on. not-past o f (l on) (ltb after (key o)) refl) (s .fair) no-later
+            (λ o f l on. not-past o f (l on) (ltb after (key o)) refl) (s .fair) before
           where
             not-past : (o : Order) → Fair o → (after < key o → soon ≤ lastOf (key o)) → (t : Bool) → ltb after (key o) ≡ t → key o ≤ after
             not-past o f l true g =
@@ -207,4 +221,4 @@ ticket-next side after rows s = go (eqb soon never) refl
             (somebody side after book s place (l .place) (l .stands) (omega (arith, last-of after))
             (each (λ x. standsOn side x ≡ true → after < key x → soon ≤ lastOf (key x))
             (λ x. standsOn side x ≡ true → after < key x → key o ≤ key x) book
-            (λ x f on past. omega (arith, f on past, last-of (key x))) no-later))
+            (λ x f on past. omega (arith, f on past, last-of (key x))) before))

@@ -15,7 +15,9 @@ pub mod Crossing
 pub mod Shares
 pub mod Numbers
 pub mod Soonest
-pub mod Stretches
+pub mod Trees
+pub mod Pairs
+pub mod LettingGo
 pub mod FirstPast
 pub mod ByTicket
 pub mod Lines

@@ -1,12 +1,11 @@
-// The orders of a side by tickets: handed out once, then the first order after a key is found without a walk through the book.
+// The orders of a side by tickets: handed out once, then the first order after a key is found without a walk through the book. The
+// tickets are the second half of a tree; each number before them is the sooner of two further on, so that the soonest stands at 1.
 ghost use mathlib.Core.Path.{_≡_};
-ghost use Prim.Native.Nat.{_+_, _*_, _≤_, _<_, min};
-ghost use lib.ListN.{length, take, set};
-ghost use mathlib.Core.Bool.{cond};
-ghost use Rattle.model.specs.Book.{standsOn};
+ghost use Prim.Native.Nat.{_*_, _/_, _≤_, _<_};
+ghost use lib.ListN.{length, getD, set};
 ghost use Rattle.book.specs.Rows.{bookOf};
 ghost use Rattle.book.specs.Standing.{Fair, Standing};
-ghost use Rattle.book.specs.Tickets.{ticketOf, ticketsFrom, lastOf, soonest, atTicket, stretch, Kept, Line};
+ghost use Rattle.book.specs.Tickets.{ticketOf, ticketAt, ticketsFrom, lastOf, never, remaining, soonest, atTicket, ticketsIn, Tree, Own, Line};
 use crate::Next;
 use crate::order_at;
 use crate::priority::key_of;
@@ -25,109 +24,111 @@ fn ticket_of(place: usize, o: Order) -> u64
     key_of(o) * 4_096 + (place as u64)
 }
 
-// Where the order stands on the side, its ticket goes behind the n that are out already; how many are out then.
-fn hand_to(side: u64, place: usize, o: Order, tickets: &mut [u64], n: usize) -> usize
+// The ticket of a place, if its order stands on the side.
+fn ticket_at(side: u64, place: usize, o: Order) -> u64
     requires { ⌜ Fair o ⌝ }
     requires { ⌜ place < 4_096 ⌝ }
-    requires { ⌜ (n < 4_096) × (n < length (now tickets)) ⌝ }
-    ensures { λ r. ⌜ r ≡ cond (standsOn side o) (n + 1) n ⌝ }
-    ensures { λ r. ⌜ now (tickets .exit) ≡ cond (standsOn side o) (set (now (tickets .entry)) n (ticketOf place o)) (now (tickets .entry)) ⌝ }
+    ensures { λ r. ⌜ r ≡ ticketAt side place o ⌝ }
 {
     if o.number == 0 {
-        return n;
+        return NEVER;
     }
     if o.side != side {
-        return n;
+        return NEVER;
     }
-    tickets[n] = ticket_of(place, o);
-    n + 1
+    ticket_of(place, o)
 }
 
-// The tickets of the side's orders, place after place, at the front of the list; how many there are.
-pub fn hand_out(rows: &[[u64; 5]], side: u64, tickets: &mut [u64]) -> usize
+// The tickets of the side, place after place; nothing is said yet of the numbers before them.
+fn put_tickets(rows: &[[u64; 5]], side: u64, tree: &mut [u64])
     requires { ⌜ Standing (bookOf (now rows)) ⌝ }
-    requires { ⌜ length (now rows) ≤ length (now tickets) ⌝ }
-    ensures { λ r. ⌜ (r ≤ length (now (tickets .entry))) × (take r (now (tickets .exit)) ≡ ticketsFrom side 0 (bookOf (now (rows .entry)))) ⌝ }
+    requires { ⌜ length (now tree) ≡ 2 * length (now rows) ⌝ }
+    ensures { λ r. ⌜ ticketsIn (now (tree .exit)) ≡ ticketsFrom side 0 (bookOf (now (rows .entry))) ⌝ }
+    ensures { λ r. ⌜ getD (now (tree .exit)) 0 0 ≡ getD (now (tree .entry)) 0 0 ⌝ }
 {
-    let mut n: usize = 0;
     let mut i: usize = 0;
     while i < rows.len() {
-        n = hand_to(side, i, order_at(rows, i), &mut *tickets, n);
+        tree[rows.len() + i] = ticket_at(side, i, order_at(rows, i));
         i += 1;
     }
-    n
 }
 
-// The soonest of the tickets past the one that is gone.
-fn soonest_of(tickets: &[u64], gone: u64) -> u64
-    ensures { λ r. ⌜ r ≡ soonest gone (now (tickets .entry)) ⌝ }
+// The sooner of two, from the last number before the tickets to the first.
+fn pair_off(tree: &mut [u64])
+    requires { ⌜ length (now tree) ≡ 2 * (length (now tree) / 2) ⌝ }
+    ensures { λ r. ⌜ Tree (now (tree .exit)) ⌝ }
+    ensures { λ r. ⌜ ticketsIn (now (tree .exit)) ≡ ticketsIn (now (tree .entry)) ⌝ }
+    ensures { λ r. ⌜ getD (now (tree .exit)) 0 0 ≡ getD (now (tree .entry)) 0 0 ⌝ }
 {
-    let mut least = NEVER;
-    let mut i = tickets.len();
-    while 0 < i {
+    let mut i = tree.len() / 2;
+    while 1 < i {
         i -= 1;
-        let x = tickets[i];
-        if gone < x {
-            if x < least {
-                least = x;
-            }
-        }
+        tree[i] = smaller(tree[2 * i], tree[2 * i + 1]);
     }
-    least
 }
 
-// The end of a stretch of 32, the last of which may be shorter.
-fn end_of(n: usize, len: usize) -> usize
-    requires { ⌜ 32 * n < len ⌝ }
-    requires { ⌜ len ≤ 4_096 ⌝ }
-    ensures { λ r. ⌜ r ≡ min (32 * n + 32) len ⌝ }
+// A tree of the side's tickets, one for each place. The number at 0 is in no pair and stays.
+pub fn hand_out(rows: &[[u64; 5]], side: u64, tree: &mut [u64])
+    requires { ⌜ Standing (bookOf (now rows)) ⌝ }
+    requires { ⌜ length (now tree) ≡ 2 * length (now rows) ⌝ }
+    ensures { λ r. ⌜ Tree (now (tree .exit)) ⌝ }
+    ensures { λ r. ⌜ ticketsIn (now (tree .exit)) ≡ ticketsFrom side 0 (bookOf (now (rows .entry))) ⌝ }
+    ensures { λ r. ⌜ getD (now (tree .exit)) 0 0 ≡ getD (now (tree .entry)) 0 0 ⌝ }
 {
-    if 32 * n + 32 < len { 32 * n + 32 } else { len }
+    put_tickets(rows, side, &mut *tree);
+    pair_off(&mut *tree);
 }
 
-// The soonest of a stretch: the one that was found last, unless it is gone.
-fn soonest_in(tickets: &[u64], kept: &mut [u64], n: usize, gone: u64) -> u64
-    requires { ⌜ length (now tickets) ≤ 4_096 ⌝ }
-    requires { ⌜ 32 * n < length (now tickets) ⌝ }
-    requires { ⌜ Kept (now tickets) gone (now kept) ⌝ }
-    ensures { λ r. ⌜ r ≡ soonest gone (stretch n (now (tickets .entry))) ⌝ }
-    ensures { λ r. ⌜ Kept (now (tickets .entry)) gone (now (kept .exit)) ⌝ }
+// The ticket of a place is gone: only the pairs on its way up to 1 are looked at again.
+fn take_out(tree: &mut [u64], place: usize)
+    requires { ⌜ Tree (now tree) ⌝ }
+    requires { ⌜ length (now tree) ≤ 8_192 ⌝ }
+    requires { ⌜ place < length (now tree) / 2 ⌝ }
+    ensures { λ r. ⌜ Tree (now (tree .exit)) ⌝ }
+    ensures { λ r. ⌜ ticketsIn (now (tree .exit)) ≡ set (ticketsIn (now (tree .entry))) place never ⌝ }
+    ensures { λ r. ⌜ getD (now (tree .exit)) 0 0 ≡ getD (now (tree .entry)) 0 0 ⌝ }
 {
-    let known = kept[n];
-    if gone < known {
-        return known;
+    let mut i = tree.len() / 2 + place;
+    let mut soonest = NEVER;
+    tree[i] = soonest;
+    while 1 < i {
+        let up = i / 2;
+        let beside = tree[4 * up + 1 - i];
+        soonest = smaller(soonest, beside);
+        tree[up] = soonest;
+        i = up;
     }
-    let end = end_of(n, tickets.len());
-    let found = soonest_of(&tickets[32 * n..end], gone);
-    kept[n] = found;
-    found
 }
 
-// The soonest of all, from the soonest of each stretch.
-fn next_ticket(tickets: &[u64], kept: &mut [u64], gone: u64) -> u64
-    requires { ⌜ length (now tickets) ≤ 4_096 ⌝ }
-    requires { ⌜ Kept (now tickets) gone (now kept) ⌝ }
-    ensures { λ r. ⌜ r ≡ soonest gone (now (tickets .entry)) ⌝ }
-    ensures { λ r. ⌜ Kept (now (tickets .entry)) gone (now (kept .exit)) ⌝ }
+// Every ticket up to one is gone.
+fn let_go(tree: &mut [u64], gone: u64)
+    requires { ⌜ Tree (now tree) ⌝ }
+    requires { ⌜ Own (ticketsIn (now tree)) ⌝ }
+    requires { ⌜ (2 ≤ length (now tree)) × (length (now tree) ≤ 8_192) ⌝ }
+    requires { ⌜ gone < never ⌝ }
+    ensures { λ r. ⌜ Tree (now (tree .exit)) ⌝ }
+    ensures { λ r. ⌜ ticketsIn (now (tree .exit)) ≡ remaining gone (ticketsIn (now (tree .entry))) ⌝ }
+    ensures { λ r. ⌜ getD (now (tree .exit)) 0 0 ≡ getD (now (tree .entry)) 0 0 ⌝ }
 {
-    let mut least = NEVER;
-    let mut n: usize = 0;
-    while 32 * n < tickets.len() {
-        let found = soonest_in(tickets, &mut *kept, n, gone);
-        least = smaller(least, found);
-        n += 1;
+    while tree[1] <= gone {
+        let place = (tree[1] % 4_096) as usize;
+        take_out(&mut *tree, place);
     }
-    least
 }
 
-// The first order after a key among those that have the tickets.
-pub fn next_by_ticket(rows: &[[u64; 5]], tickets: &[u64], kept: &mut [u64], after: u64) -> Next
-    requires { ⌜ length (now tickets) ≤ 4_096 ⌝ }
-    requires { ⌜ Line (now rows) (now tickets) after (now kept) ⌝ }
-    ensures { λ r. ⌜ r ≡ atTicket (now (rows .entry)) (soonest (lastOf after) (now (tickets .entry))) ⌝ }
-    ensures { λ r. ⌜ Line (now (rows .entry)) (now (tickets .entry)) after (now (kept .exit)) ⌝ }
+// The first order after a key among those whose tickets are in the tree. Tickets up to the key are taken out.
+pub fn next_by_ticket(rows: &[[u64; 5]], tree: &mut [u64], after: u64) -> Next
+    requires { ⌜ Line (now rows) after (now tree) ⌝ }
+    ensures { λ r. ⌜ r ≡ atTicket (now (rows .entry)) (soonest (lastOf after) (ticketsIn (now (tree .entry)))) ⌝ }
+    ensures { λ r. ⌜ Line (now (rows .entry)) after (now (tree .exit)) ⌝ }
+    ensures { λ r. ⌜ ticketsIn (now (tree .exit)) ≡ remaining (lastOf after) (ticketsIn (now (tree .entry))) ⌝ }
+    ensures { λ r. ⌜ getD (now (tree .exit)) 0 0 ≡ getD (now (tree .entry)) 0 0 ⌝ }
 {
-    let ticket = next_ticket(tickets, &mut *kept, after * 4_096 + 4_095);
+    if rows.len() == 0 {
+        return Next::Nothing;
+    }
+    let_go(&mut *tree, after * 4_096 + 4_095);
+    let ticket = tree[1];
     if ticket == NEVER {
         return Next::Nothing;
     }

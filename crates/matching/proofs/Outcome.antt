@@ -1,7 +1,7 @@
 -- What `sweep` has done where it ends, in the contract's words. Assumes nothing.
 use Prim.Native.Nat.{ℕ, _-_, _≤_}
 use mathlib.Core.Path.{_≡_, ap, _∙_}
-use mathlib.Core.List.{List}
+use mathlib.Core.List.{List, []}
 use native.Mathlib.Omega.{arith}
 use lib.ListN.{length}
 use Rattle.model.specs.declared.Order.{Order}
@@ -9,6 +9,8 @@ use Rattle.model.specs.declared.Trade.{Trade}
 use Rattle.model.specs.declared.Taker.{Taker}
 use Rattle.model.specs.Book.{other}
 use Rattle.model.specs.Matching.{sweep}
+use Rattle.book.specs.declared.Next.{Next}
+use Rattle.book.specs.declared.Next.the-variants.{Nothing}
 use Rattle.book.specs.Rows.{bookOf, tradeRows}
 use Rattle.book.specs.Standing.{Each, Standing}
 use Rattle.book.specs.Priority.{beyond}
@@ -17,14 +19,10 @@ use Rattle.book.proofs.Lists.{each}
 use Rattle.book.proofs.Queues.{Stands, on-live, queue-stands, queue-rising, beyond-all}
 use Rattle.book.proofs.Written.{puts-front}
 use Rattle.matching.specs.declared.Swept.{Swept}
-use Rattle.matching.specs.Sweeping.{atBest, comesTo}
+use Rattle.matching.specs.Sweeping.{atBest, swept, comesTo, partnerOf}
 use Rattle.matching.proofs.Cuts.{cutSame, cutLevels, cut-from, cut-best, queue-worsens}
 use Rattle.matching.proofs.Tallies.{counted, unswept, sweep-counts}
-use Rattle.matching.proofs.Sweeps.{against, in-all}
-
--- all the trades, at however many of the best prices
-abbrev pub swept : Taker → ℕ → ℕ → List (List ℕ) → List Trade
-swept t most quantity rows = sweep t quantity (atBest most (against t rows))
+use Rattle.matching.proofs.Sweeps.{against, in-all, idle, under-start, under-end}
 
 module _ (t : Taker) (room most quantity : ℕ) (rows lent : List (List ℕ)) (standing : Standing (bookOf rows)) where
   abbrev side : ℕ
@@ -61,3 +59,16 @@ module _ (t : Taker) (room most quantity : ℕ) (rows lent : List (List ℕ)) (s
         ∙ ap (λ (ts : List Trade). puts room 0 ts lent) (first ∙ ap (sweep t quantity) best)
         ∙ puts-front room (swept t most quantity rows) lent h,
   )
+
+  -- who meets nobody at first trades nothing
+  pub none-met :
+      {s : Swept} {r : Next}
+      → room ≤ length lent
+      → r ≡ partnerOf t quantity (beyond 0 (against t rows))
+      → r ≡ Nothing
+      → s ≡ comesTo []
+      → (s ≡ comesTo (swept t most quantity rows)) × (lent ≡ front room (tradeRows (swept t most quantity rows)) lent)
+  none-met {s} {r} h e n z =
+      outcome h
+      (under-end t quantity room most rows lent (under-start t quantity room most rows lent z)
+      (idle t quantity (most - s .levels) (s .last) (beyond 0 (against t rows)) r e n))

@@ -13,7 +13,7 @@ use Rattle.model.specs.Matching.{meets, tradeWith, sweep}
 use Rattle.book.specs.declared.Next.{Next}
 use Rattle.book.specs.declared.Next.the-variants.{At, Nothing}
 use Rattle.book.specs.Priority.{nextOf}
-use Rattle.matching.specs.Sweeping.{wants, partnerOf}
+use Rattle.matching.specs.Sweeping.{wants, ifWanted, partnerOf}
 
 -- ---- whether it trades
 
@@ -21,21 +21,17 @@ use Rattle.matching.specs.Sweeping.{wants, partnerOf}
 abbrev allows : Taker → ℕ → Bool
 allows t p = meets (t .side) (t .limit) p
 
-wants-nothing : (t : Taker) (q p : ℕ) → q ≡ 0 → wants t q p ≡ false
+pub wants-nothing : (t : Taker) (q p : ℕ) → q ≡ 0 → wants t q p ≡ false
 unfolding wants
 wants-nothing t q p e =
     let l : q ≤ 0 = omega arith in
     rw (le-ltb 0 q l)
 
-wants-far : (t : Taker) (q p : ℕ) → allows t p ≡ false → wants t q p ≡ false
+pub wants-by-limit : (t : Taker) (q p : ℕ) → (q ≡ 0 → ⊥) → wants t q p ≡ allows t p
 unfolding wants
-wants-far t q p e = rw (e, and-false)
-
-wants-near : (t : Taker) (q p : ℕ) → (q ≡ 0 → ⊥) → allows t p ≡ true → wants t q p ≡ true
-unfolding wants
-wants-near t q p n e =
+wants-by-limit t q p n =
     let l : 0 < q = omega arith in
-    rw (e, lt-ltb 0 q l)
+    rw (lt-ltb 0 q l)
 
 -- a trade is for some shares, at a price that the limit allows
 pub wants-allows : (t : Taker) (q p : ℕ) → wants t q p ≡ true → allows t p ≡ true
@@ -83,41 +79,24 @@ sweep-spent t (o ∷ os) = sweep-none t 0 o os (wants-nothing t 0 (o .price) ref
 
 -- ---- with whom
 
-module _ (t : Taker) (q : ℕ) where
-  pub spent : (rest : List Order) → q ≡ 0 → Nothing ≡ partnerOf t q rest
-  unfolding partnerOf
-  spent [] e = refl
-  spent (o ∷ os) e = rw (wants-nothing t q (o .price) e)
+module _ (t : Taker) (q : ℕ) {n : Next} where
+  pub nobody : n ≡ Nothing → Nothing ≡ ifWanted t q n
+  unfolding ifWanted
+  nobody e = rw e
 
-  pub nobody : (rest : List Order) (n : Next) → n ≡ nextOf rest → n ≡ Nothing → Nothing ≡ partnerOf t q rest
-  unfolding partnerOf nextOf
-  nobody [] n f e = refl
-  nobody (o ∷ os) n f e = let z : _≡_ {A = ℕ} 0 1 = cc in absurd (omega arith)
+  module _ {o : Order} {k : ℕ} (e : n ≡ At o k) where
+    pub wanted : wants t q (o .price) ≡ true → At o k ≡ ifWanted t q n
+    unfolding ifWanted
+    wanted w = rw (e, w)
 
-  pub too-far :
-      (rest : List Order) (n : Next) (o : Order) (k : ℕ)
-      → n ≡ nextOf rest
-      → n ≡ At o k
-      → allows t (o .price) ≡ false
-      → Nothing ≡ partnerOf t q rest
-  unfolding partnerOf nextOf
-  too-far [] n o k f e m = refl
-  too-far (p ∷ os) n o k f e m =
-      let same : o ≡ p = cc in
-      rw (wants-far t q (p .price) (ap (λ (x : Order). allows t (x .price)) (sym same) ∙ m))
+    pub unwanted : wants t q (o .price) ≡ false → Nothing ≡ ifWanted t q n
+    unfolding ifWanted
+    unwanted w = rw (e, w)
 
-  pub the-first :
-      (rest : List Order) (n : Next) (o : Order) (k : ℕ)
-      → n ≡ nextOf rest
-      → n ≡ At o k
-      → (q ≡ 0 → ⊥)
-      → allows t (o .price) ≡ true
-      → At o k ≡ partnerOf t q rest
-  unfolding partnerOf nextOf
-  the-first [] n o k f e z m = sym e ∙ f
-  the-first (p ∷ os) n o k f e z m =
-      let same : o ≡ p = cc in
-      rw (wants-near t q (p .price) z (ap (λ (x : Order). allows t (x .price)) (sym same) ∙ m)) (sym e ∙ f)
+-- the first of a queue is asked
+pub first-asked : (t : Taker) (q : ℕ) (rest : List Order) {n r : Next} → n ≡ nextOf rest → r ≡ ifWanted t q n → r ≡ partnerOf t q rest
+unfolding partnerOf
+first-asked t q rest e f = f ∙ ap (ifWanted t q) e
 
 -- ---- the trade
 

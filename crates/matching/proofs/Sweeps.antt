@@ -15,9 +15,9 @@ use Rattle.model.specs.Matching.{tradeWith, sweep}
 use Rattle.book.specs.declared.Next.{Next}
 use Rattle.book.specs.declared.Next.the-variants.{At, Nothing}
 use Rattle.book.specs.Rows.{orderOf, bookOf}
-use Rattle.book.specs.Priority.{key, isPast, beyond}
+use Rattle.book.specs.Priority.{key, isPast, beyond, nextOf}
 use Rattle.book.specs.Standing.{Each, Fair, Standing}
-use Rattle.book.specs.Tickets.{Line}
+use Rattle.book.specs.Tickets.{LineOf}
 use Rattle.book.specs.Writing.{put, puts}
 use Rattle.book.proofs.Lists.{each-keep}
 use Rattle.book.proofs.Sorting.{Rising}
@@ -26,7 +26,7 @@ use Rattle.book.proofs.ByTicket.{key-most}
 use Rattle.book.proofs.Lines.{line-later}
 use Rattle.book.proofs.Written.{length-put, puts-none, puts-one}
 use Rattle.matching.specs.declared.Swept.{Swept}
-use Rattle.matching.specs.Sweeping.{wants, partnerOf, comesTo, pricesWith, withTrade}
+use Rattle.matching.specs.Sweeping.{wants, ifWanted, partnerOf, comesTo, pricesWith, withTrade}
 use Rattle.matching.proofs.Cuts.{cutSame, cutLevels, same-nil, levels-none, levels-cons, cut-here, cut-away, cut-next, cut-end}
 use Rattle.matching.proofs.Partners.{sweep-nil, sweep-none, sweep-one, trade-takes}
 use Rattle.matching.proofs.Tallies.{counted, counted-none, counted-one, unswept, nothing-yet}
@@ -50,7 +50,7 @@ pub met :
     → r ≡ partnerOf t q (beyond after queue)
     → r ≡ At o k
     → Met t q after queue o k
-unfolding partnerOf
+unfolding partnerOf ifWanted nextOf
 met t q after queue o k r rising e at = go (beyond after queue) refl e
   where
     go : (rest : List Order) → beyond after queue ≡ rest → r ≡ partnerOf t q rest → Met t q after queue o k
@@ -74,13 +74,13 @@ met t q after queue o k r rising e at = go (beyond after queue) refl e
             }
 
 -- the line goes on behind it
-pub line-on :
-    {t : Taker} {q after : ℕ} {o : Order} {k : ℕ} {rows : List (List ℕ)} {tickets kept : List ℕ}
+pub line-behind :
+    {t : Taker} {q after : ℕ} {o : Order} {k : ℕ} {rows : List (List ℕ)} {tree : List ℕ}
     → Standing (bookOf rows)
     → Met t q after (against t rows) o k
-    → Line rows tickets after kept
-    → Line rows tickets k kept
-line-on {t} {after = after} {o = o} {k} {rows} s m l =
+    → LineOf (other (t .side)) rows after tree
+    → LineOf (other (t .side)) rows k tree
+line-behind {t} {after = after} {o = o} {k} {rows} s m l =
     line-later l k (omega (arith, m .later)) (omega (arith, m .its-key, key-most o fair))
   where
     fair : Fair o
@@ -105,7 +105,7 @@ pub idle :
     → r ≡ partnerOf t q rest
     → r ≡ Nothing
     → sweep t q (cutSame n p rest) ≡ []
-unfolding partnerOf
+unfolding partnerOf ifWanted nextOf
 idle t q n p [] r e z = ap (sweep t q) (same-nil n p) ∙ sweep-nil t q
 idle t q n p (o ∷ os) r e z = pick (wants t q (o .price)) refl e
   where

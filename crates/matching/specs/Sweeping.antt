@@ -9,15 +9,21 @@ use Rattle.model.specs.declared.Trade.{Trade}
 use Rattle.model.specs.declared.Taker.{Taker}
 use Rattle.model.specs.Choice.{if_then_else_}
 use Rattle.model.specs.Lists.{keep, among, once}
-use Rattle.model.specs.Matching.{meets, filled, levels, lastPrice}
+use Rattle.model.specs.Book.{other, queue}
+use Rattle.model.specs.Matching.{meets, sweep, filled, levels, lastPrice}
 use Rattle.book.specs.declared.Next.{Next}
 use Rattle.book.specs.declared.Next.the-variants.{At, Nothing}
-use Rattle.book.specs.Priority.{key}
+use Rattle.book.specs.Rows.{bookOf}
+use Rattle.book.specs.Priority.{nextOf}
 use Rattle.matching.specs.declared.Swept.{Swept}
 
 -- the n best prices of a queue, and its orders that stand at them
 unfoldable pub atBest : ℕ → List Order → List Order
 atBest n os = keep (λ o. among (take n (once (map (λ o. o .price) os))) (o .price)) os
+
+-- the trades of a taker with the n best prices of the other side
+abbrev pub swept : Taker → ℕ → ℕ → List (List ℕ) → List Trade
+swept t n quantity rows = sweep t quantity (atBest n (queue (other (t .side)) (bookOf rows)))
 
 -- what a run of trades comes to
 unfoldable pub comesTo : List Trade → Swept
@@ -29,10 +35,13 @@ comesTo ts = record { trades = length ts; filled = filled ts; levels = levels ts
 unfoldable pub wants : Taker → ℕ → ℕ → Bool
 wants t q p = ltb 0 q && meets (t .side) (t .limit) p
 
--- whom it trades with next
+-- whom it trades with next: the first of the queue, if it wants to
+unfoldable pub ifWanted : Taker → ℕ → Next → Next
+ifWanted t q Nothing = Nothing
+ifWanted t q (At o k) = if wants t q (o .price) then At o k else Nothing
+
 unfoldable pub partnerOf : Taker → ℕ → List Order → Next
-partnerOf t q [] = Nothing
-partnerOf t q (o ∷ os) = if wants t q (o .price) then At o (key o) else Nothing
+partnerOf t q os = ifWanted t q (nextOf os)
 
 -- how many prices there are with this one, which is the last one or one more
 unfoldable pub pricesWith : Swept → ℕ → ℕ

@@ -1,6 +1,6 @@
 // An order on its way through the other side, one resting order after the other. The book stays as it is.
 ghost use mathlib.Core.Path.{_≡_};
-ghost use Prim.Native.Nat.{_+_, _≤_, _<_, _^_};
+ghost use Prim.Native.Nat.{_+_, _*_, _≤_, _<_, _^_};
 ghost use mathlib.Core.List.{[]};
 ghost use lib.ListN.{length};
 ghost use Rattle.model.specs.Book.{other, queue};
@@ -8,11 +8,13 @@ ghost use Rattle.model.specs.Matching as matching;
 ghost use Rattle.book.specs.Rows.{bookOf, tradeRows};
 ghost use Rattle.book.specs.Standing.{Standing};
 ghost use Rattle.book.specs.Priority.{beyond};
-ghost use Rattle.book.specs.Tickets.{ticketsFrom, Line};
+ghost use Rattle.book.specs.Tickets.{LineOf};
 ghost use Rattle.book.specs.Writing.{front};
-ghost use Rattle.matching.specs.Sweeping.{atBest, comesTo, partnerOf, pricesWith, withTrade};
+ghost use Rattle.matching.specs.Sweeping as sweeping;
+ghost use Rattle.matching.specs.Sweeping.{swept, comesTo, ifWanted, partnerOf, pricesWith, withTrade};
 use crate::Swept;
 use book::Next;
+use book::priority::next_after;
 use book::settling::put_trade_below;
 use book::smaller;
 use book::tickets::hand_out;
@@ -38,35 +40,50 @@ pub fn meets(side: u64, limit: u64, price: u64) -> bool
     }
 }
 
-// Whom a taker that wants `left` more trades with next: the first past the key, if the limit allows its price.
-fn partner(
-    rows: &[[u64; 5]],
-    tickets: &[u64],
-    kept: &mut [u64],
-    t: Taker,
-    left: u64,
-    after: u64,
-) -> Next
-    requires { ⌜ Standing (bookOf (now rows)) ⌝ }
-    requires { ⌜ now tickets ≡ ticketsFrom (other (t .side)) 0 (bookOf (now rows)) ⌝ }
-    requires { ⌜ Line (now rows) (now tickets) after (now kept) ⌝ }
-    ensures { λ r. ⌜ r ≡ partnerOf t left (beyond after (queue (other (t .side)) (bookOf (now (rows .entry))))) ⌝ }
-    ensures { λ r. ⌜ Line (now (rows .entry)) (now (tickets .entry)) after (now (kept .exit)) ⌝ }
+// A taker that wants `left` more trades at this price.
+fn wants(t: Taker, left: u64, price: u64) -> bool
+    ensures { λ r. ⌜ r ≡ sweeping.wants t left price ⌝ }
 {
     if left == 0 {
-        return Next::Nothing;
+        return false;
     }
-    let next = next_by_ticket(rows, tickets, &mut *kept, after);
+    meets(t.side, t.limit, price)
+}
+
+// The next order, if a taker that wants `left` more trades with it.
+fn if_wanted(t: Taker, left: u64, next: Next) -> Next
+    ensures { λ r. ⌜ r ≡ ifWanted t left next ⌝ }
+{
     match next {
         Next::Nothing => Next::Nothing,
         Next::At { order, key } => {
-            if meets(t.side, t.limit, order.price) {
+            if wants(t, left, order.price) {
                 Next::At { order, key }
             } else {
                 Next::Nothing
             }
         }
     }
+}
+
+// Whom a taker trades with first, by a walk through the book.
+fn first_partner(rows: &[[u64; 5]], t: Taker, quantity: u64) -> Next
+    requires { ⌜ Standing (bookOf (now rows)) ⌝ }
+    ensures { λ r. ⌜ r ≡ partnerOf t quantity (beyond 0 (queue (other (t .side)) (bookOf (now (rows .entry))))) ⌝ }
+{
+    let next = next_after(rows, other_side(t.side), 0);
+    if_wanted(t, quantity, next)
+}
+
+// Whom it trades with next, behind a key, by tickets.
+fn partner(rows: &[[u64; 5]], tree: &mut [u64], t: Taker, left: u64, after: u64) -> Next
+    requires { ⌜ Standing (bookOf (now rows)) ⌝ }
+    requires { ⌜ LineOf (other (t .side)) (now rows) after (now tree) ⌝ }
+    ensures { λ r. ⌜ r ≡ partnerOf t left (beyond after (queue (other (t .side)) (bookOf (now (rows .entry))))) ⌝ }
+    ensures { λ r. ⌜ LineOf (other (t .side)) (now (rows .entry)) after (now (tree .exit)) ⌝ }
+{
+    let next = next_by_ticket(rows, &mut *tree, after);
+    if_wanted(t, left, next)
 }
 
 // The trade with a partner, at the partner's price, and what it leaves of both.
@@ -135,12 +152,11 @@ fn with_trade(s: Swept, t: Trade) -> Swept
     }
 }
 
-// The trades of a taker with the `most` best prices of the other side, whose tickets are given: all are counted, and written while
-// there is room.
+// The trades of a taker with the `most` best prices of the other side: all are counted, and written while there is room. The tree is
+// for the other side's tickets.
 fn sweep_line(
     rows: &[[u64; 5]],
-    tickets: &[u64],
-    kept: &mut [u64],
+    tree: &mut [u64],
     trades: &mut [[u64; 6]],
     room: usize,
     t: Taker,
@@ -148,17 +164,17 @@ fn sweep_line(
     most: u64,
 ) -> Swept
     requires { ⌜ Standing (bookOf (now rows)) ⌝ }
-    requires { ⌜ now tickets ≡ ticketsFrom (other (t .side)) 0 (bookOf (now rows)) ⌝ }
-    requires { ⌜ Line (now rows) (now tickets) 0 (now kept) ⌝ }
+    requires { ⌜ length (now tree) ≡ 2 * length (now rows) ⌝ }
     requires { ⌜ room ≤ length (now trades) ⌝ }
-    ensures { λ r. ⌜ r ≡ comesTo (matching.sweep t quantity (atBest most (queue (other (t .side)) (bookOf (now (rows .entry)))))) ⌝ }
-    ensures { λ r. ⌜ now (trades .exit) ≡ front room (tradeRows (matching.sweep t quantity (atBest most (queue (other (t .side)) (bookOf (now (rows .entry))))))) (now (trades .entry)) ⌝ }
+    ensures { λ r. ⌜ r ≡ comesTo (swept t most quantity (now (rows .entry))) ⌝ }
+    ensures { λ r. ⌜ now (trades .exit) ≡ front room (tradeRows (swept t most quantity (now (rows .entry)))) (now (trades .entry)) ⌝ }
 {
+    hand_out(rows, other_side(t.side), &mut *tree);
     let mut s = nothing_yet();
     let mut left = quantity;
     let mut after: u64 = 0;
     loop {
-        let next = partner(rows, tickets, &mut *kept, t, left, after);
+        let next = partner(rows, &mut *tree, t, left, after);
         let Next::At { order, key } = next else {
             break;
         };
@@ -174,7 +190,47 @@ fn sweep_line(
     s
 }
 
-// The same on a book: one pass over it hands out the tickets.
+// The same with a tree as large as the book needs: to set it to zero takes time.
+fn sweep_tickets(
+    rows: &[[u64; 5]],
+    trades: &mut [[u64; 6]],
+    room: usize,
+    t: Taker,
+    quantity: u64,
+    most: u64,
+) -> Swept
+    requires { ⌜ Standing (bookOf (now rows)) ⌝ }
+    requires { ⌜ room ≤ length (now trades) ⌝ }
+    ensures { λ r. ⌜ r ≡ comesTo (swept t most quantity (now (rows .entry))) ⌝ }
+    ensures { λ r. ⌜ now (trades .exit) ≡ front room (tradeRows (swept t most quantity (now (rows .entry)))) (now (trades .entry)) ⌝ }
+{
+    let size = 2 * rows.len();
+    if size <= 2_048 {
+        let mut small = [0; 2_048];
+        sweep_line(
+            rows,
+            &mut small[..size],
+            &mut *trades,
+            room,
+            t,
+            quantity,
+            most,
+        )
+    } else {
+        let mut large = [0; 8_192];
+        sweep_line(
+            rows,
+            &mut large[..size],
+            &mut *trades,
+            room,
+            t,
+            quantity,
+            most,
+        )
+    }
+}
+
+// The same for every taker: one that trades with nobody needs no tickets.
 pub fn sweep(
     rows: &[[u64; 5]],
     trades: &mut [[u64; 6]],
@@ -185,20 +241,14 @@ pub fn sweep(
 ) -> Swept
     requires { ⌜ Standing (bookOf (now rows)) ⌝ }
     requires { ⌜ room ≤ length (now trades) ⌝ }
-    ensures { λ r. ⌜ r ≡ comesTo (matching.sweep t quantity (atBest most (queue (other (t .side)) (bookOf (now (rows .entry)))))) ⌝ }
-    ensures { λ r. ⌜ now (trades .exit) ≡ front room (tradeRows (matching.sweep t quantity (atBest most (queue (other (t .side)) (bookOf (now (rows .entry))))))) (now (trades .entry)) ⌝ }
+    ensures { λ r. ⌜ r ≡ comesTo (swept t most quantity (now (rows .entry))) ⌝ }
+    ensures { λ r. ⌜ now (trades .exit) ≡ front room (tradeRows (swept t most quantity (now (rows .entry)))) (now (trades .entry)) ⌝ }
 {
-    let mut tickets = [0; 4_096];
-    let n = hand_out(rows, other_side(t.side), &mut tickets[..]);
-    let mut kept = [0; 128];
-    sweep_line(
-        rows,
-        &tickets[..n],
-        &mut kept[..],
-        &mut *trades,
-        room,
-        t,
-        quantity,
-        most,
-    )
+    let first = first_partner(rows, t, quantity);
+    match first {
+        Next::Nothing => nothing_yet(),
+        Next::At { order: _, key: _ } => {
+            sweep_tickets(rows, &mut *trades, room, t, quantity, most)
+        }
+    }
 }

@@ -1,12 +1,10 @@
 -- Heads found by tickets: they are those of the queue, and the line goes on behind them.
 use Prim.Native.Nat.{ℕ, _-_, _≤_, _<_}
 use mathlib.Core.Path.{_≡_, refl, ap, _∙_}
-use mathlib.Core.Bool.{cond}
 use mathlib.Core.List.{List, [], _∷_}
 use native.Mathlib.Decide.{decLt}
 use native.Mathlib.Omega.{arith}
 use lib.ListN.{length}
-use lib.Dec.{ltb}
 use borrow.Author.Tests.{lt-ltb, le-ltb}
 use Rattle.model.specs.declared.Order.{Order}
 use Rattle.model.specs.Book.{queue}
@@ -15,7 +13,7 @@ use Rattle.book.specs.declared.Next.the-variants.{At, Nothing}
 use Rattle.book.specs.Rows.{bookOf}
 use Rattle.book.specs.Standing.{Each, Standing}
 use Rattle.book.specs.Priority.{key, isPast, beyond, nextOf}
-use Rattle.book.specs.Tickets.{ticketsFrom, lastOf, soonest, atTicket, Line}
+use Rattle.book.specs.Tickets.{lastOf, soonest, atTicket, ticketsIn, LineOf}
 use Rattle.book.proofs.Lists.{each-keep}
 use Rattle.book.proofs.Queues.{Stands, queue-stands, queue-rising, beyond-next}
 use Rattle.book.proofs.ByTicket.{key-most}
@@ -44,31 +42,30 @@ module _ (q : ℕ) (h : Head) (next : Next) where
   unfolding headOn
   on-next l e = rw (le-ltb q (h .left) l) e
 
-first-is : (after : ℕ) (q : List Order) → headAt after (nextOf q) ≡ headOf after q
-unfolding headAt headOf nextOf
-first-is after [] = refl
-first-is after (o ∷ os) = refl
+-- ---- on a side's line
 
-past-is : (q : ℕ) (h : Head) (os : List Order) → headOn q h (nextOf (beyond (h .key) os)) ≡ headPast q h os
-unfolding headOn headPast
-past-is q h os = ap (λ (x : Head). cond (ltb q (h .left)) (record { number = h .number; left = h .left - q; key = h .key }) x) (first-is (h .key) (beyond (h .key) os))
-
--- ---- on a side whose tickets are given
-
-module _ (side : ℕ) (rows : List (List ℕ)) {tickets : List ℕ} (s : Standing (bookOf rows)) (e : tickets ≡ ticketsFrom side 0 (bookOf rows)) where
+module _ (side : ℕ) (rows : List (List ℕ)) (s : Standing (bookOf rows)) where
   abbrev line : List Order
   line = queue side (bookOf rows)
 
-  pub head-first : {r : Head} → r ≡ headAt 0 (atTicket rows (soonest (lastOf 0) tickets)) → r ≡ headOf 0 (beyond 0 line)
-  head-first f = f ∙ ap (headAt 0) (by-ticket side rows s e 0 _ refl) ∙ first-is 0 (beyond 0 line)
+  module _ {after : ℕ} {tree : List ℕ} (l : LineOf side rows after tree) where
+    pub head-first : {r : Head} → r ≡ headAt after (atTicket rows (soonest (lastOf after) (ticketsIn tree))) → r ≡ headOf after (beyond after line)
+    unfolding headOf
+    head-first e = e ∙ ap (headAt after) (by-ticket l s refl)
 
-  pub head-on : {r : Head} (q : ℕ) (h : Head) → r ≡ headOn q h (atTicket rows (soonest (lastOf (h .key)) tickets)) → r ≡ headPast q h line
-  head-on q h f = f ∙ ap (headOn q h) (by-ticket side rows s e (h .key) _ refl) ∙ past-is q h line
+  pub head-on :
+      {r : Head} {tree : List ℕ} (q : ℕ) (h : Head)
+      → LineOf side rows (h .key) tree
+      → r ≡ headOn q h (atTicket rows (soonest (lastOf (h .key)) (ticketsIn tree)))
+      → r ≡ headPast q h line
+  unfolding headPast
+  head-on q h l e = e ∙ ap (headOn q h) (by-ticket l s refl)
 
   -- ---- the line goes on behind the head
 
   -- the first after a key has a later one, no later than any may be
   first-key : (after : ℕ) → after ≤ 1_000_000_999_999 → (after ≤ headOf after (beyond after line) .key) × (headOf after (beyond after line) .key ≤ 1_000_000_999_999)
+  unfolding headOf headAt nextOf
   first-key after l = go (beyond after line) refl stand
     where
       stand : Each (Stands side) (beyond after line)
@@ -79,22 +76,22 @@ module _ (side : ℕ) (rows : List (List ℕ)) {tickets : List ℕ} (s : Standin
           → beyond after line ≡ os
           → Each (Stands side) os
           → (after ≤ headOf after os .key) × (headOf after os .key ≤ 1_000_000_999_999)
-      go [] f h = unfold headOf in (omega arith, l)
-      go (o ∷ os) f h = unfold headOf in (omega (arith, beyond-next after line o os (queue-rising side (bookOf rows) s) f .0), key-most o (h .0 .0))
+      go [] f h = (omega arith, l)
+      go (o ∷ os) f h = (omega (arith, beyond-next after line o os (queue-rising side (bookOf rows) s) f .0), key-most o (h .0 .0))
 
-  pub line-first-head : {kept : List ℕ} {r : Head} → Line rows tickets 0 kept → r ≡ headOf 0 (beyond 0 line) → Line rows tickets (r .key) kept
+  pub line-first-head : {tree : List ℕ} {r : Head} → LineOf side rows 0 tree → r ≡ headOf 0 (beyond 0 line) → LineOf side rows (r .key) tree
   line-first-head l f = let b = first-key 0 (omega arith) in rw f (line-later l _ (b .0) (b .1))
 
-  pub line-past : {kept : List ℕ} {r : Head} (q : ℕ) (h : Head) → Line rows tickets (h .key) kept → r ≡ headPast q h line → Line rows tickets (r .key) kept
+  pub line-past : {tree : List ℕ} {r : Head} (q : ℕ) (h : Head) → LineOf side rows (h .key) tree → r ≡ headPast q h line → LineOf side rows (r .key) tree
   line-past q h l f = rw f (elim (decLt q (h .left)) [
     | yes m ↦ rw (past-kept q h line m) l
-    | no m ↦ let b = first-key (h .key) (l .low) in rw (past-none q h line (omega arith)) (line-later l _ (b .0) (b .1))
+    | no m ↦ let b = first-key (h .key) (l .line .low) in rw (past-none q h line (omega arith)) (line-later l _ (b .0) (b .1))
   ])
 
 -- ---- both sides, as the loop goes on
 
-pub record BothLines (rows : List (List ℕ)) (buys bought₀ sells sold₀ : List ℕ) (buy sell : Head) (bought sold : List ℕ) : Type 0 where
-  pub buyers : Line rows buys (buy .key) bought
-  pub sellers : Line rows sells (sell .key) sold
-  pub same-bought : length bought ≡ length bought₀
-  pub same-sold : length sold ≡ length sold₀
+pub record BothLines (rows : List (List ℕ)) (buys₀ sells₀ : List ℕ) (buy sell : Head) (buys sells : List ℕ) : Type 0 where
+  pub buyers : LineOf 0 rows (buy .key) buys
+  pub sellers : LineOf 1 rows (sell .key) sells
+  pub same-buys : length buys ≡ length buys₀
+  pub same-sells : length sells ≡ length sells₀

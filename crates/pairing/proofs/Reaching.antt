@@ -10,10 +10,10 @@ use Rattle.model.specs.declared.Order.{Order}
 use Rattle.model.specs.Choice.{if_then_else_}
 use Rattle.book.specs.declared.Mark.{Mark}
 use Rattle.book.specs.Standing.{Each}
-use Rattle.book.specs.Priority.{key, beyond}
+use Rattle.book.specs.Priority.{key, beyond, nextOf}
 use Rattle.book.proofs.Queues.{beyond-all, beyond-next}
 use Rattle.pairing.specs.declared.Head.{Head}
-use Rattle.pairing.specs.Heads.{headOf, headPast, headMark}
+use Rattle.pairing.specs.Heads.{headAt, headOf, headPast, headMark}
 use Rattle.pairing.specs.Marks.{markAfter}
 use Rattle.pairing.proofs.Waiting.{past-kept, past-none, Queued, each-past}
 
@@ -52,7 +52,7 @@ module _ (queue : List Order) (k : Queued queue) where
       (after v : ℕ) (os : List Order)
       → beyond after queue ≡ os
       → reach v (headOf after os) queue ≡ markAfter after v os
-  unfolding reach headOf markAfter
+  unfolding reach headOf headAt nextOf markAfter
   first-reaches after v [] e = rw (le-ltb v 0 (omega arith), e)
   first-reaches after v (o ∷ os) e = rw (← beyond-next after queue o os (k .rising) e .1)
 
@@ -62,7 +62,7 @@ module _ (queue : List Order) (k : Queued queue) where
       → Each (λ o. 1 ≤ o .left) os
       → headOf after os .left ≡ 0
       → beyond (headOf after os .key) queue ≡ []
-  unfolding headOf
+  unfolding headOf headAt nextOf
   first-last after [] e f z = e
   first-last after (o ∷ os) e f z = absurd (omega (arith, f .0))
 

@@ -10,12 +10,12 @@ use Rattle.model.specs.declared.Order.{Order}
 use Rattle.model.specs.Lists.{total}
 use Rattle.model.specs.Pairing.{Share, cut, headLess}
 use Rattle.book.specs.Standing.{Each}
-use Rattle.book.specs.Priority.{key, beyond}
+use Rattle.book.specs.Priority.{key, beyond, nextOf}
 use Rattle.book.proofs.Sorting.{Rising}
 use Rattle.book.proofs.Lists.{each-keep}
 use Rattle.book.proofs.Queues.{beyond-next}
 use Rattle.pairing.specs.declared.Head.{Head}
-use Rattle.pairing.specs.Heads.{headOf, headPast, asOrder, waiting}
+use Rattle.pairing.specs.Heads.{headAt, headOn, headOf, headPast, asOrder, waiting}
 use Rattle.pairing.proofs.Turns.{head-stays, head-goes, cut-some, cut-nothing}
 
 unfoldable pub shares : List Order → ℕ
@@ -58,11 +58,11 @@ alike n whole os e f = rw (e, f)
 -- a head that trades q: it stays while something of it is left, else the next is the head
 module _ (q : ℕ) (h : Head) (queue : List Order) where
   pub past-kept : q < h .left → headPast q h queue ≡ record { number = h .number; left = h .left - q; key = h .key }
-  unfolding headPast
+  unfolding headPast headOn
   past-kept l = rw (lt-ltb q (h .left) l)
 
   pub past-none : h .left ≤ q → headPast q h queue ≡ headOf (h .key) (beyond (h .key) queue)
-  unfolding headPast
+  unfolding headPast headOn headOf
   past-none l = rw (le-ltb q (h .left) l)
 
 -- a queue in priority, whose orders all have shares
@@ -82,7 +82,7 @@ module _ (queue : List Order) (k : Queued queue) where
       → Each (λ o. 1 ≤ o .left) os
       → (v : ℕ)
       → (cut v (waiting (headOf after os) queue) ≡ cut v os) × (shares (waiting (headOf after os) queue) ≡ shares os)
-  unfolding headOf asOrder cut shares total
+  unfolding headOf headAt nextOf asOrder cut shares total
   first-waits after [] e f v =
       let z = waiting-none (headOf after []) queue (le-refl 0) in
       (ap (cut v) z, ap shares z)

@@ -7,7 +7,7 @@ use Rattle.model.specs.Choice.{if_then_else_}
 use Rattle.book.specs.declared.Mark.{Mark}
 use Rattle.book.specs.declared.Next.{Next}
 use Rattle.book.specs.declared.Next.the-variants.{At, Nothing}
-use Rattle.book.specs.Priority.{key, beyond}
+use Rattle.book.specs.Priority.{beyond, nextOf}
 use Rattle.pairing.specs.declared.Head.{Head}
 
 -- the next order after a key as a head; nothing is left where there is none
@@ -24,15 +24,11 @@ headOn q h next =
 
 -- the first of those that come after a key
 unfoldable pub headOf : ℕ → List Order → Head
-headOf after [] = record { number = 0; left = 0; key = after }
-headOf after (o ∷ os) = record { number = o .number; left = o .left; key = key o }
+headOf after queue = headAt after (nextOf queue)
 
 -- the head of a queue when q of it have traded
 unfoldable pub headPast : ℕ → Head → List Order → Head
-headPast q h queue =
-    if ltb q (h .left)
-    then record { number = h .number; left = h .left - q; key = h .key }
-    else headOf (h .key) (beyond (h .key) queue)
+headPast q h queue = headOn q h (nextOf (beyond (h .key) queue))
 
 -- the head as an order, of which only the number and the shares matter here
 unfoldable pub asOrder : Head → Order

@@ -9,14 +9,14 @@ use book::tickets::hand_out;
 use book::tickets::next_by_ticket;
 use model::Trade;
 ghost use mathlib.Core.Path.{_≡_};
-ghost use Prim.Native.Nat.{_≤_};
+ghost use Prim.Native.Nat.{_*_, _≤_};
 ghost use lib.ListN.{length};
 ghost use Rattle.model.specs.Book.{queue};
 ghost use Rattle.model.specs.Auction.{volume};
 ghost use Rattle.model.specs.Pairing.{tradesAt};
 ghost use Rattle.book.specs.Rows.{bookOf, tradeRows};
 ghost use Rattle.book.specs.Standing.{Standing};
-ghost use Rattle.book.specs.Tickets.{ticketsFrom, lastOf, soonest, atTicket, Line};
+ghost use Rattle.book.specs.Tickets.{lastOf, soonest, atTicket, ticketsIn, Line, SamePast};
 ghost use Rattle.book.specs.Writing.{front};
 ghost use Rattle.pairing.specs.Heads.{headAt, headOn, headMark};
 ghost use Rattle.pairing.specs.Marks.{markAfter};
@@ -35,14 +35,14 @@ pub struct Paired {
     pub sells: Mark,
 }
 
-// The first order after a key among those that have the tickets.
-fn head_after(rows: &[[u64; 5]], tickets: &[u64], kept: &mut [u64], after: u64) -> Head
-    requires { ⌜ length (now tickets) ≤ 4_096 ⌝ }
-    requires { ⌜ Line (now rows) (now tickets) after (now kept) ⌝ }
-    ensures { λ r. ⌜ r ≡ headAt after (atTicket (now (rows .entry)) (soonest (lastOf after) (now (tickets .entry)))) ⌝ }
-    ensures { λ r. ⌜ Line (now (rows .entry)) (now (tickets .entry)) after (now (kept .exit)) ⌝ }
+// The first order after a key among those whose tickets are in the tree.
+fn head_after(rows: &[[u64; 5]], tree: &mut [u64], after: u64) -> Head
+    requires { ⌜ Line (now rows) after (now tree) ⌝ }
+    ensures { λ r. ⌜ r ≡ headAt after (atTicket (now (rows .entry)) (soonest (lastOf after) (ticketsIn (now (tree .entry))))) ⌝ }
+    ensures { λ r. ⌜ Line (now (rows .entry)) after (now (tree .exit)) ⌝ }
+    ensures { λ r. ⌜ SamePast after (ticketsIn (now (tree .entry))) (ticketsIn (now (tree .exit))) ⌝ }
 {
-    let next = next_by_ticket(rows, tickets, &mut *kept, after);
+    let next = next_by_ticket(rows, &mut *tree, after);
     match next {
         Next::Nothing => Head {
             number: 0,
@@ -58,11 +58,11 @@ fn head_after(rows: &[[u64; 5]], tickets: &[u64], kept: &mut [u64], after: u64) 
 }
 
 // The head when q of it have traded: itself while something is left, else the next.
-fn head_past(rows: &[[u64; 5]], tickets: &[u64], kept: &mut [u64], h: Head, q: u64) -> Head
-    requires { ⌜ Line (now rows) (now tickets) (h .key) (now kept) ⌝ }
-    requires { ⌜ length (now tickets) ≤ 4_096 ⌝ }
-    ensures { λ r. ⌜ r ≡ headOn q h (atTicket (now (rows .entry)) (soonest (lastOf (h .key)) (now (tickets .entry)))) ⌝ }
-    ensures { λ r. ⌜ Line (now (rows .entry)) (now (tickets .entry)) (h .key) (now (kept .exit)) ⌝ }
+fn head_past(rows: &[[u64; 5]], tree: &mut [u64], h: Head, q: u64) -> Head
+    requires { ⌜ Line (now rows) (h .key) (now tree) ⌝ }
+    ensures { λ r. ⌜ r ≡ headOn q h (atTicket (now (rows .entry)) (soonest (lastOf (h .key)) (ticketsIn (now (tree .entry))))) ⌝ }
+    ensures { λ r. ⌜ Line (now (rows .entry)) (h .key) (now (tree .exit)) ⌝ }
+    ensures { λ r. ⌜ SamePast (h .key) (ticketsIn (now (tree .entry))) (ticketsIn (now (tree .exit))) ⌝ }
 {
     if q < h.left {
         return Head {
@@ -71,7 +71,7 @@ fn head_past(rows: &[[u64; 5]], tickets: &[u64], kept: &mut [u64], h: Head, q: u
             key: h.key,
         };
     }
-    head_after(rows, tickets, &mut *kept, h.key)
+    head_after(rows, &mut *tree, h.key)
 }
 
 // How far a side has traded, when this is its head and nothing more trades.
@@ -84,31 +84,29 @@ fn head_mark(h: Head) -> Mark
     }
 }
 
-// The trades of an auction at a price, from the tickets of both sides: all are counted, and written while there is room.
+// The trades of an auction at a price: all are counted, and written while there is room. The trees are for the sides' tickets.
 fn pair_lines(
     rows: &[[u64; 5]],
-    buys: &[u64],
-    bought: &mut [u64],
-    sells: &[u64],
-    sold: &mut [u64],
+    buys: &mut [u64],
+    sells: &mut [u64],
     trades: &mut [[u64; 6]],
     room: usize,
     price: u64,
 ) -> Paired
     requires { ⌜ Standing (bookOf (now rows)) ⌝ }
-    requires { ⌜ now buys ≡ ticketsFrom 0 0 (bookOf (now rows)) ⌝ }
-    requires { ⌜ now sells ≡ ticketsFrom 1 0 (bookOf (now rows)) ⌝ }
-    requires { ⌜ Line (now rows) (now buys) 0 (now bought) ⌝ }
-    requires { ⌜ Line (now rows) (now sells) 0 (now sold) ⌝ }
+    requires { ⌜ length (now buys) ≡ 2 * length (now rows) ⌝ }
+    requires { ⌜ length (now sells) ≡ 2 * length (now rows) ⌝ }
     requires { ⌜ room ≤ length (now trades) ⌝ }
     ensures { λ r. ⌜ r .made ≡ length (tradesAt price (bookOf (now (rows .entry)))) ⌝ }
     ensures { λ r. ⌜ r .buys ≡ markAfter 0 (volume (bookOf (now (rows .entry))) price) (queue 0 (bookOf (now (rows .entry)))) ⌝ }
     ensures { λ r. ⌜ r .sells ≡ markAfter 0 (volume (bookOf (now (rows .entry))) price) (queue 1 (bookOf (now (rows .entry)))) ⌝ }
     ensures { λ r. ⌜ now (trades .exit) ≡ front room (tradeRows (tradesAt price (bookOf (now (rows .entry))))) (now (trades .entry)) ⌝ }
 {
+    hand_out(rows, 0, &mut *buys);
+    hand_out(rows, 1, &mut *sells);
     let mut left = volume_at(rows, price);
-    let mut buy = head_after(rows, buys, &mut *bought, 0);
-    let mut sell = head_after(rows, sells, &mut *sold, 0);
+    let mut buy = head_after(rows, &mut *buys, 0);
+    let mut sell = head_after(rows, &mut *sells, 0);
     let mut made: usize = 0;
     while 0 < left {
         let granted = smaller(left, buy.left);
@@ -127,8 +125,8 @@ fn pair_lines(
         put_trade_below(&mut *trades, room, made, trade);
         made += 1;
         left -= quantity;
-        buy = head_past(rows, buys, &mut *bought, buy, quantity);
-        sell = head_past(rows, sells, &mut *sold, sell, quantity);
+        buy = head_past(rows, &mut *buys, buy, quantity);
+        sell = head_past(rows, &mut *sells, sell, quantity);
     }
     Paired {
         made,
@@ -137,7 +135,7 @@ fn pair_lines(
     }
 }
 
-// The same on a book: a pass over it for each side hands out the tickets.
+// The same with trees as large as the book needs: to set them to zero takes time.
 pub fn pair_at(rows: &[[u64; 5]], trades: &mut [[u64; 6]], room: usize, price: u64) -> Paired
     requires { ⌜ Standing (bookOf (now rows)) ⌝ }
     requires { ⌜ room ≤ length (now trades) ⌝ }
@@ -146,20 +144,28 @@ pub fn pair_at(rows: &[[u64; 5]], trades: &mut [[u64; 6]], room: usize, price: u
     ensures { λ r. ⌜ r .sells ≡ markAfter 0 (volume (bookOf (now (rows .entry))) price) (queue 1 (bookOf (now (rows .entry)))) ⌝ }
     ensures { λ r. ⌜ now (trades .exit) ≡ front room (tradeRows (tradesAt price (bookOf (now (rows .entry))))) (now (trades .entry)) ⌝ }
 {
-    let mut buys = [0; 4_096];
-    let mut sells = [0; 4_096];
-    let b = hand_out(rows, 0, &mut buys[..]);
-    let s = hand_out(rows, 1, &mut sells[..]);
-    let mut bought = [0; 128];
-    let mut sold = [0; 128];
-    pair_lines(
-        rows,
-        &buys[..b],
-        &mut bought[..],
-        &sells[..s],
-        &mut sold[..],
-        &mut *trades,
-        room,
-        price,
-    )
+    let size = 2 * rows.len();
+    if size <= 2_048 {
+        let mut buys = [0; 2_048];
+        let mut sells = [0; 2_048];
+        pair_lines(
+            rows,
+            &mut buys[..size],
+            &mut sells[..size],
+            &mut *trades,
+            room,
+            price,
+        )
+    } else {
+        let mut buys = [0; 8_192];
+        let mut sells = [0; 8_192];
+        pair_lines(
+            rows,
+            &mut buys[..size],
+            &mut sells[..size],
+            &mut *trades,
+            room,
+            price,
+        )
+    }
 }

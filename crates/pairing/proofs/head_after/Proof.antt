@@ -1,6 +1,7 @@
 -- The next order is the head, where there is one.
-use Rattle.pairing.proofs.HeadLines.{head-none, head-some}
 use mathlib.Core.Path.{sym, _∙_}
+use Rattle.book.proofs.Lines.{same-past}
+use Rattle.pairing.proofs.HeadLines.{head-none, head-some}
 use borrow.Author.Needs.{needs}
 use Rattle.pairing.proofs.head_after.Statement.{statement}
 use Rattle.pairing.proofs.head_after.Tie as tie
@@ -20,7 +21,8 @@ same-length c = search needs
 returns : tie.Need-returns
 returns c =
     let n = c .before .before .before .before in
-    (head-none _ (sym (n .next-by-ticket .ensures .0) ∙ c .enum-told .given .1), n .next-by-ticket .ensures .1)
+    let e = n .next-by-ticket .ensures in
+    (head-none _ (sym (e .0) ∙ c .enum-told .given .1), (e .1 .0, same-past _ _ (e .1 .1 .0)))
 
 same-length-2 : tie.Need-same-length-2
 same-length-2 c = search needs
@@ -28,7 +30,8 @@ same-length-2 c = search needs
 returns-2 : tie.Need-returns-2
 returns-2 c =
     let n = c .before .before .before .before .before in
-    (head-some _ (sym (n .next-by-ticket .ensures .0) ∙ c .before .next .given .1), n .next-by-ticket .ensures .1)
+    let e = n .next-by-ticket .ensures in
+    (head-some _ (sym (e .0) ∙ c .before .next .given .1), (e .1 .0, same-past _ _ (e .1 .1 .0)))
 
 pub head-after-spec : {M : Type 1} → statement M
 head-after-spec =
