@@ -1,6 +1,6 @@
 -- An order and a move of the clock on bytes: what was made goes to the front of the trades' bytes, the day and the book are
 -- those of the outcome, and a refusal by a length leaves everything as it was. Assumes nothing.
-use Prim.Native.Nat.{ℕ, zero, suc, _*_, _/_, _≤_, _<_, min}
+use Prim.Native.Nat.{ℕ, zero, suc, _*_, _/_, _≤_, _<_}
 use mathlib.Core.Path.{_≡_, refl, sym, ap, _∙_}
 use mathlib.Core.List.{List, [], _∷_, _++_, append-assoc}
 use native.Mathlib.Omega.{arith}
@@ -27,7 +27,15 @@ use Rattle.wire.proofs.Runs.{flat-append, flat-drop}
 use Rattle.wire.proofs.Sizes.{length-trade, length-trades}
 use Rattle.wire.proofs.Back.{AllBytes, length-parts, trades-again, trades-kept, day-kept, book-kept}
 use Rattle.wire.proofs.Refused.{length-book-in, too-many-unsound}
-use Rattle.wire.proofs.Rooms.{Alike, order-alike, clock-alike}
+use Rattle.wire.proofs.Rooms.{
+  Alike,
+  order-made-few,
+  order-alike,
+  order-lacks,
+  clock-made-few,
+  clock-alike,
+  clock-lacks,
+}
 
 -- ---- the trades' bytes
 
@@ -73,29 +81,21 @@ over-written new b s h =
 
 -- ---- the call on rows
 
-module _ {A : Type 0} (made : A → ℕ) (book trades : List ℕ) (list : List (List ℕ)) (k : length list ≡ min (length book / 40) (length trades / 48)) where
-  rows-made :
-      (rows' list' : List (List ℕ)) {o p : Outcome A} {r : A}
-      → Alike made (tradesOf list) (tradesIn trades) o p
-      → promises.left r rows' list' ≡ o
-      → made r ≤ length list
-  rows-made rows' list' {o} {p} {r} a e =
-      let c : made r ≡ length (a .new) = ap (λ (o : Outcome A). made (o .answer)) e ∙ a .count in
-      omega (arith, a .fits, length-map list tradeOf)
-
+module _ {A : Type 0} (made : A → ℕ) (book trades : List ℕ) (list rows' list' : List (List ℕ)) {o p : Outcome A} {r : A}
+    (e : promises.left r rows' list' ≡ o) where
+  -- the trades fit
   rows-traded :
-      (rows' list' : List (List ℕ)) {o p : Outcome A} {r : A} {left' trades' : List ℕ}
+      {left' trades' : List ℕ}
       → Alike made (tradesOf list) (tradesIn trades) o p
-      → promises.left r rows' list' ≡ o
+      → made r ≤ length trades / 48
       → left' ≡ over (bookBytes (bookOf rows')) book
       → trades' ≡ over (tradesBytes (tradesOf (take (made r) list'))) trades
       → AllBytes trades
       → Traded r left' trades' p book trades
   unfolding written
-  rows-traded rows' list' {o} {p} {r} {left'} {trades'} a e w v s =
+  rows-traded a h w v s =
       let new : List Trade = a .new in
       let c : made r ≡ length new = ap (λ (o : Outcome A). made (o .answer)) e ∙ a .count in
-      let f : length new ≤ length trades / 48 = omega (arith, a .fits, length-map list tradeOf) in
       let l : tradesOf list' ≡ written new (tradesOf list) = ap (λ (o : Outcome A). o .trades) e ∙ a .there in
       let n : tradesOf (take (made r) list') ≡ new =
       trades-take (made r) list' ∙ rw (c, l) (take-at new (drop (length new) (tradesOf list)) (length new) refl) in
@@ -107,57 +107,109 @@ module _ {A : Type 0} (made : A → ℕ) (book trades : List ℕ) (list : List (
         written =
             v
             ∙ ap (λ (ts : List Trade). over (tradesBytes ts) trades) n
-            ∙ sym (over-written new trades s f)
+            ∙ sym (over-written new trades s (omega arith))
             ∙ ap (λ (ts : List Trade). over (tradesBytes ts) trades) (sym (a .here));
       }
+
+-- they do not, and every byte stays
+rows-kept :
+    {A : Type 0} {r : A} (p : Outcome A) (book trades : List ℕ)
+    → p ≡ record { answer = r; book = bookIn book; trades = tradesIn trades }
+    → AllBytes book
+    → AllBytes trades
+    → Traded r book trades p book trades
+rows-kept p book trades e sb st =
+    rw e (record { told = refl; places = sym (book-kept book sb); written = sym (trades-kept trades st) })
 
 module _ (day book trades : List ℕ) (rows list : List (List ℕ)) {d : Day}
     (b : bookOf rows ≡ bookIn book)
     (e : d ≡ dayIn day)
-    (k : length list ≡ min (length book / 40) (length trades / 48)) where
-  short : length (tradesOf list) ≡ min (length (bookIn book)) (length (tradesIn trades))
-  short = rw (length-map, length-book-in, length-trades-in) k
-
-  order-like :
-      (a : Asked)
-      → Alike (λ (r : OrderAnswer). r .made) (tradesOf list) (tradesIn trades)
-      (orderCall d a (bookOf rows) (tradesOf list))
-      (orderCall (dayIn day) a (bookIn book) (tradesIn trades))
-  order-like a = rw (e, b) (order-alike (bookIn book) (tradesOf list) (tradesIn trades) short (dayIn day) a)
-
-  clock-like :
-      (t : ℕ)
-      → Alike (λ (r : ClockAnswer). r .made) (tradesOf list) (tradesIn trades)
-      (clockCall d t (bookOf rows) (tradesOf list))
-      (clockCall (dayIn day) t (bookIn book) (tradesIn trades))
-  clock-like t = rw (e, b) (clock-alike (bookIn book) (tradesOf list) (tradesIn trades) short (dayIn day) t)
+    (k : length list ≡ length book / 40) where
+  long : length (tradesOf list) ≡ length (bookIn book)
+  long = rw (length-map, length-book-in) k
 
   module _ (rows' list' : List (List ℕ)) where
     module _ (a : Asked) {r : OrderAnswer} (p : promises.left r rows' list' ≡ orderCall d a (bookOf rows) (tradesOf list)) where
+      same-order : orderCall d a (bookOf rows) (tradesOf list) ≡ orderCall (dayIn day) a (bookIn book) (tradesOf list)
+      same-order = rw (e, b)
+
+      order-count : r .made ≡ orderCall (dayIn day) a (bookIn book) (tradesOf list) .answer .made
+      order-count = ap (λ (o : Outcome OrderAnswer). o .answer .made) (p ∙ same-order)
+
       pub order-made : r .made ≤ length list
-      order-made = rows-made (λ (r : OrderAnswer). r .made) book trades list k rows' list' (order-like a) p
+      order-made =
+          omega (
+            arith,
+            order-count,
+            order-made-few (bookIn book) (tradesOf list) (tradesIn trades) long (dayIn day) a,
+            length-map list tradeOf,
+          )
 
       pub order-rows :
           {left' trades' : List ℕ}
+          → r .made ≤ length trades / 48
           → left' ≡ over (bookBytes (bookOf rows')) book
           → trades' ≡ over (tradesBytes (tradesOf (take (r .made) list'))) trades
           → AllBytes trades
           → Traded r left' trades' (orderCall (dayIn day) a (bookIn book) (tradesIn trades)) book trades
-      order-rows w v s =
-          rows-traded (λ (r : OrderAnswer). r .made) book trades list k rows' list' (order-like a) p w v s
+      order-rows h w v s =
+          rows-traded (λ (r : OrderAnswer). r .made) book trades list rows' list' (p ∙ same-order)
+          (order-alike (bookIn book) (tradesOf list) (tradesIn trades) long (dayIn day) a
+          (omega (arith, order-count, length-trades-in trades)))
+          h w v s
+
+      pub order-short :
+          length trades / 48 < r .made
+          → AllBytes book
+          → AllBytes trades
+          → Traded (promises.orderRefused d 13) book trades (orderCall (dayIn day) a (bookIn book) (tradesIn trades)) book trades
+      order-short h sb st =
+          rows-kept _ book trades
+          (order-lacks (bookIn book) (tradesOf list) (tradesIn trades) long (dayIn day) a
+          (omega (arith, order-count, length-trades-in trades))
+          ∙ ap (λ (x : Day). record { answer = promises.orderRefused x 13; book = bookIn book; trades = tradesIn trades }) (sym e))
+          sb st
 
     module _ (t : ℕ) {r : ClockAnswer} (p : promises.left r rows' list' ≡ clockCall d t (bookOf rows) (tradesOf list)) where
+      same-clock : clockCall d t (bookOf rows) (tradesOf list) ≡ clockCall (dayIn day) t (bookIn book) (tradesOf list)
+      same-clock = rw (e, b)
+
+      clock-count : r .made ≡ clockCall (dayIn day) t (bookIn book) (tradesOf list) .answer .made
+      clock-count = ap (λ (o : Outcome ClockAnswer). o .answer .made) (p ∙ same-clock)
+
       pub clock-made : r .made ≤ length list
-      clock-made = rows-made (λ (r : ClockAnswer). r .made) book trades list k rows' list' (clock-like t) p
+      clock-made =
+          omega (
+            arith,
+            clock-count,
+            clock-made-few (bookIn book) (tradesOf list) (tradesIn trades) long (dayIn day) t,
+            length-map list tradeOf,
+          )
 
       pub clock-rows :
           {left' trades' : List ℕ}
+          → r .made ≤ length trades / 48
           → left' ≡ over (bookBytes (bookOf rows')) book
           → trades' ≡ over (tradesBytes (tradesOf (take (r .made) list'))) trades
           → AllBytes trades
           → Traded r left' trades' (clockCall (dayIn day) t (bookIn book) (tradesIn trades)) book trades
-      clock-rows w v s =
-          rows-traded (λ (r : ClockAnswer). r .made) book trades list k rows' list' (clock-like t) p w v s
+      clock-rows h w v s =
+          rows-traded (λ (r : ClockAnswer). r .made) book trades list rows' list' (p ∙ same-clock)
+          (clock-alike (bookIn book) (tradesOf list) (tradesIn trades) long (dayIn day) t
+          (omega (arith, clock-count, length-trades-in trades)))
+          h w v s
+
+      pub clock-short :
+          length trades / 48 < r .made
+          → AllBytes book
+          → AllBytes trades
+          → Traded (promises.clockRefused d 13) book trades (clockCall (dayIn day) t (bookIn book) (tradesIn trades)) book trades
+      clock-short h sb st =
+          rows-kept _ book trades
+          (clock-lacks (bookIn book) (tradesOf list) (tradesIn trades) long (dayIn day) t
+          (omega (arith, clock-count, length-trades-in trades))
+          ∙ ap (λ (x : Day). record { answer = promises.clockRefused x 13; book = bookIn book; trades = tradesIn trades }) (sym e))
+          sb st
 
 -- ---- what is left
 

@@ -18,21 +18,15 @@ use model::ClockReply;
 use model::OrderAnswer;
 use model::OrderReply;
 ghost use mathlib.Core.Path.{_≡_};
-ghost use Prim.Native.Nat.{_/_, _≤_, min};
+ghost use Prim.Native.Nat.{_/_, _≤_};
 ghost use lib.ListN.{length};
 ghost use Rattle.model.specs.Calls.{orderCall};
 ghost use Rattle.model.specs.ClockCall.{clockCall};
 ghost use Rattle.wire.specs.Layout.{dayIn, bookIn, tradesIn};
 ghost use Rattle.wire.specs.Exports.{Traded, tradeLeft, orderLeaves, clockLeaves};
 
-// As many trades as a lent list has places, and never more than the book has: no event has more.
-fn few(places: usize, n: usize) -> usize
-    ensures { λ r. ⌜ r ≡ min places n ⌝ }
-{
-    if places < n { places } else { n }
-}
-
-// The bytes as rows, the call on the rows, and the rows and the trades that were made as bytes again.
+// The bytes as rows, the call on the rows, and the rows and the trades that were made as bytes again. No event has more trades than
+// the book has places, so the local list has room for all; 13, more than the lent one has room for, is the last rule, and told then.
 fn order_in(
     day: &[u8],
     book: &mut [u8],
@@ -43,13 +37,21 @@ fn order_in(
 ) -> OrderAnswer
     requires { ⌜ length (now day) ≡ 64 ⌝ }
     requires { ⌜ length (now rows) ≡ length (now book) / 40 ⌝ }
-    requires { ⌜ length (now list) ≡ min (length (now book) / 40) (length (now trades) / 48) ⌝ }
+    requires { ⌜ length (now list) ≡ length (now book) / 40 ⌝ }
     ensures { λ r. ⌜ Traded r (now (book .exit)) (now (trades .exit)) (orderCall (dayIn (now (day .entry))) a (bookIn (now (book .entry))) (tradesIn (now (trades .entry)))) (now (book .entry)) (now (trades .entry)) ⌝ }
 {
     load_book(book, &mut *rows);
-    let answer = enter_order(day_in(day), a, &mut *rows, &mut *list);
-    store_book(book, rows);
+    let d = day_in(day);
+    let answer = enter_order(d, a, &mut *rows, &mut *list);
     let made = answer.made;
+    if trades.len() / 48 < made {
+        return OrderAnswer {
+            reply: OrderReply::Refused(13),
+            made: 0,
+            day: d,
+        };
+    }
+    store_book(book, rows);
     store_trades(trades, &list[..made]);
     answer
 }
@@ -61,10 +63,9 @@ fn order_on_many(day: &[u8], book: &mut [u8], trades: &mut [u8], a: Asked) -> Or
     ensures { λ r. ⌜ Traded r (now (book .exit)) (now (trades .exit)) (orderCall (dayIn (now (day .entry))) a (bookIn (now (book .entry))) (tradesIn (now (trades .entry)))) (now (book .entry)) (now (trades .entry)) ⌝ }
 {
     let n = book.len() / 40;
-    let k = few(n, trades.len() / 48);
     let mut rows = room();
     let mut list = trade_room();
-    order_in(day, book, trades, &mut rows[..n], &mut list[..k], a)
+    order_in(day, book, trades, &mut rows[..n], &mut list[..n], a)
 }
 
 // In rooms for 1,024.
@@ -74,10 +75,9 @@ fn order_on_few(day: &[u8], book: &mut [u8], trades: &mut [u8], a: Asked) -> Ord
     ensures { λ r. ⌜ Traded r (now (book .exit)) (now (trades .exit)) (orderCall (dayIn (now (day .entry))) a (bookIn (now (book .entry))) (tradesIn (now (trades .entry)))) (now (book .entry)) (now (trades .entry)) ⌝ }
 {
     let n = book.len() / 40;
-    let k = few(n, trades.len() / 48);
     let mut rows = small_room();
     let mut list = small_trade_room();
-    order_in(day, book, trades, &mut rows[..n], &mut list[..k], a)
+    order_in(day, book, trades, &mut rows[..n], &mut list[..n], a)
 }
 
 // In rooms as small as the book allows.
@@ -140,13 +140,21 @@ fn clock_in(
 ) -> ClockAnswer
     requires { ⌜ length (now day) ≡ 64 ⌝ }
     requires { ⌜ length (now rows) ≡ length (now book) / 40 ⌝ }
-    requires { ⌜ length (now list) ≡ min (length (now book) / 40) (length (now trades) / 48) ⌝ }
+    requires { ⌜ length (now list) ≡ length (now book) / 40 ⌝ }
     ensures { λ r. ⌜ Traded r (now (book .exit)) (now (trades .exit)) (clockCall (dayIn (now (day .entry))) time (bookIn (now (book .entry))) (tradesIn (now (trades .entry)))) (now (book .entry)) (now (trades .entry)) ⌝ }
 {
     load_book(book, &mut *rows);
-    let answer = move_clock(day_in(day), time, &mut *rows, &mut *list);
-    store_book(book, rows);
+    let d = day_in(day);
+    let answer = move_clock(d, time, &mut *rows, &mut *list);
     let made = answer.made;
+    if trades.len() / 48 < made {
+        return ClockAnswer {
+            reply: ClockReply::Refused(13),
+            made: 0,
+            day: d,
+        };
+    }
+    store_book(book, rows);
     store_trades(trades, &list[..made]);
     answer
 }
@@ -158,10 +166,9 @@ fn clock_on_many(day: &[u8], book: &mut [u8], trades: &mut [u8], time: u64) -> C
     ensures { λ r. ⌜ Traded r (now (book .exit)) (now (trades .exit)) (clockCall (dayIn (now (day .entry))) time (bookIn (now (book .entry))) (tradesIn (now (trades .entry)))) (now (book .entry)) (now (trades .entry)) ⌝ }
 {
     let n = book.len() / 40;
-    let k = few(n, trades.len() / 48);
     let mut rows = room();
     let mut list = trade_room();
-    clock_in(day, book, trades, &mut rows[..n], &mut list[..k], time)
+    clock_in(day, book, trades, &mut rows[..n], &mut list[..n], time)
 }
 
 // In rooms for 1,024.
@@ -171,10 +178,9 @@ fn clock_on_few(day: &[u8], book: &mut [u8], trades: &mut [u8], time: u64) -> Cl
     ensures { λ r. ⌜ Traded r (now (book .exit)) (now (trades .exit)) (clockCall (dayIn (now (day .entry))) time (bookIn (now (book .entry))) (tradesIn (now (trades .entry)))) (now (book .entry)) (now (trades .entry)) ⌝ }
 {
     let n = book.len() / 40;
-    let k = few(n, trades.len() / 48);
     let mut rows = small_room();
     let mut list = small_trade_room();
-    clock_in(day, book, trades, &mut rows[..n], &mut list[..k], time)
+    clock_in(day, book, trades, &mut rows[..n], &mut list[..n], time)
 }
 
 // In rooms as small as the book allows.
