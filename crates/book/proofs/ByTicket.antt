@@ -100,7 +100,7 @@ module _ (side : ℕ) (book : List Order) (few : length book ≤ 4_096) where
   tickets-own fair i h = elim (ticket-of i l) [
     | inl z ↦ inl z
     | inr (on, e) ↦
-        let most : key (getD book i free) ≤ 1_000_000_999_999 = key-most (getD book i free) (each-at Fair book i free l fair) in
+        let most : key (getD book i free) ≤ 1_000_000_999_999 = key-most (getD book i free) (each-at Fair book free fair i l) in
         inr (omega (arith, l, few), omega (arith, l, few))
   ]
     where
@@ -140,8 +140,8 @@ module _ (side : ℕ) (book : List Order) (few : length book ≤ 4_096) where
           let o : Order = getD book i free in
           let e : getD tickets i 0 ≡ ticketOf i o = ticket-at i h ∙ on-ticket side i o on in
           let first : lastOf after < getD tickets i 0 → soonest (lastOf after) tickets ≤ getD tickets i 0 =
-          each-at (λ t. lastOf after < t → soonest (lastOf after) tickets ≤ t) tickets i 0 (omega (arith, tickets-length side 0 book))
-          (soonest-first (lastOf after) tickets)
+          each-at (λ t. lastOf after < t → soonest (lastOf after) tickets ≤ t) tickets 0 (soonest-first (lastOf after) tickets) i
+          (omega (arith, tickets-length side 0 book))
           in
           let l : lastOf after < getD tickets i 0 = omega (arith, past-ticket after i o past) in
           omega (arith, first l, ticket-last i o (omega arith))

@@ -72,7 +72,7 @@ module _ (side after : ℕ) (book : List Order) (s : Standing book) where
 
       go : (rest : List Order) → beyond after (queue side book) ≡ rest → nextOf rest ≡ At o (key o)
       go [] e =
-          absurd (omega (arith, each-at (λ x. standsOn side x ≡ true → key x ≤ after) book place free h before on))
+          absurd (omega (arith, each-at (λ x. standsOn side x ≡ true → key x ≤ after) book free before place h on))
         where
           before : Each (λ x. standsOn side x ≡ true → key x ≤ after) book
           before =
@@ -80,7 +80,7 @@ module _ (side after : ℕ) (book : List Order) (s : Standing book) where
               (each (λ x. isPast after x ≡ false) (λ x. key x ≤ after) (queue side book)
               (λ x f. unfold isPast in ltb-false after (key x) f)
               (none-kept (isPast after) (queue side book) (unfold beyond in e)))
-      go (x ∷ xs) e = pick (each-at (λ y. standsOn side y ≡ true → Around after x y) book place free h placed on)
+      go (x ∷ xs) e = pick (each-at (λ y. standsOn side y ≡ true → Around after x y) book free placed place h on)
         where
           placed : Each (λ y. standsOn side y ≡ true → Around after x y) book
           placed = each-on (Around after x) side book (around-first 0 after (queue side book) x xs (queue-rising side book s) e)

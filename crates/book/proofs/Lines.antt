@@ -11,9 +11,9 @@ use Rattle.model.specs.Book.{queue}
 use Rattle.book.specs.declared.Next.{Next}
 use Rattle.book.specs.declared.Next.the-variants.{At, Nothing}
 use Rattle.book.specs.Rows.{orderOf, bookOf}
-use Rattle.book.specs.Standing.{Each, Standing}
-use Rattle.book.specs.Priority.{key, beyond, nextOf}
-use Rattle.book.specs.Tickets.{ticketsFrom, lastOf, never, remaining, soonest, atTicket, ticketsIn, Tree, Own, Line, SamePast, LineOf}
+use Rattle.book.specs.Standing.{Standing}
+use Rattle.book.specs.Priority.{beyond, nextOf}
+use Rattle.book.specs.Tickets.{ticketsFrom, lastOf, never, remaining, soonest, atTicket, ticketsIn, Tree, Line, SamePast, LineOf}
 use Rattle.book.proofs.Lists.{at-each}
 use Rattle.book.proofs.Soonest.{remaining-all, remaining-again, soonest-none, soonest-again, soonest-has}
 use Rattle.book.proofs.Trees.{own-remaining, tickets-half, top-soonest}

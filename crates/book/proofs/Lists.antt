@@ -184,12 +184,17 @@ none-kept p (x ∷ xs) e = go (p x) refl e (none-kept p xs)
     go false f h rest = (f, rest h)
 
 -- what each has, the one at each place has
-pub each-at : {A : Type 0} (P : A → Type 0) (xs : List A) (i : ℕ) (d : A) → i < length xs → Each P xs → P (getD xs i d)
-each-at P [] i d h e = absurd (not-suc-le-zero h)
-each-at P (x ∷ xs) zero d h e = e .0
-each-at P (x ∷ xs) (suc i) d h e = each-at P xs i d (le-of-suc-le-suc h) (e .1)
+pub each-at : {A : Type 0} (P : A → Type 0) (xs : List A) (d : A) → Each P xs → (i : ℕ) → i < length xs → P (getD xs i d)
+each-at P [] d e i h = absurd (not-suc-le-zero h)
+each-at P (x ∷ xs) d e zero h = e .0
+each-at P (x ∷ xs) d e (suc i) h = each-at P xs d (e .1) i (le-of-suc-le-suc h)
 
 pub at-each :
     {A : Type 0} (P : A → Type 0) (xs : List A) (d : A) → ((i : ℕ) → i < length xs → P (getD xs i d)) → Each P xs
 at-each P [] d f = tt
 at-each P (x ∷ xs) d f = (f 0 (omega arith), at-each P xs d (λ i h. f (suc i) (omega arith)))
+
+-- two lists in a row
+pub each-append : {A : Type 0} (P : A → Type 0) (xs ys : List A) → Each P xs → Each P ys → Each P (xs ++ ys)
+each-append P [] ys e f = f
+each-append P (x ∷ xs) ys e f = (e .0, each-append P xs ys (e .1) f)

@@ -234,7 +234,7 @@ pub fair-of :
     → o ≡ orderOf (getD rows i [])
     → Fair o
 fair-of rows i o h l e =
-    rw (e ∙ book-at rows i) (each-at Fair (bookOf rows) i free (omega (arith, length-map rows orderOf)) h)
+    rw (e ∙ book-at rows i) (each-at Fair (bookOf rows) free h i (omega (arith, length-map rows orderOf)))
 
 -- ---- the best price is the first one's
 

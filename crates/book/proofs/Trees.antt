@@ -157,7 +157,7 @@ module _ {tree : List ℕ} (t : Tree tree) where
                   arith,
                   at i h,
                   still-is gone (getD tickets i 0) p,
-                  each-at (λ n. gone < n → soonest gone tickets ≤ n) tickets i 0 h (soonest-first gone tickets) p,
+                  each-at (λ n. gone < n → soonest gone tickets ≤ n) tickets 0 (soonest-first gone tickets) i h p,
                 )
             | no p ↦ omega (arith, at i h, still-not gone (getD tickets i 0) (omega arith), soonest-most gone tickets)
           ]

@@ -26,7 +26,7 @@ use Rattle.model.specs.Calls.{written, placed, entered, orderCall}
 use Rattle.model.specs.ClockCall.{auctionTrades, hold, start, moved, clockCall}
 use Rattle.book.specs.Standing.{Each, Fair, Standing}
 use Rattle.book.specs.Places.{lowestFree}
-use Rattle.book.proofs.Lists.{both as each-both, each, every}
+use Rattle.book.proofs.Lists.{both as each-both, each, every, each-at}
 use Rattle.book.proofs.Queues.{number-live}
 use Rattle.book.proofs.Finding.{rest-set}
 use Rattle.book.proofs.Kept.{New, new-fresh, free-number, set-each, less-by, standing-settle, fresh-settle}
@@ -37,7 +37,7 @@ use Rattle.pairing.proofs.Auctions.{auction-uncrosses, uncrossed-none}
 use Rattle.pairing.proofs.Moves.{both, moved-by}
 use Rattle.demands.specs.Pricing.{Sound}
 use Rattle.demands.specs.Leaving.{leftIn, Falls, lastLeft, Stands, EachFalls, EachStands, Incoming}
-use Rattle.demands.proofs.Elements.{each-at, each-map}
+use Rattle.demands.proofs.Elements.{each-map}
 use Rattle.demands.proofs.Cases.{order-cases, clock-cases}
 use Rattle.demands.proofs.Settled.{settle-length}
 use Rattle.demands.proofs.Pricings.{sound-stands}

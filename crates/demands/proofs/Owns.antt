@@ -19,12 +19,12 @@ use Rattle.model.specs.Calls.{isOwn, cancelRules, cancelCall}
 use Rattle.model.proofs.Bools.{and-left, and-right}
 use Rattle.book.specs.Standing.{Fair, Apart, Standing}
 use Rattle.book.specs.Places.{firstWith, placeOf}
+use Rattle.book.proofs.Lists.{each-at}
 use Rattle.book.proofs.Queues.{live-number}
 use Rattle.book.proofs.Finding.{own-any, cancel-set, cancel-left}
 use Rattle.demands.specs.Refusing.{NoneOf}
 use Rattle.demands.specs.Pricing.{Sound}
 use Rattle.demands.specs.Owning.{TakesOut}
-use Rattle.demands.proofs.Elements.{each-at}
 use Rattle.demands.proofs.FirstRules.{gives-none}
 use Rattle.demands.proofs.Refusals.{cancel-numbers}
 use Rattle.demands.proofs.Cases.{cancel-cases}

@@ -12,10 +12,10 @@ use Rattle.model.specs.declared.Day.{Day}
 use Rattle.model.specs.Matching.{lastPrice}
 use Rattle.model.specs.Figures.{reference, closePrice}
 use Rattle.model.specs.Session.{Desk}
+use Rattle.book.proofs.Lists.{each-append}
 use Rattle.demands.specs.Pricing.{Sound}
 use Rattle.demands.specs.Totalling.{Totals}
 use Rattle.demands.specs.Running.{Event, Moves, Enters, Cancels, tradedBy, stepped, after, tradesIn}
-use Rattle.demands.proofs.Elements.{each-append}
 use Rattle.demands.proofs.Totals.{Prices, totals-join, totals-none, order-totals, order-prices, clock-totals, clock-prices}
 use Rattle.demands.proofs.Answers.{event-sound}
 

@@ -14,7 +14,7 @@ use Rattle.model.specs.Figures.{freshDay, openPrice, closePrice}
 use Rattle.model.specs.Calls.{cancelCall}
 use Rattle.model.specs.Session.{Desk}
 use Rattle.book.specs.Standing.{Each}
-use Rattle.book.proofs.Lists.{each}
+use Rattle.book.proofs.Lists.{each, each-at}
 use Rattle.book.proofs.Kept.{free-number}
 use Rattle.matching.proofs.Trades.{Some}
 use Rattle.soundness.proofs.SoundDays.{sound-day}
@@ -27,7 +27,7 @@ use Rattle.demands.proofs.Issued.{run-counts}
 use Rattle.demands.proofs.Owned.{Known, Owned, run-owned}
 use Rattle.demands.proofs.RunTotals.{run-prices, run-totals, close-is}
 use Rattle.demands.proofs.Owns.{cancel-own}
-use Rattle.demands.proofs.Elements.{each-at, some-map}
+use Rattle.demands.proofs.Elements.{some-map}
 
 run-sound : (es : List Event) (s : Desk) → Sound (s .day) (s .book) → Sound (after es s .day) (after es s .book)
 unfolding after

@@ -15,9 +15,10 @@ use Rattle.model.specs.Replies.{orderNumbers, entryNumbers}
 use Rattle.book.specs.Standing.{Each}
 use Rattle.auction.specs.Stars.{stars}
 use Rattle.auction.proofs.Stars.{stars-right}
+use Rattle.book.proofs.Lists.{each-append}
 use Rattle.matching.proofs.Situations.{table, situations}
 use Rattle.demands.specs.Starred.{Passes, limits, Priced, Limited, Swept, rows, Told}
-use Rattle.demands.proofs.Elements.{each-map, each-append}
+use Rattle.demands.proofs.Elements.{each-map}
 
 limits-right : Each Passes limits
 unfolding keep all any total among once different closed laterRows holding rowAt phaseAt takesOrders continuous isTime free isLive standsOn better ahead insert inPriority queue other headPrice best meets within fiveBest atFiveBest tradeWith sweep filled levels lastPrice firstPrice isIn filledOf lessBy settle rest isPrice isQuantity inBand nextNumber issue tally money bestWithin entryPrice opposite entryTrades restPrice hasPlaces isMark mayStand soundFigures isFree isOrder ownNumbers isEmpty crosses between sharesFit pricesFit turnoverFits sound _when_ firstOf unsound orderRules ended placed entered orderCall buyInRange sellInRange inRange reference base orderNumbers entryNumbers

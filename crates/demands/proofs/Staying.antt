@@ -25,14 +25,13 @@ use Rattle.model.specs.ClockCall.{auctionTrades, hold, start, moved, clockCall}
 use Rattle.model.proofs.Bools.{not-both}
 use Rattle.book.specs.Standing.{Each, Fair, Standing}
 use Rattle.book.specs.Places.{lowestFree}
-use Rattle.book.proofs.Lists.{keep-none}
+use Rattle.book.proofs.Lists.{keep-none, each-at}
 use Rattle.book.proofs.Queues.{number-live}
 use Rattle.book.proofs.Settlements.{less-nothing}
 use Rattle.book.proofs.Finding.{rest-set}
 use Rattle.pairing.proofs.Moves.{both, moved-by}
 use Rattle.demands.specs.Owning.{Stays}
 use Rattle.demands.proofs.Cases.{order-cases, clock-cases}
-use Rattle.demands.proofs.Elements.{each-at}
 use Rattle.demands.proofs.Settled.{settle-length}
 use Rattle.demands.proofs.Moved.{not-reached}
 use Rattle.demands.proofs.Owns.{first-passes}

@@ -21,10 +21,10 @@ use Rattle.model.specs.Entry.{entryTrades}
 use Rattle.model.specs.Calls.{written, entered, orderCall}
 use Rattle.model.specs.ClockCall.{auctionTrades, Held, hold, pass, through, start, moved, clockCall}
 use Rattle.book.specs.Standing.{Price, Each}
+use Rattle.book.proofs.Lists.{each-append}
 use Rattle.demands.specs.Pricing.{Sound}
 use Rattle.demands.specs.Totalling.{Totals}
 use Rattle.demands.proofs.Cases.{order-cases, clock-cases}
-use Rattle.demands.proofs.Elements.{each-append}
 use Rattle.demands.proofs.Entered.{allowed, entered-prices}
 use Rattle.demands.proofs.Moved.{Fit, auction-proper, hold-fit, start-fit}
 

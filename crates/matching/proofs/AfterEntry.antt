@@ -3,7 +3,7 @@
 use Prim.Native.Nat.{ℕ, _-_, _≤_, _<_}
 use mathlib.Core.Path.{_≡_, refl, sym, ap, _∙_, subst}
 use mathlib.Core.Bool.{Bool, true, false, cond, _||_}
-use mathlib.Core.List.{List, [], _∷_, _++_}
+use mathlib.Core.List.{List}
 use mathlib.Core.Logic.{_⊎_, inl, inr}
 use native.Mathlib.Omega.{arith}
 use lib.Dec.{leb, eqb}
@@ -21,7 +21,7 @@ use Rattle.model.specs.Sound.{crosses}
 use Rattle.model.specs.Calls.{placed}
 use Rattle.book.specs.Standing.{Each, Standing}
 use Rattle.book.specs.Priority.{rank}
-use Rattle.book.proofs.Lists.{each}
+use Rattle.book.proofs.Lists.{each, each-append}
 use Rattle.book.proofs.Best.{each-on}
 use Rattle.book.proofs.Crossing.{
   Uncrossed,
@@ -64,10 +64,6 @@ worse-unmet side m p l = go (eqb side 0) l
         → cond b (leb p m) (leb m p) ≡ false
     go true l = lt-leb p m l
     go false l = lt-leb m p (omega arith)
-
-each-append : {A : Type 0} (P : A → Type 0) (xs ys : List A) → Each P xs → Each P ys → Each P (xs ++ ys)
-each-append P [] ys e f = f
-each-append P (x ∷ xs) ys e f = (e .0, each-append P xs ys (e .1) f)
 
 module _ (d : Day) (a : Asked) (book : List Order) (standing : Standing book) (now : phaseAt (d .time) ≡ continuous) where
   abbrev ts : List Trade

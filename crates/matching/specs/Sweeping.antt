@@ -1,7 +1,7 @@
 -- An order on its way through the other side: the best prices of a queue, what trades come to, and one step of the way.
 use Prim.Native.Nat.{ℕ, _+_}
 use mathlib.Core.Bool.{Bool, _&&_}
-use mathlib.Core.List.{List, [], _∷_, map}
+use mathlib.Core.List.{List, map}
 use lib.ListN.{length, take}
 use lib.Dec.{ltb, eqb}
 use Rattle.model.specs.declared.Order.{Order}

@@ -8,7 +8,6 @@ use borrow.Author.Tests.{eq-eqb, ne-eqb}
 use lib.Dec.{eqb}
 use Rattle.model.specs.declared.Order.{Order}
 use Rattle.model.specs.Choice.{if_then_else_}
-use Rattle.model.specs.Book.{queue}
 use Rattle.model.specs.Pairing.{cut}
 use Rattle.book.specs.Standing.{Each}
 use Rattle.book.proofs.Lists.{both, each}

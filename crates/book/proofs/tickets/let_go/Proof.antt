@@ -3,7 +3,6 @@ use Prim.Native.Nat.{_+_, _-_}
 use native.Mathlib.Omega.{arith}
 use lib.ListN.{getD}
 use Rattle.book.proofs.LettingGo.{Going, going-first, going-place, going-next, going-later, going-done}
-use borrow.Author.Needs.{needs}
 use Rattle.book.proofs.tickets.let_go.Statement.{statement}
 use Rattle.book.proofs.tickets.let_go.Tie as tie
 

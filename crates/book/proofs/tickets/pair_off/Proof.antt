@@ -1,6 +1,5 @@
 -- From the last to the first: the pairs from `i` on are made.
 use mathlib.Core.Path.{refl}
-use native.Mathlib.Omega.{arith}
 use Rattle.book.proofs.Pairs.{Pairing, pairing-none, pairing-next, pairing-all}
 use borrow.Author.Needs.{needs}
 use Rattle.book.proofs.tickets.pair_off.Statement.{statement}
