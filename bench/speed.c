@@ -11,8 +11,9 @@
 
 enum { ROUNDS = 300, SUMS = 16, CASES = 9, MOST = 4096 };
 
-/* The book's prices: both sides apart, both sides over each other, or sells alone. */
-enum { APART, CROSSED, SELLS };
+/* The book: both sides apart, both sides over each other, sells alone, or the dearest that we know for an order that takes it all,
+ * sells at one price with numbers far apart. */
+enum { APART, CROSSED, SELLS, DEAREST };
 
 static uint8_t day_bytes[64], book_bytes[40 * MOST], list_bytes[TRADE_BYTES * MOST], reply_bytes[48];
 static uint8_t day_before[64], book_before[40 * MOST];
@@ -20,39 +21,41 @@ static uint8_t day_after[64], book_after[40 * MOST];
 
 /* ---- the days that are measured */
 
-static void put_order(size_t place, uint64_t side, uint64_t price) {
-    const uint64_t order[5] = {side, 7, 100, price, place + 1};
+static void put_order(size_t place, uint64_t side, uint64_t price, uint64_t number) {
+    const uint64_t order[5] = {side, 7, 100, price, number};
     for (size_t i = 0; i < 5; i++) put_number(book_before, 5 * place + i, order[i]);
 }
 
 /* A limited day with close 1,000 and as many live orders of 100 shares, buys and sells in turn, or sells alone: prices 950 to 999
- * and 1,001 to 1,050, or, where they cross, 976 to 1,025 on both sides. */
-static void prepare(uint64_t time, size_t live, int prices) {
-    const uint64_t day[8] = {1000, 1, time, live, 0, 0, 0, 0};
+ * and 1,001 to 1,050, or, where they cross, 976 to 1,025 on both sides, and 1,001 alone in the dearest book. */
+static void prepare(uint64_t time, size_t live, int book) {
+    const uint64_t apart = book == DEAREST ? 999000 / live : 1;
+    const uint64_t day[8] = {1000, 1, time, apart * live, 0, 0, 0, 0};
     for (size_t i = 0; i < 8; i++) put_number(day_before, i, day[i]);
     memset(book_before, 0, sizeof book_before);
     for (size_t p = 0; p < live; p++) {
-        uint64_t side = prices == SELLS ? 1 : p % 2, step = p / 2 % 50;
-        put_order(p, side, prices == CROSSED ? 976 + step : side ? 1001 + step : 999 - step);
+        uint64_t side = book == SELLS || book == DEAREST ? 1 : p % 2, step = book == DEAREST ? 0 : p / 2 % 50;
+        put_order(p, side, book == CROSSED ? 976 + step : side ? 1001 + step : 999 - step, apart * (p + 1));
     }
 }
 
 struct measured {
     const char *name;
-    int which, prices;
+    int which, book;
     uint64_t time, asked[ASKED];
+    size_t room; /* the trades that the lent list has room for; 0: as many as there can be */
 };
 
 static const struct measured cases[CASES] = {
-    {"open", OPEN, APART, 34200, {1000, 1}},
-    {"order that rests", ORDER, APART, 34200, {0, 0, 9, 100, 1000}},
-    {"order with 1 trade", ORDER, APART, 34200, {0, 0, 9, 100, 1001}},
-    {"order with 4 trades", ORDER, APART, 34200, {0, 0, 9, 400, 1050}},
-    {"cancel", CANCEL, APART, 34200, {7, 4}},
-    {"clock, nothing passed", CLOCK, APART, 34200, {34201}},
-    {"clock, opening auction", CLOCK, CROSSED, 33300, {33900}},
-    {"report", REPORT, CROSSED, 33300, {0}},
-    {"list", LIST, CROSSED, 33300, {1}},
+    {"open", OPEN, APART, 34200, {1000, 1}, 0},
+    {"order that rests", ORDER, APART, 34200, {0, 0, 9, 100, 1000}, 0},
+    {"order with 1 trade", ORDER, APART, 34200, {0, 0, 9, 100, 1001}, 0},
+    {"order with 4 trades", ORDER, APART, 34200, {0, 0, 9, 400, 1050}, 0},
+    {"cancel", CANCEL, APART, 34200, {7, 4}, 0},
+    {"clock, nothing passed", CLOCK, APART, 34200, {34201}, 0},
+    {"clock, opening auction", CLOCK, CROSSED, 33300, {33900}, 0},
+    {"report", REPORT, CROSSED, 33300, {0}, 0},
+    {"list", LIST, CROSSED, 33300, {1}, 0},
 };
 
 /* ---- time */
@@ -111,7 +114,8 @@ static int same_after(void) {
 
 static void measure(const struct measured *c, size_t places, size_t live, struct times *t) {
     struct lent m = {day_bytes, book_bytes, list_bytes, reply_bytes, 64, 40 * places, sizeof list_bytes, sizeof reply_bytes};
-    prepare(c->time, live, c->prices);
+    if (c->room) m.list_length = TRADE_BYTES * c->room;
+    prepare(c->time, live, c->book);
     uint64_t got = timed_call(calls[c->which].proved, &m, c->asked, &t->proved);
     keep_after();
     uint64_t want = timed_call(calls[c->which].independent, &m, c->asked, &t->independent);
@@ -141,16 +145,18 @@ static void print_table(const struct measured *rows, int count, size_t places, s
     printf("\n");
 }
 
-/* An order with 2, 4, 8 trades and on, up to one that takes every sell: each has 100 shares. */
-static void print_by_trades(size_t places, int prices) {
+/* An order with 2, 4, 8 trades and on, up to one that takes every sell: each has 100 shares. In the dearest book it is of kind 1,
+ * which looks for the best price first, and the lent list has room for its trades and no more. */
+static void print_by_trades(size_t places, int book) {
     static char names[CASES][32];
     struct measured orders[CASES];
-    const uint64_t live = places - 8, sells = prices == SELLS ? live : live / 2;
+    const uint64_t live = places - 8, sells = book == APART ? live / 2 : live, kind = book == DEAREST;
     int count = 0;
     for (uint64_t trades = 2; count < CASES; trades *= 2, count++) {
         if (trades > sells || count == CASES - 1) trades = sells;
         snprintf(names[count], sizeof names[count], "order with %d trades", (int)trades);
-        orders[count] = (struct measured){names[count], ORDER, prices, 34200, {0, 0, 9, 100 * trades, 1050}};
+        orders[count] = (struct measured){names[count], ORDER,   book, 34200, {0, kind, 9, 100 * trades, 1050},
+                                          kind ? trades : 0};
     }
     print_table(orders, count, places, live);
 }
@@ -162,5 +168,6 @@ int main(void) {
     }
     for (size_t places = 1024; places <= MOST; places *= 4) print_by_trades(places, APART);
     print_by_trades(1024, SELLS);
+    print_by_trades(1024, DEAREST);
     return 0;
 }
