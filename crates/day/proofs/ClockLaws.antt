@@ -105,13 +105,13 @@ module _ (d : Day) (t : ℕ) (book : List Order) (room : ℕ) where
               ∙ ap (λ (ts : List Trade). firstOf (13 when (ltb room (length ts)) ∷ [])) (sym (moved-trades d t book stands e n))
               ∙ sym by-room
 
-  numbered : Numbered (clockRules d t book room)
+  pub clock-numbered : Numbered (clockRules d t book room)
   unfolding clockRules _when_
-  numbered = (eqb-false 15 0 refl, (eqb-false 1 0 refl, (eqb-false 13 0 refl, tt)))
+  clock-numbered = (eqb-false 15 0 refl, (eqb-false 1 0 refl, (eqb-false 13 0 refl, tt)))
 
   module _ {n : ℕ} (e : n ≡ rules) (z : n ≡ 0) where
     none : NoneHolds (clockRules d t book room)
-    none = none-holds (clockRules d t book room) numbered (sym e ∙ z)
+    none = none-holds (clockRules d t book room) clock-numbered (sym e ∙ z)
 
     pub move-ready : Ready d book
     unfolding clockRules _when_

@@ -91,9 +91,9 @@ asked-price d a e z =
 -- ---- an order that no rule refuses
 
 module _ (d : Day) (a : Asked) (book : List Order) (room : ℕ) where
-  numbered : Numbered (orderRules d a book room)
+  pub order-numbered : Numbered (orderRules d a book room)
   unfolding orderRules _when_
-  numbered = (
+  order-numbered = (
     eqb-false 15 0 refl,
     (
       eqb-false 2 0 refl,
@@ -131,7 +131,7 @@ module _ (d : Day) (a : Asked) (book : List Order) (room : ℕ) where
   pub taken : rules d a book room ≡ 0 → Taken d a book room
   unfolding orderRules _when_
   taken z =
-      let n : NoneHolds (orderRules d a book room) = none-holds (orderRules d a book room) numbered z in
+      let n : NoneHolds (orderRules d a book room) = none-holds (orderRules d a book room) order-numbered z in
       record {
         ready = ready-if d book (n .0);
         quantity =

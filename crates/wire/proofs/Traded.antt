@@ -27,15 +27,7 @@ use Rattle.wire.proofs.Runs.{flat-append, flat-drop}
 use Rattle.wire.proofs.Sizes.{length-trade, length-trades}
 use Rattle.wire.proofs.Back.{AllBytes, length-parts, trades-again, trades-kept, day-kept, book-kept}
 use Rattle.wire.proofs.Refused.{length-book-in, too-many-unsound}
-use Rattle.wire.proofs.Rooms.{
-  Alike,
-  order-made-few,
-  order-alike,
-  order-lacks,
-  clock-made-few,
-  clock-alike,
-  clock-lacks,
-}
+use Rattle.wire.proofs.Rooms.{Alike, Roomy}
 
 -- ---- the trades' bytes
 
@@ -81,135 +73,76 @@ over-written new b s h =
 
 -- ---- the call on rows
 
-module _ {A : Type 0} (made : A → ℕ) (book trades : List ℕ) (list rows' list' : List (List ℕ)) {o p : Outcome A} {r : A}
-    (e : promises.left r rows' list' ≡ o) where
-  -- the trades fit
-  rows-traded :
-      {left' trades' : List ℕ}
-      → Alike made (tradesOf list) (tradesIn trades) o p
-      → made r ≤ length trades / 48
-      → left' ≡ over (bookBytes (bookOf rows')) book
-      → trades' ≡ over (tradesBytes (tradesOf (take (made r) list'))) trades
-      → AllBytes trades
-      → Traded r left' trades' p book trades
-  unfolding written
-  rows-traded a h w v s =
-      let new : List Trade = a .new in
-      let c : made r ≡ length new = ap (λ (o : Outcome A). made (o .answer)) e ∙ a .count in
-      let l : tradesOf list' ≡ written new (tradesOf list) = ap (λ (o : Outcome A). o .trades) e ∙ a .there in
-      let n : tradesOf (take (made r) list') ≡ new =
-      trades-take (made r) list' ∙ rw (c, l) (take-at new (drop (length new) (tradesOf list)) (length new) refl) in
-      record {
-        told = ap (λ (o : Outcome A). o .answer) e ∙ a .answer;
-        places =
-            w
-            ∙ ap (λ (os : List Order). over (bookBytes os) book) (ap (λ (o : Outcome A). o .book) e ∙ a .book);
-        written =
-            v
-            ∙ ap (λ (ts : List Trade). over (tradesBytes ts) trades) n
-            ∙ sym (over-written new trades s (omega arith))
-            ∙ ap (λ (ts : List Trade). over (tradesBytes ts) trades) (sym (a .here));
-      }
-
--- they do not, and every byte stays
-rows-kept :
-    {A : Type 0} {r : A} (p : Outcome A) (book trades : List ℕ)
-    → p ≡ record { answer = r; book = bookIn book; trades = tradesIn trades }
-    → AllBytes book
-    → AllBytes trades
-    → Traded r book trades p book trades
-rows-kept p book trades e sb st =
-    rw e (record { told = refl; places = sym (book-kept book sb); written = sym (trades-kept trades st) })
-
-module _ (day book trades : List ℕ) (rows list : List (List ℕ)) {d : Day}
+module _ {A : Type 0} {made : A → ℕ} {lacks : Day → A} {call : Day → List Order → List Trade → Outcome A} (roomy : Roomy made lacks call)
+    (day book trades : List ℕ) (rows list rows' list' : List (List ℕ)) {d : Day} {r : A}
     (b : bookOf rows ≡ bookIn book)
     (e : d ≡ dayIn day)
-    (k : length list ≡ length book / 40) where
+    (k : length list ≡ length book / 40)
+    (p : promises.left r rows' list' ≡ call d (bookOf rows) (tradesOf list)) where
+  -- it was made in a list as long as the book
+  abbrev there : Outcome A
+  there = call (dayIn day) (bookIn book) (tradesOf list)
+
+  was : promises.left r rows' list' ≡ there
+  was = p ∙ rw (e, b)
+
+  count : made r ≡ made (there .answer)
+  count = ap (λ (o : Outcome A). made (o .answer)) was
+
   long : length (tradesOf list) ≡ length (bookIn book)
   long = rw (length-map, length-book-in) k
 
-  module _ (rows' list' : List (List ℕ)) where
-    module _ (a : Asked) {r : OrderAnswer} (p : promises.left r rows' list' ≡ orderCall d a (bookOf rows) (tradesOf list)) where
-      same-order : orderCall d a (bookOf rows) (tradesOf list) ≡ orderCall (dayIn day) a (bookIn book) (tradesOf list)
-      same-order = rw (e, b)
+  pub rows-made : made r ≤ length list
+  rows-made = omega (arith, count, roomy .few (dayIn day) (bookIn book) (tradesOf list) long, length-map list tradeOf)
 
-      order-count : r .made ≡ orderCall (dayIn day) a (bookIn book) (tradesOf list) .answer .made
-      order-count = ap (λ (o : Outcome OrderAnswer). o .answer .made) (p ∙ same-order)
+  -- the lent one has room for its trades
+  module _ {left' trades' : List ℕ}
+      (h : made r ≤ length trades / 48)
+      (w : left' ≡ over (bookBytes (bookOf rows')) book)
+      (v : trades' ≡ over (tradesBytes (tradesOf (take (made r) list'))) trades)
+      (s : AllBytes trades) where
+    abbrev here : Outcome A
+    here = call (dayIn day) (bookIn book) (tradesIn trades)
 
-      pub order-made : r .made ≤ length list
-      order-made =
-          omega (
-            arith,
-            order-count,
-            order-made-few (bookIn book) (tradesOf list) (tradesIn trades) long (dayIn day) a,
-            length-map list tradeOf,
-          )
+    same-traded : Alike made (tradesOf list) (tradesIn trades) there here → Traded r left' trades' here book trades
+    unfolding written
+    same-traded a =
+        let new : List Trade = a .new in
+        let c : made r ≡ length new = count ∙ a .count in
+        let l : tradesOf list' ≡ written new (tradesOf list) = ap (λ (o : Outcome A). o .trades) was ∙ a .there in
+        let n : tradesOf (take (made r) list') ≡ new =
+        trades-take (made r) list' ∙ rw (c, l) (take-at new (drop (length new) (tradesOf list)) (length new) refl) in
+        record {
+          told = ap (λ (o : Outcome A). o .answer) was ∙ a .answer;
+          places =
+              w
+              ∙ ap (λ (os : List Order). over (bookBytes os) book) (ap (λ (o : Outcome A). o .book) was ∙ a .book);
+          written =
+              v
+              ∙ ap (λ (ts : List Trade). over (tradesBytes ts) trades) n
+              ∙ sym (over-written new trades s (omega arith))
+              ∙ ap (λ (ts : List Trade). over (tradesBytes ts) trades) (sym (a .here));
+        }
 
-      pub order-rows :
-          {left' trades' : List ℕ}
-          → r .made ≤ length trades / 48
-          → left' ≡ over (bookBytes (bookOf rows')) book
-          → trades' ≡ over (tradesBytes (tradesOf (take (r .made) list'))) trades
-          → AllBytes trades
-          → Traded r left' trades' (orderCall (dayIn day) a (bookIn book) (tradesIn trades)) book trades
-      order-rows h w v s =
-          rows-traded (λ (r : OrderAnswer). r .made) book trades list rows' list' (p ∙ same-order)
-          (order-alike (bookIn book) (tradesOf list) (tradesIn trades) long (dayIn day) a
-          (omega (arith, order-count, length-trades-in trades)))
-          h w v s
+    pub rows-traded : Traded r left' trades' here book trades
+    rows-traded =
+        same-traded
+        (roomy .same (dayIn day) (bookIn book) (tradesOf list) (tradesIn trades) long
+        (omega (arith, count, length-trades-in trades)))
 
-      pub order-short :
-          length trades / 48 < r .made
-          → AllBytes book
-          → AllBytes trades
-          → Traded (promises.orderRefused d 13) book trades (orderCall (dayIn day) a (bookIn book) (tradesIn trades)) book trades
-      order-short h sb st =
-          rows-kept _ book trades
-          (order-lacks (bookIn book) (tradesOf list) (tradesIn trades) long (dayIn day) a
-          (omega (arith, order-count, length-trades-in trades))
-          ∙ ap (λ (x : Day). record { answer = promises.orderRefused x 13; book = bookIn book; trades = tradesIn trades }) (sym e))
-          sb st
-
-    module _ (t : ℕ) {r : ClockAnswer} (p : promises.left r rows' list' ≡ clockCall d t (bookOf rows) (tradesOf list)) where
-      same-clock : clockCall d t (bookOf rows) (tradesOf list) ≡ clockCall (dayIn day) t (bookIn book) (tradesOf list)
-      same-clock = rw (e, b)
-
-      clock-count : r .made ≡ clockCall (dayIn day) t (bookIn book) (tradesOf list) .answer .made
-      clock-count = ap (λ (o : Outcome ClockAnswer). o .answer .made) (p ∙ same-clock)
-
-      pub clock-made : r .made ≤ length list
-      clock-made =
-          omega (
-            arith,
-            clock-count,
-            clock-made-few (bookIn book) (tradesOf list) (tradesIn trades) long (dayIn day) t,
-            length-map list tradeOf,
-          )
-
-      pub clock-rows :
-          {left' trades' : List ℕ}
-          → r .made ≤ length trades / 48
-          → left' ≡ over (bookBytes (bookOf rows')) book
-          → trades' ≡ over (tradesBytes (tradesOf (take (r .made) list'))) trades
-          → AllBytes trades
-          → Traded r left' trades' (clockCall (dayIn day) t (bookIn book) (tradesIn trades)) book trades
-      clock-rows h w v s =
-          rows-traded (λ (r : ClockAnswer). r .made) book trades list rows' list' (p ∙ same-clock)
-          (clock-alike (bookIn book) (tradesOf list) (tradesIn trades) long (dayIn day) t
-          (omega (arith, clock-count, length-trades-in trades)))
-          h w v s
-
-      pub clock-short :
-          length trades / 48 < r .made
-          → AllBytes book
-          → AllBytes trades
-          → Traded (promises.clockRefused d 13) book trades (clockCall (dayIn day) t (bookIn book) (tradesIn trades)) book trades
-      clock-short h sb st =
-          rows-kept _ book trades
-          (clock-lacks (bookIn book) (tradesOf list) (tradesIn trades) long (dayIn day) t
-          (omega (arith, clock-count, length-trades-in trades))
-          ∙ ap (λ (x : Day). record { answer = promises.clockRefused x 13; book = bookIn book; trades = tradesIn trades }) (sym e))
-          sb st
+  -- it has not, and every byte stays
+  pub rows-short :
+      length trades / 48 < made r
+      → AllBytes book
+      → AllBytes trades
+      → Traded (lacks d) book trades (call (dayIn day) (bookIn book) (tradesIn trades)) book trades
+  rows-short h sb st =
+      rw (
+        roomy .short (dayIn day) (bookIn book) (tradesOf list) (tradesIn trades) long
+            (omega (arith, count, length-trades-in trades)),
+        e,
+      )
+      (record { told = refl; places = sym (book-kept book sb); written = sym (trades-kept trades st) })
 
 -- ---- what is left
 
