@@ -1,7 +1,7 @@
 /* Measures each call on bytes beside the independent engine, which tests soundness as well, and beside one pass over the book: a
  * plain sum of its 64-bit numbers. In a round each case is measured once in all three ways, one after the other, from the same
  * memory; the least time of all rounds counts, as what else runs on the machine only adds. Prints docs/SPEED.md's tables: each call
- * by places and live orders, and an order by its trades. */
+ * by places and live orders, an order by its trades, and the dearest order of many random books. */
 #define _POSIX_C_SOURCE 199309L
 #include "compare.h"
 #include <stdio.h>
@@ -112,10 +112,10 @@ static int same_after(void) {
     return !memcmp(day_after, day_bytes, sizeof day_bytes) && !memcmp(book_after, book_bytes, sizeof book_bytes);
 }
 
-static void measure(const struct measured *c, size_t places, size_t live, struct times *t) {
+/* On the day and the book that are prepared. */
+static void measure(const struct measured *c, size_t places, struct times *t) {
     struct lent m = {day_bytes, book_bytes, list_bytes, reply_bytes, 64, 40 * places, sizeof list_bytes, sizeof reply_bytes};
     if (c->room) m.list_length = TRADE_BYTES * c->room;
-    prepare(c->time, live, c->book);
     uint64_t got = timed_call(calls[c->which].proved, &m, c->asked, &t->proved);
     keep_after();
     uint64_t want = timed_call(calls[c->which].independent, &m, c->asked, &t->independent);
@@ -135,7 +135,10 @@ static void print_table(const struct measured *rows, int count, size_t places, s
     struct times times[CASES] = {{0, 0, 0}};
     double pass = 0;
     for (int round = 0; round < ROUNDS; round++)
-        for (int c = 0; c < count; c++) measure(&rows[c], places, live, &times[c]);
+        for (int c = 0; c < count; c++) {
+            prepare(rows[c].time, live, rows[c].book);
+            measure(&rows[c], places, &times[c]);
+        }
     for (int c = 0; c < count; c++) keep_least(&pass, times[c].pass);
     for (int c = 0; c < count; c++) times[c].pass = pass;
     printf("%zu places, %zu live orders; a pass takes %.2f microseconds.\n\n", places, live, pass / 1000);
@@ -161,6 +164,61 @@ static void print_by_trades(size_t places, int book) {
     print_table(orders, count, places, live);
 }
 
+/* ---- random books, for what the tables leave out */
+
+static uint64_t state = 88172645463325252;
+
+/* The generator xorshift: every run measures the same books. */
+static uint64_t chance(uint64_t below) {
+    state ^= state << 13;
+    state ^= state >> 7;
+    state ^= state << 17;
+    return state % below;
+}
+
+/* Orders of 100 shares, sells alone or buys too, at few prices or many, with numbers in any order and close together or far apart. */
+static void prepare_random(size_t live) {
+    static uint64_t numbers[MOST];
+    const uint64_t apart = chance(2) ? 1 : 999000 / live, prices = chance(2) ? 1 + chance(5) : 1 + chance(50);
+    const uint64_t day[8] = {1000, 1, 34200, apart * live, 0, 0, 0, 0};
+    const size_t buys = chance(2) ? 0 : chance(live);
+    for (size_t i = 0; i < 8; i++) put_number(day_before, i, day[i]);
+    memset(book_before, 0, sizeof book_before);
+    for (size_t p = 0; p < live; p++) {
+        size_t other = chance(p + 1);
+        numbers[p] = numbers[other];
+        numbers[other] = apart * (p + 1);
+    }
+    for (size_t p = 0; p < live; p++)
+        put_order(p, p >= buys, p >= buys ? 1001 + chance(prices) : 999 - chance(prices), numbers[p]);
+}
+
+/* A buy of any kind for any part of the book or all of it, with a lent list of any length or just as long as the book's orders. */
+static struct measured random_order(size_t live) {
+    const uint64_t shares = 100 * (chance(2) ? live : 1 + chance(live));
+    return (struct measured){"a random order", ORDER, APART, 34200, {0, chance(5), 9, shares, 1050}, chance(2) ? 0 : live};
+}
+
+static double passes_of(const struct measured *c, size_t places, int rounds, struct times *t) {
+    for (int round = 0; round < rounds; round++) measure(c, places, t);
+    return t->proved / t->pass;
+}
+
+/* The dearest order of so many books. One that seems dearer than those before is measured for longer. */
+static void print_random(size_t places, int books) {
+    const size_t live = places - 1;
+    double most = 0;
+    for (int book = 0; book < books; book++) {
+        struct times t = {0, 0, 0};
+        prepare_random(live);
+        struct measured c = random_order(live);
+        double passes = passes_of(&c, places, ROUNDS / 10, &t);
+        if (passes > most) passes = passes_of(&c, places, ROUNDS, &t);
+        if (passes > most) most = passes;
+    }
+    printf("%d random books of %zu places: the dearest order costs %.1f passes.\n", books, places, most);
+}
+
 int main(void) {
     for (size_t places = 1024; places <= MOST; places *= 4) {
         print_table(cases, CASES, places, 8);
@@ -169,5 +227,6 @@ int main(void) {
     for (size_t places = 1024; places <= MOST; places *= 4) print_by_trades(places, APART);
     print_by_trades(1024, SELLS);
     print_by_trades(1024, DEAREST);
+    print_random(1024, 1000);
     return 0;
 }
