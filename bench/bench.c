@@ -1,7 +1,7 @@
 /* Runs the rules' situations, random days and damaged ones through the exported calls and through the independent engine, and
  * compares them after every call. Prints the seeds; the last line is `N passed, M failed`.
  *
- * bench [--exactly] [--damage PART NTH] [FIRST [LAST]]: the seeds FIRST to LAST, or FIRST alone. compare.h says what the two
+ * bench [--exactly | --walls] [--damage PART NTH] [FIRST [LAST]]: the seeds FIRST to LAST, or FIRST alone. compare.h says what the
  * options do. Without seeds all are run, and the independent engine is tested too: on small books it tries every price. */
 #include "compare.h"
 #include "runs.h"
@@ -14,7 +14,7 @@ enum { SEEDS = 900, TRIES = 100 };
 static uint64_t number_in(const char *word) { return strtoull(word, NULL, 10); }
 
 static int usage(void) {
-    fprintf(stderr, "usage: bench [--exactly] [--damage PART NTH] [FIRST [LAST]]\n");
+    fprintf(stderr, "usage: bench [--exactly | --walls] [--damage PART NTH] [FIRST [LAST]]\n");
     return 2;
 }
 
@@ -35,6 +35,9 @@ int main(int count, char **words) {
     int at = 1;
     if (at < count && !strcmp(words[at], "--exactly")) {
         lend_exactly();
+        at++;
+    } else if (at < count && !strcmp(words[at], "--walls")) {
+        lend_between_walls();
         at++;
     }
     if (at + 2 < count && !strcmp(words[at], "--damage")) {

@@ -36,6 +36,10 @@ void restore_memory(void);
  * outside a slice. */
 void lend_exactly(void);
 
+/* For a machine without valgrind: from now on each slice that the proved calls get ends right before a page that may not be touched
+ * or, in about every other call, begins right behind one. An access there is a crash. */
+void lend_between_walls(void);
+
 /* Makes a call with both engines, counts it as passed or failed, and says what differs. Returns the refusal number expected. */
 uint64_t compare(uint64_t seed, int which, const uint64_t *asked);
 

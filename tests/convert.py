@@ -16,7 +16,7 @@ import re
 import subprocess
 import sys
 
-from program import ROOT, Counts, run
+from program import ROOT, X86, Counts, run
 
 SEED = 111_000
 PROGRAM = ROOT / "target" / "bin" / "convert_script"
@@ -145,9 +145,9 @@ def made_scripts(counts, seed):
 def faults(counts):
     """An output that cannot be written and an input that cannot be read are said on standard error."""
     with open(ROOT / "README.md", "rb") as source, open("/dev/full", "wb") as full:
-        said = subprocess.run([PROGRAM], stdin=source, stdout=full, stderr=subprocess.PIPE).stderr
+        said = subprocess.run([X86, PROGRAM], stdin=source, stdout=full, stderr=subprocess.PIPE).stderr
         counts.same("an output that is full", b"convert: standard output cannot be written\n", said)
-    said = subprocess.run(["bash", "-c", "%s < ." % PROGRAM], cwd=ROOT, capture_output=True).stderr
+    said = subprocess.run(["bash", "-c", "%s %s < ." % (X86, PROGRAM)], cwd=ROOT, capture_output=True).stderr
     counts.same("an input that is a folder", b"convert: standard input cannot be read\n", said)
 
 

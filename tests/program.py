@@ -11,6 +11,7 @@ import termios
 
 ROOT = pathlib.Path(__file__).resolve().parent.parent
 PROGRAM = ROOT / "target" / "bin" / "rehearse"
+X86 = ROOT / "tests" / "x86"  # runs a built program on any machine
 
 
 class Counts:
@@ -80,9 +81,9 @@ def run(session, lengths=None, program=PROGRAM):
         if lengths is None:
             source.write(session)
             source.seek(0)
-            status = subprocess.run([program], stdin=source, stdout=output, stderr=errors).returncode
+            status = subprocess.run([X86, program], stdin=source, stdout=output, stderr=errors).returncode
         else:
-            process = subprocess.Popen([program], stdin=subprocess.PIPE, stdout=output, stderr=errors)
+            process = subprocess.Popen([X86, program], stdin=subprocess.PIPE, stdout=output, stderr=errors)
             feed(process, session, lengths)
             status = process.wait()
         output.seek(0)

@@ -23,15 +23,17 @@ same() { # NAME EXPECTED ACTUAL: two files
     fi
 }
 
+rehearse() { tests/x86 "$program"; }
+
 # A file in writes of one byte each, so that the program reads blocks that end anywhere.
 drip() { # FILE
     dd if="$1" bs=1 status=none
 }
 
 session() { # NAME INPUT EXPECTED
-    "$program" < "$2" > "$work/whole"
+    rehearse < "$2" > "$work/whole"
     same "$1" "$3" "$work/whole"
-    drip "$2" | "$program" > "$work/dripped"
+    drip "$2" | rehearse > "$work/dripped"
     same "$1, byte by byte" "$3" "$work/dripped"
 }
 
@@ -70,11 +72,11 @@ edge "time only moves on" 'D 1000 1\nT 86400\nT 34200\nT 34199\nT 34200\n' 'D\nX
 # More replies than the output holds at once: it is written out in rounds.
 for _ in {1..60000}; do echo; done > "$work/in"
 for _ in {1..60000}; do echo 'X 16'; done > "$work/out"
-"$program" < "$work/in" > "$work/whole"
+rehearse < "$work/in" > "$work/whole"
 same "60,000 empty lines" "$work/out" "$work/whole"
 
 # It answers as soon as its input allows: the reply is there while the input is still open.
-coproc PROGRAM { "$program"; }
+coproc PROGRAM { rehearse; }
 pid=$PROGRAM_PID
 printf 'D 1000 1\n' >&"${PROGRAM[1]}"
 reply=''
@@ -86,10 +88,10 @@ eval "exec ${PROGRAM[1]}>&-"
 wait "$pid"
 
 # An output that cannot be written is said on standard error, and so is an input that cannot be read.
-"$program" < examples/quiet-day.txt > /dev/full 2> "$work/said"
+rehearse < examples/quiet-day.txt > /dev/full 2> "$work/said"
 printf 'rehearse: standard output cannot be written\n' > "$work/out"
 same "an output that is full" "$work/out" "$work/said"
-"$program" < . > "$work/in" 2> "$work/said"
+rehearse < . > "$work/in" 2> "$work/said"
 printf 'rehearse: standard input cannot be read\n' > "$work/out"
 same "an input that is a folder" "$work/out" "$work/said"
 

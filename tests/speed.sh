@@ -3,6 +3,7 @@
 # Needs python3, and valgrind for the second half. Not part of the gate; docs/SPEED.md has the numbers.
 set -u
 cd "$(dirname "$0")/.." || exit 2
+[ "$(uname -m)" = x86_64 ] || { echo "speed: needs x86-64: a time under the kit's emulator says nothing" >&2; exit 1; }
 program=target/bin/rehearse
 folder=target/busy-day
 lines=100000
