@@ -95,6 +95,23 @@ void restore_memory(void) {
     copy_lent(&expected, &kept, &kept_lent);
 }
 
+static void exchange(size_t i, size_t j) {
+    uint64_t number = number_at(lent.book, i);
+    put_number(lent.book, i, number_at(lent.book, j));
+    put_number(lent.book, j, number);
+}
+
+void exchange_numbers(size_t p, size_t q) { exchange(5 * p + 4, 5 * q + 4); }
+
+static void exchange_neighbours(size_t p) {
+    for (size_t i = 0; i < 5; i++) exchange(5 * p + i, 5 * (p + 1) + i);
+}
+
+void move_place(size_t from, size_t to) {
+    while (from < to) exchange_neighbours(from++);
+    while (from > to) exchange_neighbours(--from);
+}
+
 static uint8_t *to_heap(const uint8_t *bytes, size_t length) {
     uint8_t *block = malloc(length);
     if (length) memcpy(block, bytes, length);

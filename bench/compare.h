@@ -32,6 +32,10 @@ void clear_memory(uint8_t with);
 void keep_memory(void);
 void restore_memory(void);
 
+/* Put the lent book out of order: a place goes elsewhere, and those between close up; or two places exchange their numbers. */
+void move_place(size_t from, size_t to);
+void exchange_numbers(size_t p, size_t q);
+
 /* From now on the proved calls get heap blocks of exactly the lent lengths, without guards. Valgrind then sees every access
  * outside a slice. */
 void lend_exactly(void);

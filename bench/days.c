@@ -1,4 +1,5 @@
-/* Random days: each seed opens a day and makes calls on it, some of them with day, book or lengths damaged for one call. */
+/* Random days: each seed opens a day and makes calls on it, some of them with day, book or lengths damaged for one call, or with
+ * the book out of order. */
 #include "compare.h"
 #include "runs.h"
 #include <stdio.h>
@@ -102,7 +103,8 @@ static uint64_t random_time(void) {
     return now;
 }
 
-/* Day and book are damaged for one call: one number is set to an edge, or one byte is changed, or a length. */
+/* Day and book are damaged for one call: one number is set to an edge, or one byte is changed, or a length; or a place is moved, or
+ * two exchange their numbers, which a book may bear. */
 static void damage(void) {
     struct lent *m = &lent;
     size_t n = m->book_length / 40;
@@ -111,6 +113,9 @@ static void damage(void) {
         lend(day, book, m->list_length, m->reply_length);
     } else if (once_in(6)) {
         put_number(m->day, 3, 999999);
+    } else if (once_in(6) && n) {
+        size_t p = chance(n), q = chance(n);
+        (once_in(2) ? move_place : exchange_numbers)(p, q);
     } else if (once_in(2) || !n) {
         put_number(m->day, chance(8), edge());
     } else if (once_in(2)) {
@@ -128,9 +133,8 @@ static int pick_call(void) {
     return likely[chance(sizeof likely / sizeof likely[0])];
 }
 
-static void one_call(const struct plan *plan) {
+static uint64_t one_call(const struct plan *plan, int which) {
     uint64_t a[ASKED] = {0};
-    int which = pick_call();
     random_lengths();
     if (which == OPEN) {
         a[0] = once_in(6) ? edge() : plan->close;
@@ -144,15 +148,54 @@ static void one_call(const struct plan *plan) {
     } else if (which == LIST) {
         a[0] = once_in(3) ? edge() : random_price(plan);
     }
-    compare(plan->seed, which, a);
+    return compare(plan->seed, which, a);
 }
 
 static void damaged_call(const struct plan *plan) {
     keep_memory();
     damage();
-    one_call(plan);
+    one_call(plan, pick_call());
     restore_memory();
 }
+
+/* ---- books out of order */
+
+/* Two neighbours of a side get the price of the first, and the higher number stands first. */
+static int younger_first(size_t p, size_t live) {
+    const uint8_t *book = lent.book;
+    if (p + 1 >= live || number_at(book, 5 * p) != number_at(book, 5 * p + 5)) return 0;
+    put_number(lent.book, 5 * p + 8, number_at(book, 5 * p + 3));
+    if (number_at(book, 5 * p + 4) < number_at(book, 5 * p + 9)) exchange_numbers(p, p + 1);
+    return 1;
+}
+
+/* Puts a sound book out of order: an order behind its neighbour, a sell among the buys, a free place in front of an order, an order
+ * behind free places, or the younger of two at a price first. Returns 0 where the book has not the orders for it. */
+static int disorder(void) {
+    size_t n = lent.book_length / 40, live = 0, buys = 0;
+    for (; live < n && number_at(lent.book, 5 * live + 4); live++) buys += !number_at(lent.book, 5 * live);
+    if (!live) return 0;
+    size_t spare = n - live, p = chance(live), from = p, to = p;
+    switch (chance(5)) {
+    case 0: to = p + 1 < live ? p + 1 : p; break;
+    case 1: to = buys && p >= buys ? chance(buys) : p; break;
+    case 2: from = spare ? live : p; break;
+    case 3: to = spare ? live + chance(spare) : p; break;
+    default: return younger_first(p, live);
+    }
+    move_place(from, to);
+    return from != to;
+}
+
+/* Then each call but an opening is 15. */
+static void disordered_calls(const struct plan *plan) {
+    keep_memory();
+    if (disorder())
+        for (int which = ORDER; which < CALLS; which++) expect("a book out of order", one_call(plan, which), 15);
+    restore_memory();
+}
+
+/* ---- a day */
 
 /* A book that is nearly full from the start, at a time that takes orders; its sides meet only where they may. Its numbers are the
  * first, those around 65,536, or the last. */
@@ -171,6 +214,7 @@ static void fill_book(const struct plan *plan) {
         const uint64_t order[5] = {side, 1 + chance(3), 1 + chance(5000), price, first + n - p};
         for (size_t i = 0; i < 5; i++) put_number(m->book, 5 * p + i, order[i]);
     }
+    arrange_book(m->book, n);
 }
 
 static struct plan plan_day(uint64_t seed) {
@@ -192,8 +236,9 @@ void run_seed(uint64_t seed) {
     compare(seed, OPEN, opening);
     if (once_in(3)) fill_book(&plan);
     for (uint64_t i = 0; i < count; i++) {
-        one_call(&plan);
+        one_call(&plan, pick_call());
         if (once_in(4)) damaged_call(&plan);
+        if (once_in(16)) disordered_calls(&plan);
     }
     printf("seed %llu: %zu places, close %llu: %s\n", (unsigned long long)seed, plan.places, (unsigned long long)plan.close,
            failed == before ? "same" : "DIFFERENT");

@@ -61,8 +61,8 @@ static void write_numbers(uint8_t *b, size_t at, const void *record, size_t coun
     for (size_t i = 0; i < count; i++) put_number(b, at + i, numbers[i]);
 }
 
-static void write_book(uint8_t *b) {
-    for (size_t p = 0; p < place_count; p++) write_numbers(b, 5 * p, &places[p], 5);
+static void read_book(const uint8_t *b) {
+    for (size_t p = 0; p < place_count; p++) read_numbers(b, 5 * p, &places[p], 5);
 }
 
 static void write_trades(struct lent *m) {
@@ -104,20 +104,47 @@ static int *slot_of(uint64_t number) {
     return &slots[s];
 }
 
-/* ---- levels */
+/* ---- the order of the places */
 
-static int compare_places(const void *a, const void *b) {
-    const struct order *x = &places[*(const int *)a], *y = &places[*(const int *)b];
+/* Free places last, buys before sells; of a side the better price first, then the lower number. */
+static int compare_orders(const void *a, const void *b) {
+    const struct order *x = a, *y = b;
+    if (!x->number || !y->number) return !x->number - !y->number;
+    if (x->side != y->side) return x->side < y->side ? -1 : 1;
     if (x->price != y->price) return (x->price < y->price) == (x->side == 1) ? -1 : 1;
     return x->number < y->number ? -1 : x->number > y->number;
 }
 
+static void arrange(void) { qsort(places, place_count, sizeof places[0], compare_orders); }
+
+/* Whether arranging has nothing to do. */
+static bool in_order(void) {
+    static struct order before[PLACES];
+    memcpy(before, places, place_count * sizeof places[0]);
+    arrange();
+    return !memcmp(before, places, place_count * sizeof places[0]);
+}
+
+/* What an event leaves may stand anywhere in the tables: it is arranged when it is written. */
+static void write_book(uint8_t *b) {
+    arrange();
+    for (size_t p = 0; p < place_count; p++) write_numbers(b, 5 * p, &places[p], 5);
+}
+
+void arrange_book(uint8_t *book, size_t count) {
+    place_count = count;
+    read_book(book);
+    write_book(book);
+}
+
+/* ---- levels */
+
+/* Of a book that is arranged. */
 static void build_levels(void) {
     queue_count[0] = queue_count[1] = 0;
     for (size_t p = 0; p < place_count; p++)
         if (places[p].number) queue[places[p].side][queue_count[places[p].side]++] = (int)p;
     for (int s = 0; s < 2; s++) {
-        qsort(queue[s], (size_t)queue_count[s], sizeof(int), compare_places);
         level_count[s] = 0;
         for (int i = 0; i < queue_count[s]; i++) {
             uint64_t price = places[queue[s][i]].price;
@@ -161,11 +188,12 @@ static bool load(const struct lent *m) {
     place_count = m->book_length / 40;
     if (m->day_length != 64 || place_count < 1 || place_count > PLACES) return false;
     read_numbers(m->day, 0, &day, 8);
-    for (size_t p = 0; p < place_count; p++) read_numbers(m->book, 5 * p, &places[p], 5);
+    read_book(m->book);
     memset(slots, 0, sizeof slots);
     if (!figures_sound()) return false;
     for (size_t p = 0; p < place_count; p++)
         if (!place_sound(p)) return false;
+    if (!in_order()) return false;
     build_levels();
     bool empty = !queue_count[0] && !queue_count[1];
     if ((day.time < 33300 || day.time >= 54000) && !empty) return false;
@@ -221,7 +249,8 @@ static bool in_range(const struct wish *w) {
     return 100 * w->price >= 95 * base || w->price + 10 >= base;
 }
 
-static int lowest_free(void) {
+/* A free place, whichever: the book is arranged afterwards. */
+static int any_free(void) {
     for (size_t p = 0; p < place_count; p++)
         if (!places[p].number) return (int)p;
     return -1;
@@ -237,7 +266,7 @@ static uint64_t order_refusal(const struct wish *w) {
     if (!is_price(w->price)) return 7;
     if (day.limited && !in_band(w->price)) return 8;
     if (!w->kind && phase == 4 && !in_range(w)) return 9;
-    if (lowest_free() < 0) return 10;
+    if (any_free() < 0) return 10;
     if (day.issued == 999999) return 11;
     return 0;
 }
@@ -296,7 +325,7 @@ uint64_t engine_order(struct lent *m, const uint64_t *asked) {
     uint64_t price = goes ? rest_price(&w, limit, own_best) : 0;
     if (left && price) {
         resting = left;
-        places[lowest_free()] = (struct order){w.side, w.account, left, price, day.issued};
+        places[any_free()] = (struct order){w.side, w.account, left, price, day.issued};
     }
     write_numbers(m->day, 0, &day, 8);
     write_book(m->book);
@@ -471,6 +500,7 @@ static void pair(uint64_t price, uint64_t volume) {
 static void hold(void) {
     int left;
     const struct stretch *at;
+    arrange();
     build_levels();
     survey();
     uint64_t price = clearing_price(&left, &at);

@@ -1,5 +1,6 @@
-/* The day of docs/C.md a second time, in plain C, written from the rules and not from the proved code: price levels with queues,
- * a hash of order numbers, and the auction by trying every price that can matter. The bench compares the two. */
+/* The day of docs/C.md a second time, in plain C, written from the rules and not from the proved code: the book sorted anew at each
+ * event, price levels with queues, a hash of order numbers, and the auction by trying every price that can matter. The bench
+ * compares the two. */
 #ifndef ENGINE_H
 #define ENGINE_H
 
@@ -27,6 +28,9 @@ uint64_t engine_list(struct lent *m, const uint64_t *asked); /* price */
 /* On how many more small books the engine also tries all 999,999 prices, how often it then found that it had left one out, and
  * how often buys reached sells and the tie rules did not leave exactly one price. */
 extern uint64_t engine_tries_left, engine_tries_differed, engine_undecided;
+
+/* Puts the places of a book that is made by hand in order. */
+void arrange_book(uint8_t *book, size_t count);
 
 /* The number at the i-th 8 bytes, least byte first. */
 uint64_t number_at(const uint8_t *b, size_t i);

@@ -114,17 +114,27 @@ static void set_byte(void) {
     if (at < lent.book_length) lent.book[at] ^= (uint8_t)bits;
 }
 
+/* Two places named by their bytes; the book may be out of order then. */
+static void change_places(void (*change)(size_t, size_t)) {
+    uint64_t p = byte(), q = byte(), places = lent.book_length / 40;
+    if (places) change(p % places, q % places);
+}
+
+static void shift_place(void) { change_places(move_place); }
+
+static void swap_numbers(void) { change_places(exchange_numbers); }
+
 typedef void step(void);
 
 static step *const call_steps[] = {enter_likely, cancel_place, move_clock, ask, call_with_any_numbers};
-static step *const damages[] = {set_lengths, set_number, set_byte};
+static step *const damages[] = {set_lengths, set_number, set_byte, shift_place, swap_numbers};
 
 /* A call with day, book or their lengths damaged for this one call. */
 static void call_damaged(void) {
     uint64_t chosen = byte();
     keep_memory();
-    damages[chosen % 3]();
-    call_steps[chosen / 3 % 5]();
+    damages[chosen % 5]();
+    call_steps[chosen / 5 % 5]();
     restore_memory();
 }
 

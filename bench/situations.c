@@ -1,5 +1,5 @@
-/* The rehearsed situations of the rules and their whole session, with the numbers that the rules print, and the edges of quantity
- * and balance. */
+/* The rehearsed situations of the rules and their whole session, with the numbers that the rules print, the edges of quantity and
+ * balance, and the order of the places. */
 #include "../include/flemorix.h"
 #include "compare.h"
 #include "runs.h"
@@ -171,7 +171,7 @@ static void open_with_six_sells(void) {
     for (uint64_t p = 1001; p <= 1006; p++) sell(100, p);
 }
 
-/* k and l. What rests stands at the lowest free place, which is the first. */
+/* k and l. What rests is the only buy, so it stands first. */
 static void run_five_prices(void) {
     open_with_six_sells();
     buy_of_kind(3, 7, 600, 1300);
@@ -190,6 +190,91 @@ static void run_five_prices(void) {
     expect("l, limit 1003: at", number_at(lent.book, 3), 1003);
 }
 
+/* ---- the order of the places */
+
+/* The numbers in the book, place by place: those named, and from the 0 on free places. */
+static void expect_places(const char *name, const uint64_t *numbers) {
+    for (size_t p = 0; p < lent.book_length / 40; p++) {
+        expect(name, number_at(lent.book, 5 * p + 4), *numbers);
+        if (*numbers) numbers++;
+    }
+}
+
+static void open_with_both_sides(void) {
+    open_at(1000, 34200);
+    buy(100, 990), buy(100, 991), buy(100, 990);
+    sell(100, 1000), sell(100, 1001), sell(100, 1000);
+}
+
+static void run_places(void) {
+    open_with_both_sides();
+    expect_places("places: prices, then numbers", (uint64_t[]){2, 1, 3, 4, 6, 5, 0});
+    take_out(7, 1);
+    expect_places("places: without 1", (uint64_t[]){2, 3, 4, 6, 5, 0});
+    buy(150, 1000);
+    expect_places("places: 4 is gone, 6 in part", (uint64_t[]){2, 3, 6, 5, 0});
+    sell(300, 990);
+    expect_places("places: no buy is left, the rest is the best sell", (uint64_t[]){8, 6, 5, 0});
+    buy(100, 985);
+    expect_places("places: a buy before all sells", (uint64_t[]){9, 8, 6, 5, 0});
+    open_at(1000, 33300);
+    sell(300, 990), sell(100, 1020), buy(200, 1010), buy(100, 980);
+    expect_places("places: before the auction", (uint64_t[]){3, 4, 1, 2, 0});
+    move_to(33900);
+    expect_places("places: after it", (uint64_t[]){4, 1, 2, 0});
+    move_to(54000);
+    expect_places("places: lapsed", (uint64_t[]){0});
+}
+
+/* Each call but an opening is answered so. */
+static void expect_all(const char *name, uint64_t refusal) {
+    keep_memory();
+    expect(name, buy(100, 980), refusal), restore_memory();
+    expect(name, take_out(8, 4), refusal), restore_memory();
+    expect(name, move_to(34201), refusal), restore_memory();
+    expect(name, make(REPORT, 0, 0, 0, 0, 0), refusal);
+    expect(name, make(LIST, 0, 0, 0, 0, 0), refusal);
+}
+
+/* Places moved in the book 2, 1, 3 (buys at 991, 990, 990), 4, 6, 5 (sells at 1000, 1000, 1001) and ten free ones. */
+static const struct {
+    const char *name;
+    size_t from, to;
+} moves[] = {
+    {"two buys exchanged", 0, 1},
+    {"two buys at a price exchanged", 1, 2},
+    {"the last buy behind the first sell", 2, 3},
+    {"two sells at a price exchanged", 3, 4},
+    {"two sells exchanged", 4, 5},
+    {"a sell first", 3, 0},
+    {"a sell among the buys", 5, 1},
+    {"a buy among the sells", 1, 4},
+    {"a buy last", 0, 5},
+    {"a free place first", 6, 0},
+    {"a free place between two buys", 15, 1},
+    {"a free place between buys and sells", 6, 3},
+    {"a free place before the last order", 6, 5},
+    {"the last order behind a free place", 5, 6},
+    {"a buy behind free places", 0, 9},
+    {"a sell behind all free places", 3, 15},
+};
+
+static void run_disorder(void) {
+    open_with_both_sides();
+    for (size_t i = 0; i < sizeof moves / sizeof moves[0]; i++) {
+        move_place(moves[i].from, moves[i].to);
+        expect_all(moves[i].name, 15);
+        move_place(moves[i].to, moves[i].from);
+        expect_all("in order again", 0);
+    }
+    exchange_numbers(1, 2);
+    expect_all("numbers exchanged at a price of buys", 15);
+    exchange_numbers(1, 2), exchange_numbers(3, 4);
+    expect_all("numbers exchanged at a price of sells", 15);
+    exchange_numbers(3, 4), exchange_numbers(0, 1);
+    expect_all("numbers exchanged between two prices", 0);
+}
+
 void run_situations(void) {
     run_auctions();
     run_ranges();
@@ -198,6 +283,8 @@ void run_situations(void) {
     run_turns();
     run_odd_lot();
     run_five_prices();
+    run_places();
+    run_disorder();
 }
 
 void run_session(void) {

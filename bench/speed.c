@@ -1,64 +1,165 @@
-/* Measures each call on bytes beside the independent engine, which tests soundness as well, and beside one pass over the book: a
- * plain sum of its 64-bit numbers. In a round each case is measured once in all three ways, one after the other, from the same
- * memory; the least time of all rounds counts, as what else runs on the machine only adds. Prints docs/SPEED.md's tables: each call
- * by places and live orders, an order by its trades, and the dearest order of many random books. */
+/* Measures each call on bytes beside the yardstick of plain.c, in passes: a pass is a plain sum of the book's 64-bit numbers,
+ * measured in the same run. The books are nearly full, regular or random. Events come one after the other, each on a book that is
+ * restored before it, outside the measured time; none comes again before all others of its table have had their turn, so that no
+ * branch is foreseen because it has just been taken. The least time of all rounds counts, as what else runs on the machine only
+ * adds, less what it takes to read the clock. Prints docs/SPEED.md's tables: means over the books, and the dearest of them. */
 #define _POSIX_C_SOURCE 199309L
-#include "compare.h"
+#include "plain.h"
 #include <stdio.h>
 #include <stdlib.h>
 #include <string.h>
 #include <time.h>
 
-enum { ROUNDS = 300, SUMS = 16, CASES = 9, MOST = 4096 };
+enum { ROUNDS = 50, BOOKS = 24, SUMS = 16, MOST = 4096, PRICES = 50 };
 
-/* The book: both sides apart, both sides over each other, sells alone, or the dearest that we know for an order that takes it all,
- * sells at one price with numbers far apart. */
-enum { APART, CROSSED, SELLS, DEAREST };
+/* The lent memory: as it is, as it was before the event, and as the independent engine leaves it. */
+struct memory {
+    uint8_t day[64], book[40 * MOST], list[TRADE_BYTES * MOST], reply[48];
+};
+static struct memory now, before, after;
+static size_t places, live, buys;
 
-static uint8_t day_bytes[64], book_bytes[40 * MOST], list_bytes[TRADE_BYTES * MOST], reply_bytes[48];
-static uint8_t day_before[64], book_before[40 * MOST];
-static uint8_t day_after[64], book_after[40 * MOST];
+/* ---- chance */
 
-/* ---- the days that are measured */
+static uint64_t state;
 
-static void put_order(size_t place, uint64_t side, uint64_t price, uint64_t number) {
-    const uint64_t order[5] = {side, 7, 100, price, number};
-    for (size_t i = 0; i < 5; i++) put_number(book_before, 5 * place + i, order[i]);
+/* The generator SplitMix64: every run measures the same books and events. */
+static uint64_t chance(uint64_t below) {
+    state += 0x9e3779b97f4a7c15ull;
+    uint64_t z = state;
+    z = (z ^ z >> 30) * 0xbf58476d1ce4e5b9ull;
+    z = (z ^ z >> 27) * 0x94d049bb133111ebull;
+    return (z ^ z >> 31) % below;
 }
 
-/* A limited day with close 1,000 and as many live orders of 100 shares, buys and sells in turn, or sells alone: prices 950 to 999
- * and 1,001 to 1,050, or, where they cross, 976 to 1,025 on both sides, and 1,001 alone in the dearest book. */
-static void prepare(uint64_t time, size_t live, int book) {
-    const uint64_t apart = book == DEAREST ? 999000 / live : 1;
-    const uint64_t day[8] = {1000, 1, time, apart * live, 0, 0, 0, 0};
-    for (size_t i = 0; i < 8; i++) put_number(day_before, i, day[i]);
-    memset(book_before, 0, sizeof book_before);
+/* ---- the books */
+
+/* Both sides apart, both sides over each other, or sells alone. */
+enum { APART, CROSSED, SELLS, SHAPES };
+
+/* Regular: sides in turn, 100 shares each, 50 prices in turn. Random: any side, account, shares and price, with the numbers close
+ * together or far apart; the first two orders are a buy and a sell. */
+static void put_order(size_t p, int shape, int random, uint64_t number) {
+    uint64_t side = shape == SELLS ? 1 : random && p > 1 ? chance(2) : p % 2, step = random ? chance(PRICES) : p / 2 % PRICES;
+    uint64_t price = shape == CROSSED ? 976 + step : side ? 1001 + step : 999 - step;
+    uint64_t account = random ? 1 + chance(200) : 7, shares = random ? 100 + chance(140) : 100;
+    const uint64_t order[5] = {side, account, shares, price, number};
+    for (size_t i = 0; i < 5; i++) put_number(before.book, 5 * p + i, order[i]);
+    buys += !side;
+}
+
+/* A limited day with close 1,000. The orders arrive in any order, and are arranged. */
+static void prepare(int shape, int random) {
+    static uint64_t numbers[MOST];
+    const uint64_t apart = random && chance(2) ? 999000 / live : 1;
+    const uint64_t day[8] = {1000, 1, shape == CROSSED ? 33300 : 34200, apart * live, 0, 0, 0, 0};
     for (size_t p = 0; p < live; p++) {
-        uint64_t side = book == SELLS || book == DEAREST ? 1 : p % 2, step = book == DEAREST ? 0 : p / 2 % 50;
-        put_order(p, side, book == CROSSED ? 976 + step : side ? 1001 + step : 999 - step, apart * (p + 1));
+        size_t other = random ? chance(p + 1) : p;
+        numbers[p] = numbers[other];
+        numbers[other] = apart * (p + 1);
     }
+    buys = 0;
+    memset(&before, 0, sizeof before);
+    for (size_t i = 0; i < 8; i++) put_number(before.day, i, day[i]);
+    for (size_t p = 0; p < live; p++) put_order(p, shape, random, numbers[p]);
+    arrange_book(before.book, places);
 }
 
-struct measured {
+/* ---- the events */
+
+static void ask_open(uint64_t *a) { a[0] = 1000, a[1] = 1; }
+
+static void ask_second(uint64_t *a) { a[0] = 34201; }
+
+static void ask_auction(uint64_t *a) { a[0] = 33900; }
+
+static void ask_nothing(uint64_t *a) { a[0] = 1; } /* the list is asked from the lowest price on */
+
+static void ask_cancel(uint64_t *a) {
+    size_t p = chance(live);
+    a[0] = number_at(before.book, 5 * p + 1);
+    a[1] = number_at(before.book, 5 * p + 4);
+}
+
+/* A limit order. */
+static void ask_order(uint64_t *a, uint64_t side, uint64_t quantity, uint64_t price) {
+    const uint64_t order[ASKED] = {side, 0, 9, quantity, price, 0};
+    memcpy(a, order, sizeof order);
+}
+
+static void ask_rest(uint64_t *a) {
+    uint64_t side = chance(2), step = chance(PRICES);
+    ask_order(a, side, 100, side ? 1001 + step : 999 - step);
+}
+
+/* An order against the other side's orders from the best on, as many as there are. */
+static void take(uint64_t *a, size_t orders) {
+    uint64_t side = buys ? chance(2) : 0, shares = 0;
+    size_t first = side ? 0 : buys, end = side ? buys : live;
+    for (size_t p = first; p < end && p < first + orders; p++) shares += number_at(before.book, 5 * p + 2);
+    ask_order(a, side, shares, side ? 1000 - PRICES : 1000 + PRICES);
+}
+
+/* All of the best order, or a part of it. */
+static void ask_one(uint64_t *a) {
+    take(a, 1);
+    a[3] = 100 + chance(a[3] - 99);
+}
+
+static void ask_64(uint64_t *a) { take(a, 64); }
+
+static void ask_side(uint64_t *a) { take(a, MOST); }
+
+static void ask_any(uint64_t *a) {
+    take(a, 1 + chance(live));
+    a[1] = chance(5);
+}
+
+static const struct event {
     const char *name;
-    int which, book;
-    uint64_t time, asked[ASKED];
-    size_t room; /* the trades that the lent list has room for; 0: as many as there can be */
+    int which, shape;
+    void (*ask)(uint64_t *asked);
+} events[] = {
+    {"open", OPEN, APART, ask_open},
+    {"clock, nothing passed", CLOCK, APART, ask_second},
+    {"clock, opening auction", CLOCK, CROSSED, ask_auction},
+    {"cancel", CANCEL, APART, ask_cancel},
+    {"order that rests", ORDER, APART, ask_rest},
+    {"order that trades once", ORDER, APART, ask_one},
+    {"order that takes 64, or a whole side", ORDER, APART, ask_64},
+    {"order of any kind and size", ORDER, APART, ask_any},
+    {"order that takes all, sells alone", ORDER, SELLS, ask_side},
+    {"report", REPORT, CROSSED, ask_nothing},
+    {"list", LIST, CROSSED, ask_nothing},
 };
 
-static const struct measured cases[CASES] = {
-    {"open", OPEN, APART, 34200, {1000, 1}, 0},
-    {"order that rests", ORDER, APART, 34200, {0, 0, 9, 100, 1000}, 0},
-    {"order with 1 trade", ORDER, APART, 34200, {0, 0, 9, 100, 1001}, 0},
-    {"order with 4 trades", ORDER, APART, 34200, {0, 0, 9, 400, 1050}, 0},
-    {"cancel", CANCEL, APART, 34200, {7, 4}, 0},
-    {"clock, nothing passed", CLOCK, APART, 34200, {34201}, 0},
-    {"clock, opening auction", CLOCK, CROSSED, 33300, {33900}, 0},
-    {"report", REPORT, CROSSED, 33300, {0}, 0},
-    {"list", LIST, CROSSED, 33300, {1}, 0},
-};
+enum { EVENTS = sizeof events / sizeof events[0] };
+
+static struct lent lend_now(void) {
+    return (struct lent){now.day, now.book, now.list, now.reply, sizeof now.day, 40 * places, sizeof now.list, sizeof now.reply};
+}
+
+/* All three engines accept the event and leave the same bytes. Returns how many trades it has. */
+static size_t must_agree(const struct event *e, const uint64_t *asked) {
+    call *const ways[] = {calls[e->which].independent, calls[e->which].proved, plain[e->which]};
+    struct lent m = lend_now();
+    for (int way = 0; way < 3; way++) {
+        now = before;
+        uint64_t refusal = ways[way](&m, asked);
+        if (way == 0) after = now;
+        if (refusal || memcmp(&now, &after, sizeof now)) {
+            printf("%s: refused, or the engines differ\n", e->name);
+            exit(1);
+        }
+    }
+    size_t trades = 0;
+    while (e->which != LIST && trades < MOST && number_at(after.list, 6 * trades)) trades++;
+    return trades;
+}
 
 /* ---- time */
+
+static double clock_takes;
 
 static double nanoseconds(void) {
     struct timespec t;
@@ -70,13 +171,20 @@ static void keep_least(double *least, double time) {
     if (*least == 0 || time < *least) *least = time;
 }
 
-static uint64_t timed_call(call *made, struct lent *m, const uint64_t *asked, double *least) {
-    memcpy(day_bytes, day_before, sizeof day_bytes);
-    memcpy(book_bytes, book_before, m->book_length);
+static void time_clock(void) {
+    for (int i = 0; i < 1000; i++) {
+        double start = nanoseconds();
+        keep_least(&clock_takes, nanoseconds() - start);
+    }
+}
+
+static void time_call(call *made, const uint64_t *asked, double *least) {
+    struct lent m = lend_now();
+    memcpy(now.day, before.day, sizeof now.day);
+    memcpy(now.book, before.book, m.book_length);
     double start = nanoseconds();
-    uint64_t number = made(m, asked);
-    keep_least(least, nanoseconds() - start);
-    return number;
+    made(&m, asked);
+    keep_least(least, nanoseconds() - start - clock_takes);
 }
 
 /* One pass: not inlined, so that no pass is left out as known already. */
@@ -88,145 +196,79 @@ __attribute__((noinline)) static uint64_t sum_of(const uint64_t *numbers, size_t
 
 static volatile uint64_t sums;
 
-static void timed_pass(const struct lent *m, double *least) {
+static void time_pass(double *least) {
     static uint64_t numbers[5 * MOST];
-    size_t count = m->book_length / 8;
-    memcpy(numbers, book_before, m->book_length);
+    memcpy(numbers, before.book, 40 * places);
     double start = nanoseconds();
-    for (int i = 0; i < SUMS; i++) sums += sum_of(numbers, count);
-    keep_least(least, (nanoseconds() - start) / SUMS);
+    for (int i = 0; i < SUMS; i++) sums += sum_of(numbers, 5 * places);
+    keep_least(least, (nanoseconds() - start - clock_takes) / SUMS);
 }
 
 /* ---- the tables */
 
+/* The least times and the trades, by event, by whether the book is random, and by book. */
 struct times {
-    double proved, independent, pass;
+    double proved[EVENTS][2][BOOKS], plain[EVENTS][2][BOOKS], trades[EVENTS][2][BOOKS], pass;
 };
 
-static void keep_after(void) {
-    memcpy(day_after, day_bytes, sizeof day_bytes);
-    memcpy(book_after, book_bytes, sizeof book_bytes);
-}
-
-static int same_after(void) {
-    return !memcmp(day_after, day_bytes, sizeof day_bytes) && !memcmp(book_after, book_bytes, sizeof book_bytes);
-}
-
-/* On the day and the book that are prepared. */
-static void measure(const struct measured *c, size_t places, struct times *t) {
-    struct lent m = {day_bytes, book_bytes, list_bytes, reply_bytes, 64, 40 * places, sizeof list_bytes, sizeof reply_bytes};
-    if (c->room) m.list_length = TRADE_BYTES * c->room;
-    uint64_t got = timed_call(calls[c->which].proved, &m, c->asked, &t->proved);
-    keep_after();
-    uint64_t want = timed_call(calls[c->which].independent, &m, c->asked, &t->independent);
-    if (got || want || !same_after()) {
-        printf("%s: refused, or the engines differ\n", c->name);
-        exit(1);
-    }
-    timed_pass(&m, &t->pass);
-}
-
-static void print_times(const struct measured *c, const struct times *t) {
-    printf("| %s | %.1f | %.1f | %.2f | %.1f | %.1f |\n", c->name, t->proved / 1000, t->independent / 1000,
-           t->proved / t->independent, t->proved / t->pass, t->independent / t->pass);
-}
-
-static void print_table(const struct measured *rows, int count, size_t places, size_t live) {
-    struct times times[CASES] = {{0, 0, 0}};
-    double pass = 0;
-    for (int round = 0; round < ROUNDS; round++)
-        for (int c = 0; c < count; c++) {
-            prepare(rows[c].time, live, rows[c].book);
-            measure(&rows[c], places, &times[c]);
+static void measure(struct times *t, int round, int shape, int random, int book) {
+    state = (uint64_t)(book + 1) << 32;
+    prepare(shape, random);
+    for (int e = 0; e < EVENTS; e++) {
+        uint64_t asked[ASKED] = {0};
+        if (events[e].shape != shape) continue;
+        events[e].ask(asked);
+        if (round == 0) t->trades[e][random][book] = (double)must_agree(&events[e], asked);
+        for (int turn = round; turn < round + 2; turn++) { /* each way is the first in every other round */
+            if (turn % 2)
+                time_call(calls[events[e].which].proved, asked, &t->proved[e][random][book]);
+            else
+                time_call(plain[events[e].which], asked, &t->plain[e][random][book]);
         }
-    for (int c = 0; c < count; c++) keep_least(&pass, times[c].pass);
-    for (int c = 0; c < count; c++) times[c].pass = pass;
-    printf("%zu places, %zu live orders; a pass takes %.2f microseconds.\n\n", places, live, pass / 1000);
-    printf("| call | proved, us | independent, us | proved / independent | proved, passes | independent, passes |\n");
-    printf("|---|---|---|---|---|---|\n");
-    for (int c = 0; c < count; c++) print_times(&rows[c], &times[c]);
+    }
+    time_pass(&t->pass);
+}
+
+static double mean(const double *books) {
+    double sum = 0;
+    for (int book = 0; book < BOOKS; book++) sum += books[book];
+    return sum / BOOKS;
+}
+
+static double most(const double *books) {
+    double largest = 0;
+    for (int book = 0; book < BOOKS; book++) largest = books[book] > largest ? books[book] : largest;
+    return largest;
+}
+
+static void print_row(const struct times *t, int e) {
+    printf("| %s |", events[e].name);
+    for (int random = 0; random < 2; random++) {
+        const double *proved = t->proved[e][random];
+        printf(" %.0f | %.1f | %.1f | %.1f |", mean(t->trades[e][random]), mean(t->plain[e][random]) / t->pass,
+               mean(proved) / t->pass, most(proved) / t->pass);
+    }
     printf("\n");
 }
 
-/* An order with 2, 4, 8 trades and on, up to one that takes every sell: each has 100 shares. In the dearest book it is of kind 1,
- * which looks for the best price first, and the lent list has room for its trades and no more. */
-static void print_by_trades(size_t places, int book) {
-    static char names[CASES][32];
-    struct measured orders[CASES];
-    const uint64_t live = places - 8, sells = book == APART ? live / 2 : live, kind = book == DEAREST;
-    int count = 0;
-    for (uint64_t trades = 2; count < CASES; trades *= 2, count++) {
-        if (trades > sells || count == CASES - 1) trades = sells;
-        snprintf(names[count], sizeof names[count], "order with %d trades", (int)trades);
-        orders[count] = (struct measured){names[count], ORDER,   book, 34200, {0, kind, 9, 100 * trades, 1050},
-                                          kind ? trades : 0};
-    }
-    print_table(orders, count, places, live);
-}
-
-/* ---- random books, for what the tables leave out */
-
-static uint64_t state = 88172645463325252;
-
-/* The generator xorshift: every run measures the same books. */
-static uint64_t chance(uint64_t below) {
-    state ^= state << 13;
-    state ^= state >> 7;
-    state ^= state << 17;
-    return state % below;
-}
-
-/* Orders of 100 shares, sells alone or buys too, at few prices or many, with numbers in any order and close together or far apart. */
-static void prepare_random(size_t live) {
-    static uint64_t numbers[MOST];
-    const uint64_t apart = chance(2) ? 1 : 999000 / live, prices = chance(2) ? 1 + chance(5) : 1 + chance(50);
-    const uint64_t day[8] = {1000, 1, 34200, apart * live, 0, 0, 0, 0};
-    const size_t buys = chance(2) ? 0 : chance(live);
-    for (size_t i = 0; i < 8; i++) put_number(day_before, i, day[i]);
-    memset(book_before, 0, sizeof book_before);
-    for (size_t p = 0; p < live; p++) {
-        size_t other = chance(p + 1);
-        numbers[p] = numbers[other];
-        numbers[other] = apart * (p + 1);
-    }
-    for (size_t p = 0; p < live; p++)
-        put_order(p, p >= buys, p >= buys ? 1001 + chance(prices) : 999 - chance(prices), numbers[p]);
-}
-
-/* A buy of any kind for any part of the book or all of it, with a lent list of any length or just as long as the book's orders. */
-static struct measured random_order(size_t live) {
-    const uint64_t shares = 100 * (chance(2) ? live : 1 + chance(live));
-    return (struct measured){"a random order", ORDER, APART, 34200, {0, chance(5), 9, shares, 1050}, chance(2) ? 0 : live};
-}
-
-static double passes_of(const struct measured *c, size_t places, int rounds, struct times *t) {
-    for (int round = 0; round < rounds; round++) measure(c, places, t);
-    return t->proved / t->pass;
-}
-
-/* The dearest order of so many books. One that seems dearer than those before is measured for longer. */
-static void print_random(size_t places, int books) {
-    const size_t live = places - 1;
-    double most = 0;
-    for (int book = 0; book < books; book++) {
-        struct times t = {0, 0, 0};
-        prepare_random(live);
-        struct measured c = random_order(live);
-        double passes = passes_of(&c, places, ROUNDS / 10, &t);
-        if (passes > most) passes = passes_of(&c, places, ROUNDS, &t);
-        if (passes > most) most = passes;
-    }
-    printf("%d random books of %zu places: the dearest order costs %.1f passes.\n", books, places, most);
+static void print_table(size_t of_places, size_t orders) {
+    static struct times t;
+    memset(&t, 0, sizeof t);
+    places = of_places, live = orders;
+    for (int round = 0; round < ROUNDS; round++)
+        for (int book = 0; book < BOOKS; book++)
+            for (int each = 0; each < 2 * SHAPES; each++) measure(&t, round, each / 2, each % 2, book);
+    printf("%zu places, %zu live orders; a pass takes %.3f microseconds. In passes:\n\n", places, live, t.pass / 1000);
+    printf("| event | regular: trades | plain | proved | dearest | random: trades | plain | proved | dearest |\n");
+    printf("|---|---|---|---|---|---|---|---|---|\n");
+    for (int e = 0; e < EVENTS; e++) print_row(&t, e);
+    printf("\n");
 }
 
 int main(void) {
-    for (size_t places = 1024; places <= MOST; places *= 4) {
-        print_table(cases, CASES, places, 8);
-        print_table(cases, CASES, places, places - 8);
-    }
-    for (size_t places = 1024; places <= MOST; places *= 4) print_by_trades(places, APART);
-    print_by_trades(1024, SELLS);
-    print_by_trades(1024, DEAREST);
-    print_random(1024, 1000);
+    time_clock();
+    print_table(16, 12);
+    print_table(1024, 1016);
+    print_table(MOST, MOST - 8);
     return 0;
 }

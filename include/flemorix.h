@@ -23,7 +23,8 @@ struct flemorix_day {
     uint64_t last;     /* price of the last trade, 0 while there is none */
 };
 
-/* A place of the book. A free place is all zeros. */
+/* A place of the book. A free place is all zeros. The places stand in order: buys from best to worst, then sells from best to
+ * worst, free places last; at one price the lower number first. An order's place changes from call to call: its number names it. */
 struct flemorix_order {
     uint64_t side; /* 0 buys, 1 sells */
     uint64_t account;
@@ -59,7 +60,7 @@ enum flemorix_refusal {
     FLEMORIX_UNKNOWN = 12,   /* no live order has this number and account */
     FLEMORIX_ROOM = 13,      /* the event's trades outnumber the lent trade list */
     FLEMORIX_OPENING = 14,   /* opening: close not 1 to 999,999, mark not 0 or 1, places not 1 to 4,096, or day not 64 bytes */
-    FLEMORIX_UNSOUND = 15,   /* day not sound or not 64 bytes, or places not 1 to 4,096 */
+    FLEMORIX_UNSOUND = 15,   /* day not sound or not 64 bytes, book out of order, or places not 1 to 4,096 */
 };
 
 /* Opens a day: every place of the book becomes free, and the day's bytes are the new day. Reply: the refusal alone. 14. */

@@ -1,5 +1,5 @@
 #!/bin/bash
-# The speed of the rehearsal program, and what its events cost in passes over the book: tests/speed.sh, about a minute.
+# The speed of the rehearsal program, and what its events cost in instructions: tests/speed.sh, about a minute.
 # Needs python3, and valgrind for the second half. Not part of the gate; docs/SPEED.md has the numbers.
 set -u
 cd "$(dirname "$0")/.." || exit 2
@@ -32,7 +32,7 @@ awk -v n="$lines" -v t="$best" 'BEGIN {
 
 # 2. Instructions, counted by valgrind.
 if ! valgrind --version > /dev/null 2>&1; then
-    echo "speed: valgrind is missing; passes were not counted"
+    echo "speed: valgrind is missing; instructions were not counted"
     exit 0
 fi
 
@@ -60,19 +60,15 @@ one() { # TEXT: the instructions of one turn of it, on the standing book
     echo $((($(repeated "$times" "$1" | instructions) - before) / times))
 }
 
-# An order outside the band is refused before the book is looked at. One outside its range is refused after one pass, which
-# looks for the other side's best price. The difference is the pass.
-band=$(one 'O 0 0 9 100 2601 0\n')
-range=$(one 'O 0 0 9 100 2500 0\n')
-pass=$((range - band))
-
 say() { # WHAT INSTRUCTIONS
-    awk -v what="$1" -v i="$2" -v p="$pass" 'BEGIN { printf "%-58s %9d instructions, %6.1f passes\n", what, i, i / p }'
+    printf '%-58s %9d instructions\n' "$1" "$2"
 }
 
-say 'a pass that finds the best price among 400 of 1,024 places' "$pass"
+# An order outside the band is refused before the book is looked at, one outside its range after the other side's best price is
+# found: in a book in order that is no pass any more.
 say 'a line that is 16' "$(one 'x\n')"
-say 'an order that is 8, before the book is looked at' "$band"
+say 'an order that is 8, before the book is looked at' "$(one 'O 0 0 9 100 2601 0\n')"
+say 'an order that is 9, after the best price is found' "$(one 'O 0 0 9 100 2500 0\n')"
 say 'a move of the clock that passes nothing' "$(one 'T 34200\n')"
 say 'a cancel that is 12' "$(one 'C 9 1\n')"
 for kind in 0 1 2 3 4; do

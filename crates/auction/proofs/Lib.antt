@@ -9,5 +9,11 @@ pub mod Ties
 pub mod Writing
 pub mod Signed
 pub mod Crossing
+pub mod Stretches
+pub mod Walks
+pub mod Leaving
+pub mod Stopping
+pub mod Meeting
+pub mod Pricing
 pub mod Rules
 pub mod Stars

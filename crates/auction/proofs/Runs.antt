@@ -2,15 +2,15 @@
 use Prim.Native.Nat.{ℕ, zero, suc, _+_, _-_, _≤_, _<_}
 use mathlib.Core.Path.{_≡_, refl, sym, ap, ap₂, _∙_}
 use mathlib.Core.Bool.{Bool, true, false}
-use mathlib.Core.List.{List, [], _∷_, _++_, append-nil}
+use mathlib.Core.List.{[], _∷_, _++_, append-nil}
 use native.Mathlib.Nat.{le-refl, not-suc-le-zero, le-of-suc-le-suc}
 use native.Mathlib.Decide.{decLt}
 use native.Mathlib.Omega.{arith}
 use borrow.Author.Tests.{eq-eqb, ne-eqb}
 use lib.ListN.{length, getD}
 use lib.Dec.{eqb}
-use Rattle.model.specs.Choice.{if_then_else_}
 use Rattle.model.specs.Lists.{keep, all, any, among, least, atLeast, from}
+use Rattle.book.proofs.Lists.{keep-append}
 use Rattle.model.proofs.Bools.{not-both, and-left, and-right, and-both}
 
 -- ---- length and places
@@ -34,17 +34,6 @@ run-append a (suc m) n =
     rw (e, f) (ap (λ l. a ∷ l) (run-append (suc a) m n))
 
 -- ---- what a test keeps
-pub keep-append : {A : Type 0} (f : A → Bool) (xs ys : List A) → keep f (xs ++ ys) ≡ keep f xs ++ keep f ys
-unfolding keep
-keep-append f [] ys = refl
-keep-append f (x ∷ xs) ys = rw (keep-append f xs ys) (go (f x))
-  where
-    go :
-        (b : Bool)
-        → (if b then x ∷ (keep f xs ++ keep f ys) else keep f xs ++ keep f ys) ≡ (if b then x ∷ keep f xs else keep f xs) ++ keep f ys
-    go true = refl
-    go false = refl
-
 keep-all : (f : ℕ → Bool) (a n : ℕ) → ((p : ℕ) → a ≤ p → p < a + n → f p ≡ true) → keep f (from a n) ≡ from a n
 unfolding keep from
 keep-all f a zero h = refl

@@ -18,7 +18,7 @@ use Rattle.model.specs.Book.{standsOn}
 use Rattle.model.specs.Matching.{meets}
 use Rattle.model.specs.Auction.{demand, supply, volume, buysAbove, sellsBelow, buysAt, sellsAt}
 use Rattle.book.specs.Rows.{orderOf, bookOf}
-use Rattle.book.specs.Standing.{Fair, Standing}
+use Rattle.book.specs.Standing.{Fair, Standing, Ranked}
 use Rattle.book.proofs.Queues.{on-live}
 use Rattle.auction.specs.declared.Interest.{Interest}
 use Rattle.auction.specs.Interest.{tradesFor, brings, interest, interestAt}
@@ -125,14 +125,14 @@ supply-splits os p =
     (λ o. split-part (standsOn 1 o) (leb (o .price) p) (ltb (o .price) p) (eqb (o .price) p) (o .left) (splits (o .price) p)) os
 
 -- ---- bounds
-pub interest-bound : (os : List Order) (side p : ℕ) → Standing os → interest os side p ≤ 4_096_000_000
+pub interest-bound : (os : List Order) (side p : ℕ) → Ranked os → interest os side p ≤ 4_096_000_000
 unfolding interest
 interest-bound os side p s = shares-bound (tradesFor side p) os s
 
-pub demand-bound : (os : List Order) (p : ℕ) → Standing os → demand os p ≤ 4_096_000_000
+pub demand-bound : (os : List Order) (p : ℕ) → Ranked os → demand os p ≤ 4_096_000_000
 demand-bound os p s = rw (← interest-buys os p) (interest-bound os 0 p s)
 
-pub supply-bound : (os : List Order) (p : ℕ) → Standing os → supply os p ≤ 4_096_000_000
+pub supply-bound : (os : List Order) (p : ℕ) → Ranked os → supply os p ≤ 4_096_000_000
 supply-bound os p s = rw (← interest-sells os p) (interest-bound os 1 p s)
 
 -- nobody buys above the dearest price, nobody sells below the cheapest
@@ -187,12 +187,12 @@ module _ (rows : List (List ℕ)) (least most : ℕ) where
         }
 
     -- neither sum wraps
-    pub buys-fit : {x : ℕ} → Standing (bookOf rows) → x ≡ brings 0 least o → d + x ≤ 4_096_000_000
+    pub buys-fit : {x : ℕ} → Ranked (bookOf rows) → x ≡ brings 0 least o → d + x ≤ 4_096_000_000
     buys-fit {x} b hx =
         let x′ : x ≡ brings 0 least (orderOf (getD rows i [])) = hx ∙ ap (brings 0 least) ho in
         omega (arith, next-row i 0 least h, k .buys, interest-bound (bookOf rows) 0 least b)
 
-    pub sells-fit : {y : ℕ} → Standing (bookOf rows) → y ≡ brings 1 most o → s + y ≤ 4_096_000_000
+    pub sells-fit : {y : ℕ} → Ranked (bookOf rows) → y ≡ brings 1 most o → s + y ≤ 4_096_000_000
     sells-fit {y} b hy =
         let y′ : y ≡ brings 1 most (orderOf (getD rows i [])) = hy ∙ ap (brings 1 most) ho in
         omega (arith, next-row i 1 most h, k .sells, interest-bound (bookOf rows) 1 most b)

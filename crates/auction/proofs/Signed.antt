@@ -14,7 +14,7 @@ use Rattle.model.specs.declared.Order.{Order}
 use Rattle.model.specs.declared.ReportReply.the-variants.{Priced}
 use Rattle.model.specs.Auction.{demand, supply, volume, surplus}
 use Rattle.model.specs.AuctionCalls.{reportAt}
-use Rattle.book.specs.Standing.{Standing}
+use Rattle.book.specs.Standing.{Ranked}
 use Rattle.auction.specs.declared.Interest.{Interest}
 use Rattle.auction.specs.Interest.{interestAt}
 use Rattle.auction.proofs.Sides.{demand-bound, supply-bound, pass-buys, pass-sells}
@@ -43,14 +43,14 @@ module _ (os : List Order) (p : ℕ) where
   report-none z = rw (eq-eqb p 0 z)
 
   module _ {r : Interest} (e : r ≡ interestAt os p p) where
-    pub both-small : Standing os → (r .demand ≤ 4_096_000_000) × (r .supply ≤ 4_096_000_000)
+    pub both-small : Ranked os → (r .demand ≤ 4_096_000_000) × (r .supply ≤ 4_096_000_000)
     both-small b = (
       omega (arith, pass-buys os p p e, demand-bound os p b),
       omega (arith, pass-sells os p p e, supply-bound os p b),
     )
 
     pub report-some :
-        Standing os
+        Ranked os
         → (p ≡ 0 → ⊥)
         → {v : ℕ} {z : ℤ}
         → v ≡ min (r .demand) (r .supply)

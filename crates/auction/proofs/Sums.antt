@@ -10,7 +10,7 @@ use Rattle.model.specs.declared.Order.{Order}
 use Rattle.model.specs.Choice.{if_then_else_}
 use Rattle.model.specs.Lists.{keep, total}
 use Rattle.model.specs.Auction.{sharesOf}
-use Rattle.book.specs.Standing.{Each, Fair, Standing}
+use Rattle.book.specs.Standing.{Each, Fair, Ranked}
 
 -- ---- a number where a test holds, else 0
 pub part-is : (b : Bool) (n : ℕ) → b ≡ true → (if b then n else 0) ≡ n
@@ -70,9 +70,9 @@ shares-most f [] h = omega (arith, shares-end f)
 shares-most f (o ∷ os) h =
     omega (arith, shares-next f o os, part-most (f o) (o .left), h .0 .left, shares-most f os (h .1))
 
--- no sum over a standing book is above 4,096 times a million
-pub shares-bound : (f : Order → Bool) (os : List Order) → Standing os → sharesOf f os ≤ 4_096_000_000
-shares-bound f os s = omega (arith, shares-most f os (s .fair), s .few)
+-- no sum over a book is above 4,096 times a million
+pub shares-bound : (f : Order → Bool) (os : List Order) → Ranked os → sharesOf f os ≤ 4_096_000_000
+shares-bound f os r = omega (arith, shares-most f os (r .stands .fair), r .few)
 
 -- no order of the book passes the test
 pub shares-none : (f : Order → Bool) → ((o : Order) → Fair o → f o ≡ false) → (os : List Order) → Each Fair os → sharesOf f os ≡ 0

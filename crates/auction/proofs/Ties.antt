@@ -14,10 +14,7 @@ use Rattle.model.specs.Choice.{if_then_else_}
 use Rattle.model.specs.Lists.{atLeast, from}
 use Rattle.model.specs.Auction.{distance, demand, supply, qualifying, leastDifference, leftBy}
 use Rattle.auction.specs.declared.Span.{Span}
-use Rattle.auction.specs.declared.Interest.{Interest}
-use Rattle.auction.specs.Interest.{interestAt}
-use Rattle.auction.specs.Spans.{ends, gap, flatter, nearestIn}
-use Rattle.auction.proofs.Sides.{pass-buys, pass-sells}
+use Rattle.auction.specs.Spans.{ends, gap, flatter, besideOf, nearestIn}
 use Rattle.auction.proofs.Runs.{Least, least-run}
 use Rattle.auction.proofs.Conditions.{inner-level}
 use Rattle.auction.proofs.Spanning.{Spans, span-cases}
@@ -110,7 +107,7 @@ module _ (g : ℕ → ℕ) (lo hi : ℕ) (ordered : lo < hi) (inner : (q : ℕ) 
   least-between = elim (decLt (lo + 1) hi) [ yes h ↦ wide h | no h ↦ narrow (omega arith) ]
 
 -- ---- the smallest difference
-pub gap-level : (os : List Order) (p : ℕ) → demand os p ≡ supply os p → gap os p ≡ 0
+gap-level : (os : List Order) (p : ℕ) → demand os p ≡ supply os p → gap os p ≡ 0
 unfolding gap distance
 gap-level os p e = omega arith
 
@@ -125,15 +122,18 @@ least-alone g p =
       above = λ q h k. absurd (omega arith);
     }
 
-pub flattest :
+-- strictly between the ends it is 0
+between-level : (os : List Order) {lo hi : ℕ} → Spans os lo hi → (q : ℕ) → lo < q → q < hi → gap os q ≡ 0
+between-level os {lo} {hi} s q k l =
+    gap-level os q (inner-level os (s .each lo (le-refl lo) (s .some)) (s .each hi (s .some) (le-refl hi)) k l)
+
+flattest :
     (os : List Order) {lo hi : ℕ}
     → Spans os lo hi
     → lo < hi
     → Least (gap os) lo hi (flatter os lo (lo + 1)) (flatter os hi (hi - 1))
 unfolding flatter
-flattest os {lo} {hi} s h =
-    least-between (gap os) lo hi h
-    (λ q k l. gap-level os q (inner-level os (s .each lo (le-refl lo) (s .some)) (s .each hi (s .some) (le-refl hi)) k l))
+flattest os {lo} {hi} s h = least-between (gap os) lo hi h (between-level os s)
 
 -- ---- the nearest
 nearest-is :
@@ -245,50 +245,36 @@ price-alone os ref {s} e same =
     (λ k. rw (left-is os k ref (flattest-one os k same)) (sym (nearest-same ref (s .lo))))
     (span-cases os e)
 
-pub price-among :
-    (os : List Order) (ref : ℕ) {s : Span} {low high r : ℕ}
-    → s ≡ ends (qualifying os)
-    → (s .lo ≡ s .hi → ⊥)
-    → low ≡ flatter os (s .lo) (s .lo + 1)
-    → high ≡ flatter os (s .hi) (s .hi - 1)
-    → r ≡ nearestIn ref low high
-    → r ≡ getD (leftBy os ref) 0 0
-price-among os ref {s} e apart hl hh hr =
-    ⊎-elim
-    (λ k. absurd (apart (k .0 ∙ sym (k .1))))
-    (λ k. let l : s .lo < s .hi = omega (arith, k .some) in rw (left-is os k ref (flattest-many os k l)) (rw (hr, hl, hh)))
-    (span-cases os e)
-
-pub many-span :
+-- several prices
+pub several :
     (os : List Order) {s : Span}
     → s ≡ ends (qualifying os)
     → (s .lo ≡ s .hi → ⊥)
-    → (s .lo < s .hi) × (s .hi ≤ 999_999)
-many-span os {s} e apart =
-    ⊎-elim (λ k. absurd (apart (k .0 ∙ sym (k .1)))) (λ k. (omega (arith, k .some), k .to-999999)) (span-cases os e)
+    → Spans os (s .lo) (s .hi)
+several os e apart = ⊎-elim (λ k. absurd (apart (k .0 ∙ sym (k .1)))) (λ k. k) (span-cases os e)
 
--- the absolute difference, of one pass
-pub gap-below :
-    (os : List Order) (p : ℕ) {r : Interest}
-    → r ≡ interestAt os p p
-    → r .demand < r .supply
-    → r .supply - r .demand ≡ gap os p
-unfolding gap distance
-gap-below os p e h = omega (arith, pass-buys os p p e, pass-sells os p p e)
+pub price-among :
+    (os : List Order) (ref : ℕ) {lo hi low high r : ℕ}
+    → Spans os lo hi
+    → lo < hi
+    → low ≡ flatter os lo (lo + 1)
+    → high ≡ flatter os hi (hi - 1)
+    → r ≡ nearestIn ref low high
+    → r ≡ getD (leftBy os ref) 0 0
+price-among os ref k l hl hh hr = rw (left-is os k ref (flattest-many os k l)) (rw (hr, hl, hh))
 
-pub gap-above :
-    (os : List Order) (p : ℕ) {r : Interest}
-    → r ≡ interestAt os p p
-    → r .supply ≤ r .demand
-    → r .demand - r .supply ≡ gap os p
-unfolding gap distance
-gap-above os p e h = omega (arith, pass-buys os p p e, pass-sells os p p e)
+-- beside an end the difference is 0 where a price lies between the ends, else that of the other end
+module _ (os : List Order) {lo hi : ℕ} (k : Spans os lo hi) (l : lo < hi) where
+  pub above-low : gap os (lo + 1) ≡ besideOf lo hi (gap os hi)
+  unfolding besideOf
+  above-low = elim (decLt (lo + 1) hi) [
+    | yes h ↦ rw (lt-ltb (lo + 1) hi h) (between-level os k (lo + 1) (omega arith) h)
+    | no h ↦ let e : lo + 1 ≡ hi = omega arith in rw (le-ltb (lo + 1) hi (omega arith)) (ap (gap os) e)
+  ]
 
--- an end moves where the difference is smaller beside it
-pub end-moves : (os : List Order) (p q : ℕ) {a b : ℕ} → a ≡ gap os q → b ≡ gap os p → a < b → q ≡ flatter os p q
-unfolding flatter
-end-moves os p q ha hb h = rw (lt-ltb (gap os q) (gap os p) (omega arith))
-
-pub end-stays : (os : List Order) (p q : ℕ) {a b : ℕ} → a ≡ gap os q → b ≡ gap os p → b ≤ a → p ≡ flatter os p q
-unfolding flatter
-end-stays os p q ha hb h = rw (le-ltb (gap os q) (gap os p) (omega arith))
+  pub below-high : gap os (hi - 1) ≡ besideOf lo hi (gap os lo)
+  unfolding besideOf
+  below-high = elim (decLt (lo + 1) hi) [
+    | yes h ↦ rw (lt-ltb (lo + 1) hi h) (between-level os k (hi - 1) (omega arith) (omega arith))
+    | no h ↦ let e : hi - 1 ≡ lo = omega arith in rw (le-ltb (lo + 1) hi (omega arith)) (ap (gap os) e)
+  ]

@@ -1,7 +1,7 @@
 -- The two turning points, the search for one, and the qualifying prices between them.
 use Prim.Native.Nat.{ℕ, zero, suc, _+_, _-_, _≤_, _<_}
 use mathlib.Core.Path.{_≡_, refl, sym, _∙_}
-use mathlib.Core.Bool.{Bool, true, false, not}
+use mathlib.Core.Bool.{Bool, true, false}
 use mathlib.Core.List.{List}
 use native.Mathlib.Nat.{le-refl, le-trans}
 use native.Mathlib.Decide.{decLt, ℕ-discrete}
@@ -12,12 +12,9 @@ use Rattle.book.specs.Standing.{Price}
 use Rattle.model.specs.declared.Order.{Order}
 use Rattle.model.specs.Lists.{keep, from}
 use Rattle.model.specs.Auction.{prices, demand, supply, qualifies, qualifying}
-use Rattle.auction.specs.declared.Interest.{Interest}
-use Rattle.auction.specs.Interest.{interestAt}
 use Rattle.auction.specs.Spans.{covered, turned, turnOf}
 use Rattle.auction.specs.Rule.{Qualifies}
 use Rattle.model.proofs.Bools.{not-both, not-true-false, not-false-true, and-left, and-right, and-both}
-use Rattle.auction.proofs.Sides.{pass-buys, pass-sells}
 use Rattle.auction.proofs.Runs.{keep-run, run-at}
 use Rattle.auction.proofs.Conditions.{SellsCover, BuysCover, sells-cover-up, buys-cover-down, qualifies-clears, clears-qualifies, test-told, told-test}
 
@@ -73,25 +70,6 @@ module _ (os : List Order) (p : ℕ) where
   pub qualifies-buys : Qualifies os p → turned os 0 p ≡ false
   qualifies-buys k = unturned-buys (qualifies-clears os k .buys)
 
--- what the code computes of one pass
-pub buys-answer :
-    (os : List Order) (side p : ℕ) {r : Interest} {b : Bool}
-    → side ≡ 0
-    → r ≡ interestAt os p (p - 1)
-    → b ≡ covered (r .demand) (r .supply)
-    → not b ≡ turned os side p
-unfolding turned
-buys-answer os side p z e hb = rw (z, hb, pass-buys os p (p - 1) e, pass-sells os p (p - 1) e)
-
-pub sells-answer :
-    (os : List Order) (side p : ℕ) {r : Interest} {b : Bool}
-    → (side ≡ 0 → ⊥)
-    → r ≡ interestAt os (p + 1) p
-    → b ≡ covered (r .supply) (r .demand)
-    → b ≡ turned os side p
-unfolding turned
-sells-answer os side p z e hb = rw (ne-eqb side 0 z, hb, pass-buys os (p + 1) p e, pass-sells os (p + 1) p e)
-
 -- once turned, a side stays so as the price rises
 pub turned-up : (os : List Order) (side : ℕ) {p q : ℕ} → p ≤ q → turned os side p ≡ true → turned os side q ≡ true
 turned-up os side {p} {q} h e = elim (ℕ-discrete side 0) [
@@ -115,7 +93,7 @@ abbrev pub Turns : List Order → ℕ → ℕ → Type 0
 Turns os side r = Bracket os side r r
 
 module _ (os : List Order) (side : ℕ) where
-  pub bracket-start : Bracket os side 1 1_000_000
+  bracket-start : Bracket os side 1 1_000_000
   bracket-start =
       record {
         from-1 = omega arith;
@@ -125,7 +103,7 @@ module _ (os : List Order) (side : ℕ) where
         after = λ p h k. absurd (omega arith);
       }
 
-  pub bracket-up :
+  bracket-up :
       {lo hi mid : ℕ}
       → Bracket os side lo hi
       → lo ≤ mid
@@ -141,7 +119,7 @@ module _ (os : List Order) (side : ℕ) where
         after = b .after;
       }
 
-  pub bracket-down :
+  bracket-down :
       {lo hi mid : ℕ}
       → Bracket os side lo hi
       → lo ≤ mid
@@ -157,7 +135,7 @@ module _ (os : List Order) (side : ℕ) where
         after = λ p l l′. turned-up os side l e;
       }
 
-  pub bracket-turns : {lo hi : ℕ} → Bracket os side lo hi → hi ≤ lo → Turns os side lo
+  bracket-turns : {lo hi : ℕ} → Bracket os side lo hi → hi ≤ lo → Turns os side lo
   bracket-turns b h =
       record {
         from-1 = b .from-1;
@@ -188,9 +166,6 @@ module _ (os : List Order) (side : ℕ) where
         let e : r ≡ 1_000_000 = omega (arith, t .to-1000000) in
         rw e
   ])
-
-  pub bracket-end : {lo hi : ℕ} → Bracket os side lo hi → hi ≤ lo → lo ≡ turnOf os side
-  bracket-end b h = turns-is (bracket-turns b h)
 
 -- ---- each side has a turning point
 -- a search from lo on, n prices far

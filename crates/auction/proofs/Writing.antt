@@ -15,10 +15,11 @@ use Rattle.model.specs.declared.Order.{Order}
 use Rattle.model.specs.Lists.{keep, from}
 use Rattle.model.specs.Auction.{qualifying}
 use Rattle.model.specs.AuctionCalls.{due}
+use Rattle.book.specs.Writing.{fitted}
 use Rattle.auction.specs.declared.Span.{Span}
 use Rattle.auction.specs.declared.Listed.{Listed}
 use Rattle.auction.specs.Spans.{ends}
-use Rattle.auction.specs.Fitting.{fitted, listed}
+use Rattle.auction.specs.Fitting.{listed}
 use Rattle.auction.proofs.Runs.{run-length, run-at, keep-run}
 use Rattle.auction.proofs.Spanning.{span-cases, spanned}
 

@@ -34,9 +34,17 @@ turnOf book side = getD (keep (turned book side) prices) 0 1_000_000
 unfoldable pub gap : List Order → ℕ → ℕ
 gap book p = distance (demand book p) (supply book p)
 
+-- of two prices with their differences the first, or the second where its difference is smaller
+abbrev pub flatterBy : ℕ → ℕ → ℕ → ℕ → ℕ
+flatterBy p here q there = if ltb there here then q else p
+
 -- an end, or its neighbour where the difference is smaller there
 unfoldable pub flatter : List Order → ℕ → ℕ → ℕ
-flatter book p q = if ltb (gap book q) (gap book p) then q else p
+flatter book p q = flatterBy p (gap book p) q (gap book q)
+
+-- the difference beside an end: 0 where a price lies between the ends, else that of the other end
+unfoldable pub besideOf : ℕ → ℕ → ℕ → ℕ
+besideOf lo hi other = if ltb (lo + 1) hi then 0 else other
 
 -- of the prices a to b the nearest to the reference price
 unfoldable pub nearestIn : ℕ → ℕ → ℕ → ℕ

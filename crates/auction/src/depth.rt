@@ -3,9 +3,9 @@ use crate::Interest;
 use book::smaller;
 use model::Order;
 ghost use mathlib.Core.Path.{_≡_};
-ghost use Rattle.model.specs.Auction.{demand, supply, volume};
+ghost use Rattle.model.specs.Auction.{volume};
 ghost use Rattle.book.specs.Rows.{bookOf};
-ghost use Rattle.book.specs.Standing.{Standing};
+ghost use Rattle.book.specs.Standing.{Ranked};
 ghost use Rattle.auction.specs.Interest.{brings, interestAt};
 
 // The shares that an order brings to a side at price p.
@@ -32,7 +32,7 @@ fn shares_at(o: Order, side: u64, p: u64) -> u64
 
 // All buys at `least` or above, and all sells at `most` or below.
 pub fn interest_at(rows: &[[u64; 5]], least: u64, most: u64) -> Interest
-    requires { ⌜ Standing (bookOf (now rows)) ⌝ }
+    requires { ⌜ Ranked (bookOf (now rows)) ⌝ }
     ensures { λ r. ⌜ r ≡ interestAt (bookOf (now (rows .entry))) least most ⌝ }
 {
     let mut demand: u64 = 0;
@@ -47,27 +47,9 @@ pub fn interest_at(rows: &[[u64; 5]], least: u64, most: u64) -> Interest
     Interest { demand, supply }
 }
 
-// All buys at p or above.
-pub fn demand_at(rows: &[[u64; 5]], p: u64) -> u64
-    requires { ⌜ Standing (bookOf (now rows)) ⌝ }
-    ensures { λ r. ⌜ r ≡ demand (bookOf (now (rows .entry))) p ⌝ }
-{
-    let both = interest_at(rows, p, p);
-    both.demand
-}
-
-// All sells at p or below.
-pub fn supply_at(rows: &[[u64; 5]], p: u64) -> u64
-    requires { ⌜ Standing (bookOf (now rows)) ⌝ }
-    ensures { λ r. ⌜ r ≡ supply (bookOf (now (rows .entry))) p ⌝ }
-{
-    let both = interest_at(rows, p, p);
-    both.supply
-}
-
 // What can trade at p: the smaller of the two.
 pub fn volume_at(rows: &[[u64; 5]], p: u64) -> u64
-    requires { ⌜ Standing (bookOf (now rows)) ⌝ }
+    requires { ⌜ Ranked (bookOf (now rows)) ⌝ }
     ensures { λ r. ⌜ r ≡ volume (bookOf (now (rows .entry))) p ⌝ }
 {
     let both = interest_at(rows, p, p);

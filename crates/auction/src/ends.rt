@@ -1,65 +1,61 @@
-// The prices that qualify, by the two ends of their span. Demand falls and supply rises with the price, so each end is
-// found by halving: 20 passes over the book.
+// The prices that qualify, by the two ends of their span, where the walk along both sides has ended.
+use crate::Crossed;
 use crate::Span;
-use crate::depth::interest_at;
+use crate::walk::walk;
+use book::Head;
+use book::seats::free_from;
+use book::seats::sells_from;
 ghost use mathlib.Core.Path.{_≡_};
 ghost use Rattle.model.specs.Auction.{qualifying};
 ghost use Rattle.book.specs.Rows.{bookOf};
-ghost use Rattle.book.specs.Standing.{Price, Standing};
-ghost use Rattle.auction.specs.Spans.{ends, covered, turned, turnOf};
+ghost use Rattle.book.specs.Standing.{Ranked};
+ghost use Rattle.auction.specs.Spans.{ends};
+ghost use Rattle.auction.specs.Walks as walks;
+ghost use Rattle.auction.specs.Walks.{spanOf};
 
-// Some shares, that cover the other side's.
-fn covers(own: u64, other: u64) -> bool
-    ensures { λ r. ⌜ r ≡ covered own other ⌝ }
+// The price or, where it is higher, that of the head.
+fn higher(p: u64, h: Head) -> u64
+    ensures { λ r. ⌜ r ≡ walks.higher p h ⌝ }
 {
-    if own < 1 {
-        return false;
+    if h.left == 0 {
+        return p;
     }
-    other <= own
+    if p < h.price { h.price } else { p }
 }
 
-// Has a side turned at price p?
-fn has_turned(rows: &[[u64; 5]], side: u64, p: u64) -> bool
-    requires { ⌜ Standing (bookOf (now rows)) ⌝ }
-    requires { ⌜ Price p ⌝ }
-    ensures { λ r. ⌜ r ≡ turned (bookOf (now (rows .entry))) side p ⌝ }
+fn lower(p: u64, h: Head) -> u64
+    ensures { λ r. ⌜ r ≡ walks.lower p h ⌝ }
 {
-    if side == 0 {
-        let buys = interest_at(rows, p, p - 1);
-        let held = covers(buys.demand, buys.supply);
-        return !held;
+    if h.left == 0 {
+        return p;
     }
-    let sells = interest_at(rows, p + 1, p);
-    covers(sells.supply, sells.demand)
+    if h.price < p { h.price } else { p }
 }
 
-// The first price at which a side has turned, or 1,000,000.
-fn first_turned(rows: &[[u64; 5]], side: u64) -> u64
-    requires { ⌜ Standing (bookOf (now rows)) ⌝ }
-    ensures { λ r. ⌜ r ≡ turnOf (bookOf (now (rows .entry))) side ⌝ }
+// The qualifying prices, where the heads do not trade with each other: not below the last sell that traded or the next buy, not
+// above the last buy that traded or the next sell.
+pub fn span_at(c: Crossed, buy: Head, sell: Head) -> Span
+    ensures { λ r. ⌜ r ≡ spanOf c buy sell ⌝ }
 {
-    let mut lo: u64 = 1;
-    let mut hi: u64 = 1_000_000;
-    while lo < hi {
-        let mid = lo + (hi - lo) / 2;
-        if has_turned(rows, side, mid) {
-            hi = mid;
-        } else {
-            lo = mid + 1;
-        }
+    if c.shares == 0 {
+        return Span { lo: 0, hi: 0 };
     }
-    lo
+    Span {
+        lo: higher(c.sell, buy),
+        hi: lower(c.buy, sell),
+    }
 }
 
 // The first and the last price that qualifies, 0 and 0 where none does: those between them qualify too.
 pub fn span_of(rows: &[[u64; 5]]) -> Span
-    requires { ⌜ Standing (bookOf (now rows)) ⌝ }
+    requires { ⌜ Ranked (bookOf (now rows)) ⌝ }
     ensures { λ r. ⌜ r ≡ ends (qualifying (bookOf (now (rows .entry)))) ⌝ }
 {
-    let lo = first_turned(rows, 1);
-    let end = first_turned(rows, 0);
-    if lo < end {
-        return Span { lo, hi: end - 1 };
-    }
-    Span { lo: 0, hi: 0 }
+    let middle = sells_from(rows);
+    let end = free_from(rows);
+    let stop = walk(rows, middle, end);
+    let c = stop.crossed;
+    let buy = stop.buy;
+    let sell = stop.sell;
+    span_at(c, buy, sell)
 }

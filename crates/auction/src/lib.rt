@@ -1,10 +1,13 @@
-// The auction over the book's rows: demand and supply at a price, the prices that qualify, the one that is left, the
-// price list and the report. The book is read by one pass for each price that is looked at.
+// The auction over the book's rows: the prices that qualify and the one that is left, by one walk along both sides; demand and
+// supply at a price, the price list and the report.
 pub mod depth;
 pub mod ends;
 pub mod listing;
 pub mod price;
 pub mod report;
+pub mod walk;
+
+use book::Head;
 
 // Demand and supply, each at a price of its own.
 pub struct Interest {
@@ -16,6 +19,20 @@ pub struct Interest {
 pub struct Span {
     pub lo: u64,
     pub hi: u64,
+}
+
+// What has traded on a walk along both sides: the shares, and the prices of the last buy and the last sell.
+pub struct Crossed {
+    pub shares: u64,
+    pub buy: u64,
+    pub sell: u64,
+}
+
+// Where the walk has ended: what has traded, and the heads that do not trade with each other.
+pub struct Stop {
+    pub crossed: Crossed,
+    pub buy: Head,
+    pub sell: Head,
 }
 
 // How many prices were written, and the next one due, or 0.

@@ -6,8 +6,9 @@ ghost use Prim.Native.Nat.{_+_, _-_, _≤_};
 ghost use Rattle.model.specs.Lists.{from};
 ghost use Rattle.model.specs.AuctionCalls.{due};
 ghost use Rattle.book.specs.Rows.{bookOf};
-ghost use Rattle.book.specs.Standing.{Standing};
-ghost use Rattle.auction.specs.Fitting.{fitted, listed};
+ghost use Rattle.book.specs.Standing.{Ranked};
+ghost use Rattle.book.specs.Writing.{fitted};
+ghost use Rattle.auction.specs.Fitting.{listed};
 
 // Writes first, first + 1 and so on up to hi, as many as fit.
 fn write_run(first: u64, hi: u64, prices: &mut [u64]) -> Listed
@@ -32,7 +33,7 @@ fn write_run(first: u64, hi: u64, prices: &mut [u64]) -> Listed
 
 // As many of them as fit stand at the front of the lent list, the rest of which stays.
 pub fn list_prices(rows: &[[u64; 5]], asked: u64, prices: &mut [u64]) -> Listed
-    requires { ⌜ Standing (bookOf (now rows)) ⌝ }
+    requires { ⌜ Ranked (bookOf (now rows)) ⌝ }
     ensures { λ r. ⌜ (r ≡ listed (due asked (bookOf (now (rows .entry)))) (now (prices .entry))) × (now (prices .exit) ≡ fitted (due asked (bookOf (now (rows .entry)))) (now (prices .entry))) ⌝ }
 {
     let span = span_of(rows);

@@ -1,37 +1,68 @@
 // The auction's price: of the qualifying prices those of smallest difference, of these the nearest to the reference price.
-use crate::depth::interest_at;
-use crate::ends::span_of;
+use crate::ends::span_at;
+use crate::walk::walk;
+use book::Head;
+use book::order_at;
+use book::seats::free_from;
+use book::seats::sells_from;
 ghost use mathlib.Core.Path.{_≡_};
-ghost use lib.ListN.{getD};
+ghost use Prim.Native.Nat.{_+_, _≤_, _<_};
+ghost use lib.ListN.{length, getD};
 ghost use Rattle.model.specs.Auction.{leftBy};
 ghost use Rattle.book.specs.Rows.{bookOf};
-ghost use Rattle.book.specs.Standing.{Standing};
-ghost use Rattle.auction.specs.Spans.{gap, nearestIn};
-ghost use Rattle.auction.specs.Spans as spans;
+ghost use Rattle.book.specs.Standing.{Ranked};
+ghost use Rattle.book.specs.Lines.{line};
+ghost use Rattle.auction.specs.Spans.{flatterBy, besideOf, nearestIn};
+ghost use Rattle.auction.specs.Walks.{runOf, leftAt};
 
-// The absolute difference of demand and supply at price p.
-fn gap_at(rows: &[[u64; 5]], p: u64) -> u64
-    requires { ⌜ Standing (bookOf (now rows)) ⌝ }
-    ensures { λ r. ⌜ r ≡ gap (bookOf (now (rows .entry))) p ⌝ }
+// The shares of the orders from a place on, up to the end of their side, for as long as they stand at price p.
+fn run_from(rows: &[[u64; 5]], from: usize, end: usize, p: u64) -> u64
+    requires { ⌜ end ≤ length (now rows) ⌝ }
+    requires { ⌜ runOf p (line from end (now rows)) ≤ 4_096_000_000 ⌝ }
+    ensures { λ r. ⌜ r ≡ runOf p (line from end (now (rows .entry))) ⌝ }
 {
-    let both = interest_at(rows, p, p);
-    let demand = both.demand;
-    let supply = both.supply;
-    if demand < supply {
-        return supply - demand;
+    let mut sum: u64 = 0;
+    let mut at = from;
+    while at < end {
+        let o = order_at(rows, at);
+        if o.price != p {
+            return sum;
+        }
+        sum += o.left;
+        at += 1;
     }
-    demand - supply
+    sum
+}
+
+// What is left at price p of a side of which nobody is left at a better price: the head and those right behind it.
+fn left_at(rows: &[[u64; 5]], end: usize, h: Head, p: u64) -> u64
+    requires { ⌜ end ≤ length (now rows) ⌝ }
+    requires { ⌜ (0 < h .left → h .at < end) ⌝ }
+    requires { ⌜ leftAt p h (line (h .at + 1) end (now rows)) ≤ 4_096_000_000 ⌝ }
+    ensures { λ r. ⌜ r ≡ leftAt p h (line (h .at + 1) end (now (rows .entry))) ⌝ }
+{
+    if h.left == 0 {
+        return 0;
+    }
+    if h.price != p {
+        return 0;
+    }
+    h.left + run_from(rows, h.at + 1, end, p)
+}
+
+// The difference beside an end: 0 where a price lies between the ends, else that of the other end.
+fn beside(lo: u64, hi: u64, gap: u64) -> u64
+    requires { ⌜ lo ≤ 999_999 ⌝ }
+    ensures { λ r. ⌜ r ≡ besideOf lo hi gap ⌝ }
+{
+    if lo + 1 < hi { 0 } else { gap }
 }
 
 // An end of the qualifying prices, or its neighbour where the difference is smaller there.
-fn flatter(rows: &[[u64; 5]], end: u64, next: u64) -> u64
-    requires { ⌜ Standing (bookOf (now rows)) ⌝ }
-    ensures { λ r. ⌜ r ≡ spans.flatter (bookOf (now (rows .entry))) end next ⌝ }
+fn flatter(end: u64, gap: u64, next: u64, other: u64) -> u64
+    ensures { λ r. ⌜ r ≡ flatterBy end gap next other ⌝ }
 {
-    if gap_at(rows, next) < gap_at(rows, end) {
-        return next;
-    }
-    end
+    if other < gap { next } else { end }
 }
 
 // The price from a to b that is nearest to the reference price.
@@ -47,20 +78,28 @@ fn nearest(reference: u64, a: u64, b: u64) -> u64
     reference
 }
 
-// The price that the two tie rules leave, 0 where none qualifies: 44 passes over the book.
+// The price that the two tie rules leave, 0 where none qualifies: one walk along both sides, and a look at who is left at an end.
 pub fn auction_price(rows: &[[u64; 5]], reference: u64) -> u64
-    requires { ⌜ Standing (bookOf (now rows)) ⌝ }
+    requires { ⌜ Ranked (bookOf (now rows)) ⌝ }
     ensures { λ r. ⌜ r ≡ getD (leftBy (bookOf (now (rows .entry))) reference) 0 0 ⌝ }
 {
-    let span = span_of(rows);
+    let middle = sells_from(rows);
+    let end = free_from(rows);
+    let stop = walk(rows, middle, end);
+    let c = stop.crossed;
+    let buy = stop.buy;
+    let sell = stop.sell;
+    let span = span_at(c, buy, sell);
     let lo = span.lo;
     let hi = span.hi;
     // none, or one alone
     if lo == hi {
         return lo;
     }
-    // strictly between the ends the difference is 0, so only an end can have more than its neighbour
-    let low = flatter(rows, lo, lo + 1);
-    let high = flatter(rows, hi, hi - 1);
+    // what has traded is equal on both sides: the difference is what is left of the buys at lo, of the sells at hi
+    let buys = left_at(rows, middle, buy, lo);
+    let sells = left_at(rows, end, sell, hi);
+    let low = flatter(lo, buys, lo + 1, beside(lo, hi, sells));
+    let high = flatter(hi, sells, hi - 1, beside(lo, hi, buys));
     nearest(reference, low, high)
 }

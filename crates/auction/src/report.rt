@@ -7,7 +7,7 @@ ghost use Prim.Native.Nat.{_≤_};
 ghost use lib.IntN.{subℕ};
 ghost use Rattle.model.specs.AuctionCalls.{reportAt};
 ghost use Rattle.book.specs.Rows.{bookOf};
-ghost use Rattle.book.specs.Standing.{Standing};
+ghost use Rattle.book.specs.Standing.{Ranked};
 
 // Demand minus supply.
 fn surplus_of(demand: u64, supply: u64) -> i64
@@ -19,7 +19,7 @@ fn surplus_of(demand: u64, supply: u64) -> i64
 
 // The report at the price that the auction would have; all zero at 0, where nothing qualifies.
 pub fn report_at(rows: &[[u64; 5]], price: u64) -> ReportReply
-    requires { ⌜ Standing (bookOf (now rows)) ⌝ }
+    requires { ⌜ Ranked (bookOf (now rows)) ⌝ }
     ensures { λ r. ⌜ r ≡ reportAt price (bookOf (now (rows .entry))) ⌝ }
 {
     if price == 0 {

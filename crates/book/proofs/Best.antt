@@ -56,23 +56,23 @@ on-each P side book e =
 
 -- ---- in which order: each is ahead of all that come later
 
-abbrev pub Ordered : ℕ → List Order → Type 0
-Ordered side [] = Unit {0}
-Ordered side (o ∷ os) = Each (λ p. ahead side o p ≡ true) os × Ordered side os
+abbrev pub InTurn : ℕ → List Order → Type 0
+InTurn side [] = Unit {0}
+InTurn side (o ∷ os) = Each (λ p. ahead side o p ≡ true) os × InTurn side os
 
-ordered : (side a : ℕ) (q : List Order) → Each (Stands side) q → Rising key a q → Ordered side q
-ordered side a [] f r = tt
-ordered side a (o ∷ os) f r = (
+in-turn : (side a : ℕ) (q : List Order) → Each (Stands side) q → Rising key a q → InTurn side q
+in-turn side a [] f r = tt
+in-turn side a (o ∷ os) f r = (
   both (Stands side) (λ p. key o < key p) (λ p. ahead side o p ≡ true) os
       (λ p h l. ahead-key side o p (f .0) h ∙ unfold byKey in lt-ltb (key o) (key p) l)
       (f .1)
       (rising-over key (key o) (key o) os (omega arith) (r .1)),
-  ordered side (key o) os (f .1) (r .1),
+  in-turn side (key o) os (f .1) (r .1),
 )
 
-pub queue-ordered : (side : ℕ) (book : List Order) → Standing book → Ordered side (queue side book)
-queue-ordered side book s =
-    ordered side 0 (queue side book) (queue-stands side book (s .fair)) (queue-rising side book s)
+pub queue-in-turn : (side : ℕ) (book : List Order) → Standing book → InTurn side (queue side book)
+queue-in-turn side book s =
+    in-turn side 0 (queue side book) (queue-stands side book (s .fair)) (queue-rising side book s)
 
 -- ---- the best price
 

@@ -1,25 +1,22 @@
--- Buys and sells: when the best prices say that every buy is below every sell, and how trades and a new rest keep it so.
+-- Buys and sells: when the best prices say that every buy is below every sell, and how trades and a new order keep it so.
 use Prim.Native.Nat.{ℕ, _≤_, _<_, min, max}
 use mathlib.Core.Path.{_≡_, refl, sym, ap, _∙_}
 use mathlib.Core.Bool.{Bool, true, false, cond, not, _&&_}
 use mathlib.Core.List.{List, [], _∷_}
 use mathlib.Core.Logic.{_⊎_, inl, inr}
 use native.Mathlib.Omega.{arith}
-use lib.ListN.{set}
 use lib.Dec.{leb, eqb}
 use borrow.Author.Tests.{ne-eqb, eqb-true, eqb-false, leb-false, lt-leb, le-ltb}
 use Rattle.model.specs.declared.Order.{Order}
 use Rattle.model.specs.declared.Trade.{Trade}
 use Rattle.model.specs.Book.{standsOn, other, best, free}
-use Rattle.model.specs.Matching.{meets, within, filledOf, lessBy, settle, rest}
+use Rattle.model.specs.Matching.{meets, within, filledOf, lessBy, settle}
 use Rattle.model.specs.Sound.{crosses}
 use Rattle.book.specs.Standing.{Each, Fair, Standing}
 use Rattle.book.specs.Priority.{rank}
-use Rattle.book.specs.Places.{lowestFree}
 use Rattle.book.proofs.Lists.{both, each, every}
 use Rattle.book.proofs.Queues.{on-side, on-live, same-stand}
-use Rattle.book.proofs.Finding.{rest-set}
-use Rattle.book.proofs.Kept.{Less, after, after-less, free-number, set-each}
+use Rattle.book.proofs.Kept.{Less, after, after-less, free-number}
 use Rattle.book.proofs.Best.{on-each, best-has, best-first, has-best}
 
 -- every sell is above a price, every buy below it
@@ -164,7 +161,7 @@ module _ (ts : List Trade) where
       (λ b f t. settle-prices 1 (λ p. b .price < p) book (f t))
       u)
 
--- ---- after a new rest
+-- ---- with a new order
 
 -- nobody of the other side meets the price
 abbrev pub Unmet : ℕ → ℕ → List Order → Type 0
@@ -217,23 +214,17 @@ module _ (x : Order) (book : List Order) (unmet : Unmet (x .side) (x .price) boo
       every (λ (o : Order). standsOn 0 o ≡ true → standsOn 1 x ≡ true → o .price < x .price) book
       (λ o t u. absurd (let z : _≡_ {A = ℕ} 0 1 = cc in omega arith))
 
-  pub uncrossed-rest : Uncrossed book → Uncrossed (rest x book)
-  uncrossed-rest u =
-      rw (rest-set x book)
-      (set-each (λ (b : Order). standsOn 0 b ≡ true → SellsAbove (b .price) (set book i x)) book
-      i x
-      (λ t.
-      set-each (λ (s : Order). standsOn 1 s ≡ true → x .price < s .price) book i x (λ v. absurd (one-side t v)) (below t))
-      (both (λ (b : Order). standsOn 0 b ≡ true → SellsAbove (b .price) book)
-      (λ (b : Order). standsOn 0 b ≡ true → standsOn 1 x ≡ true → b .price < x .price)
-      (λ (b : Order). standsOn 0 b ≡ true → SellsAbove (b .price) (set book i x))
-      book
-      (λ b f g t. set-each (λ (s : Order). standsOn 1 s ≡ true → b .price < s .price) book i x (g t) (f t))
-      u
-      (above-each (standsOn 1 x) refl)))
-    where
-      i : ℕ
-      i = lowestFree book
+  pub uncrossed-with : Uncrossed book → Uncrossed (x ∷ book)
+  uncrossed-with u = (
+    λ t. (λ v. absurd (one-side t v), below t),
+    both (λ (b : Order). standsOn 0 b ≡ true → SellsAbove (b .price) book)
+        (λ (b : Order). standsOn 0 b ≡ true → standsOn 1 x ≡ true → b .price < x .price)
+        (λ (b : Order). standsOn 0 b ≡ true → SellsAbove (b .price) (x ∷ book))
+        book
+        (λ b f g t. (g t, f t))
+        u
+        (above-each (standsOn 1 x) refl),
+  )
 
 -- ---- prices that nobody meets
 

@@ -1,26 +1,23 @@
--- Laws of the first place that passes a test: how a walk finds it, when there is one, and the book with that place set.
+-- Laws of the first place that passes a test: how a walk finds it, when there is one, and the book without an account's order.
 use Prim.Native.Nat.{ℕ, suc, _+_, _≤_, _<_}
 use mathlib.Core.Path.{_≡_, refl, sym, ap, _∙_}
 use mathlib.Core.Bool.{Bool, true, false, cond, not, _&&_, _||_}
-use mathlib.Core.List.{List, [], _∷_, map}
+use mathlib.Core.List.{List, [], _∷_, _++_}
 use native.Mathlib.Omega.{arith}
 use native.Mathlib.Numerals.{add-one}
-use lib.ListN.{length, drop, getD, set}
+use lib.ListN.{length, take, drop, getD}
 use lib.Seq.{drop-cons, drop-length}
 use lib.Dec.{ltb, eqb}
-use borrow.Author.Tests.{lt-ltb, le-ltb, eqb-true}
+use borrow.Author.Tests.{lt-ltb, eqb-true}
 use Rattle.model.specs.declared.Order.{Order}
-use Rattle.model.specs.Choice.{if_then_else_}
-use Rattle.model.specs.Lists.{keep, all, any, total}
+use Rattle.model.specs.Lists.{keep, any, total}
 use Rattle.model.specs.Book.{free, isLive}
-use Rattle.model.specs.Matching.{rest}
 use Rattle.model.specs.Calls.{isOwn}
 use Rattle.model.proofs.Bools.{and-left, and-right}
-use Rattle.book.specs.Rows.{orderOf, rowOf, bookOf}
+use Rattle.book.specs.Rows.{orderOf, bookOf}
 use Rattle.book.specs.Standing.{Each, Apart}
-use Rattle.book.specs.Places.{firstWith, lowestFree, placeOf}
-use Rattle.book.proofs.Lists.{each, keep-true, keep-false, keep-none}
-use Rattle.book.proofs.Memory.{book-set}
+use Rattle.book.specs.Places.{firstWith, placeOf}
+use Rattle.book.proofs.Lists.{each, keep-true, keep-false, keep-all, keep-none}
 use Rattle.book.proofs.Queues.{live-number, ltb-same}
 
 -- ---- a walk from the first place on
@@ -76,6 +73,21 @@ module _ (p : Order → Bool) where
       go true h = omega arith
       go false h = omega arith
 
+  -- the one that is found passes
+  pub first-passes : (book : List Order) (d : Order) → firstWith p book < length book → p (getD book (firstWith p book) d) ≡ true
+  unfolding firstWith
+  first-passes [] d h = absurd (omega arith)
+  first-passes (o ∷ os) d h = go (p o) refl h (first-passes os d)
+    where
+      go :
+          (b : Bool)
+          → p o ≡ b
+          → cond b 0 (suc (firstWith p os)) < suc (length os)
+          → (firstWith p os < length os → p (getD os (firstWith p os) d) ≡ true)
+          → p (getD (o ∷ os) (cond b 0 (suc (firstWith p os))) d) ≡ true
+      go true e h ih = e
+      go false e h ih = ih (omega arith)
+
   pub any-first : (book : List Order) → any p book ≡ ltb (firstWith p book) (length book)
   unfolding any firstWith
   any-first [] = refl
@@ -90,60 +102,6 @@ module _ (p : Order → Bool) where
           h
           ∙ ltb-same (firstWith p os) (length os) (suc (firstWith p os)) (suc (length os)) (λ l. omega arith)
           (λ l. omega arith)
-
--- ---- a free place
-
-not-all : (p : Order → Bool) (book : List Order) → all p book ≡ not (any (λ o. not (p o)) book)
-unfolding all any
-not-all p [] = refl
-not-all p (o ∷ os) = go (p o) (not-all p os)
-  where
-    go :
-        (b : Bool)
-        → all p os ≡ not (any (λ o. not (p o)) os)
-        → b && all p os ≡ not (not b || any (λ o. not (p o)) os)
-    go true h = h
-    go false h = refl
-
-module _ (book : List Order) where
-  all-live : all isLive book ≡ not (ltb (lowestFree book) (length book))
-  unfolding lowestFree
-  all-live = not-all isLive book ∙ ap not (any-first (λ o. not (isLive o)) book)
-
-  -- the book is full exactly where the lowest free place is past its end
-  pub full : length book ≤ lowestFree book → all isLive book ≡ true
-  full h = all-live ∙ ap not (le-ltb (lowestFree book) (length book) h)
-
-  pub not-full : lowestFree book < length book → all isLive book ≡ false
-  not-full h = all-live ∙ ap not (lt-ltb (lowestFree book) (length book) h)
-
-  pub lowest-bound : lowestFree book ≤ length book
-  unfolding lowestFree
-  lowest-bound = first-bound (λ o. not (isLive o)) book
-
--- a new rest is set at the lowest free place; where there is none, nothing changes
-pub rest-set : (o : Order) (book : List Order) → rest o book ≡ set book (lowestFree book) o
-unfolding rest lowestFree firstWith
-rest-set o [] = refl
-rest-set o (p ∷ ps) = go (isLive p) (rest-set o ps)
-  where
-    go :
-        (b : Bool)
-        → rest o ps ≡ set ps (firstWith (λ x. not (isLive x)) ps) o
-        → cond b (p ∷ rest o ps) (o ∷ ps)
-        ≡ set (p ∷ ps) (cond (not b) 0 (suc (firstWith (λ x. not (isLive x)) ps))) o
-    go true h = ap (λ (l : List Order). p ∷ l) h
-    go false h = refl
-
--- as rows
-pub rest-rows :
-    (o : Order) (rows rows′ : List (List ℕ)) (place : ℕ)
-    → place ≡ lowestFree (bookOf rows)
-    → rows′ ≡ set rows place (rowOf o)
-    → (rows′ ≡ set rows (lowestFree (bookOf rows)) (rowOf o)) × (bookOf rows′ ≡ rest o (bookOf rows))
-rest-rows o rows rows′ place p e =
-    let there : rows′ ≡ set rows (lowestFree (bookOf rows)) (rowOf o) = e ∙ ap (λ (n : ℕ). set rows n (rowOf o)) p in
-    (there, ap bookOf there ∙ book-set rows (lowestFree (bookOf rows)) o ∙ sym (rest-set o (bookOf rows)))
 
 -- ---- an account's own order
 
@@ -176,28 +134,37 @@ module _ (account number : ℕ) where
       go p n true f = absurd (own-number o e .1 (n (own-number p f .0 ∙ sym (own-number o e .0))))
       go p n false f = refl
 
-  -- the book without it
-  abbrev pub taken : Order → Order
-  taken o = if own o then free else o
+  -- where the account has such an order, it is live
+  pub own-live : (book : List Order) → placeOf account number book < length book → getD book (placeOf account number book) free .number ≡ 0 → ⊥
+  unfolding placeOf
+  own-live book h = own-number (getD book (firstWith own book) free) (first-passes own book free h) .1
 
-  untouched : (os : List Order) → Each (λ p. own p ≡ false) os → map taken os ≡ os
-  untouched [] e = refl
-  untouched (o ∷ os) e =
-      ap (λ (b : Bool). cond b free o ∷ map taken os) (e .0) ∙ ap (λ (l : List Order). o ∷ l) (untouched os (e .1))
+  -- no free place is anybody's
+  pub free-foreign : not (own free) ≡ true
+  unfolding isOwn isLive free
+  free-foreign = refl
 
-  -- a cancel sets one place free; where the account has no such order, nothing changes
-  pub cancel-set : (book : List Order) → Apart book → map taken book ≡ set book (placeOf account number book) free
+  -- a cancel takes out one place; where the account has no such order, nothing changes
+  pub cancel-keeps :
+      (book : List Order)
+      → Apart book
+      → keep (λ o. not (own o)) book
+      ≡ take (placeOf account number book) book ++ drop (suc (placeOf account number book)) book
   unfolding placeOf firstWith
-  cancel-set [] a = refl
-  cancel-set (o ∷ os) a = go (own o) refl (cancel-set os (a .1))
+  cancel-keeps [] a = unfold keep in refl
+  cancel-keeps (o ∷ os) a = go (own o) refl (cancel-keeps os (a .1))
     where
       go :
           (b : Bool)
           → own o ≡ b
-          → map taken os ≡ set os (firstWith own os) free
-          → cond b free o ∷ map taken os ≡ set (o ∷ os) (cond b 0 (suc (firstWith own os))) free
-      go true e h = ap (λ (l : List Order). free ∷ l) (untouched os (others o os e (a .0)))
-      go false e h = ap (λ (l : List Order). o ∷ l) h
+          → keep (λ x. not (own x)) os ≡ take (firstWith own os) os ++ drop (suc (firstWith own os)) os
+          → keep (λ x. not (own x)) (o ∷ os)
+          ≡ take (cond b 0 (suc (firstWith own os))) (o ∷ os) ++ drop (suc (cond b 0 (suc (firstWith own os)))) (o ∷ os)
+      go true e h =
+          keep-false (λ x. not (own x)) o os (ap not e)
+          ∙ keep-all (λ x. not (own x)) os
+          (each (λ x. own x ≡ false) (λ x. not (own x) ≡ true) os (λ x f. ap not f) (others o os e (a .0)))
+      go false e h = keep-true (λ x. not (own x)) o os (ap not e) ∙ ap (λ (l : List Order). o ∷ l) h
 
   -- and withdraws what is left there
   pub cancel-left :
@@ -218,16 +185,3 @@ module _ (account number : ℕ) where
           (keep-true own o os e ∙ ap (λ (l : List Order). o ∷ l) (keep-none own os (others o os e (a .0))))
           ∙ unfold total in omega arith
       go false e h = ap (total (λ x. x .left)) (keep-false own o os e) ∙ h
-
-  -- as rows: the place is set free, and what was left there is withdrawn
-  pub cancel-rows :
-      (rows rows′ : List (List ℕ)) (place : ℕ)
-      → Apart (bookOf rows)
-      → place ≡ placeOf account number (bookOf rows)
-      → rows′ ≡ set rows place (rowOf free)
-      → bookOf rows′ ≡ map taken (bookOf rows)
-  cancel-rows rows rows′ place a p e =
-      ap bookOf e
-      ∙ book-set rows place free
-      ∙ ap (λ (n : ℕ). set (bookOf rows) n free) p
-      ∙ sym (cancel-set (bookOf rows) a)

@@ -1,22 +1,20 @@
--- A book that stands keeps standing: after trades, after a new rest, with a place set free, and when it is cleared.
-use Prim.Native.Nat.{ℕ, zero, suc, _+_, _-_, _≤_, _<_}
+-- Orders that stand keep standing: after trades, with a new order, without some of them, and when the book is cleared.
+use Prim.Native.Nat.{ℕ, _+_, _-_, _≤_, _<_}
 use mathlib.Core.Path.{_≡_, refl, sym, ap, _∙_}
 use mathlib.Core.Bool.{Bool, true, false, cond}
 use mathlib.Core.List.{List, [], _∷_, map}
 use mathlib.Core.Logic.{_⊎_, inl, inr}
 use native.Mathlib.Omega.{arith}
-use lib.ListN.{length, length-map, length-set, set}
 use lib.Dec.{ltb}
 use borrow.Author.Tests.{ltb-true}
 use Rattle.model.specs.declared.Order.{Order}
 use Rattle.model.specs.declared.Trade.{Trade}
+use Rattle.model.specs.Lists.{keep}
 use Rattle.model.specs.Book.{free}
-use Rattle.model.specs.Matching.{filledOf, lessBy, settle, rest}
+use Rattle.model.specs.Matching.{filledOf, lessBy, settle}
 use Rattle.model.specs.Calls.{cleared}
 use Rattle.book.specs.Standing.{Each, Fair, Apart, Standing}
-use Rattle.book.specs.Places.{lowestFree}
-use Rattle.book.proofs.Lists.{each, every}
-use Rattle.book.proofs.Finding.{rest-set}
+use Rattle.book.proofs.Lists.{each, every, each-keep, keep-true, keep-false}
 
 pub fair-free : Fair free
 unfolding free
@@ -39,12 +37,7 @@ pub free-number : free .number ≡ 0
 unfolding free
 free-number = refl
 
--- ---- one place changed
-
-pub set-each : (P : Order → Type 0) (os : List Order) (i : ℕ) (o : Order) → P o → Each P os → Each P (set os i o)
-set-each P [] i o h e = tt
-set-each P (p ∷ os) zero o h e = (h, e .1)
-set-each P (p ∷ os) (suc i) o h e = (e .0, set-each P os i o h (e .1))
+-- ---- one order more, and some fewer
 
 -- no order of the book has the number, unless the number is 0
 abbrev pub Fresh : ℕ → List Order → Type 0
@@ -60,42 +53,23 @@ new-fresh n book w =
     each (λ (o : Order). o .number ≡ n → ⊥) (λ (o : Order). o .number ≡ n → n ≡ 0) book (λ o f e. absurd (f e))
     (w .fresh)
 
-set-apart : (os : List Order) (i : ℕ) (o : Order) → Fresh (o .number) os → Apart os → Apart (set os i o)
-set-apart [] i o f a = tt
-set-apart (p ∷ os) zero o f a = (f .1, a .1)
-set-apart (p ∷ os) (suc i) o f a = (
-  set-each (λ (x : Order). x .number ≡ p .number → p .number ≡ 0) os i o (λ e. sym e ∙ f .0 (sym e)) (a .0),
-  set-apart os i o (f .1) (a .1),
-)
+pub standing-with : (o : Order) (os : List Order) → Fair o → Fresh (o .number) os → Standing os → Standing (o ∷ os)
+standing-with o os h f s = record { fair = (h, s .fair); apart = (f, s .apart) }
 
-pub standing-set :
-    (book : List Order) (place : ℕ) (o : Order)
-    → Fair o
-    → Fresh (o .number) book
-    → Standing book
-    → Standing (set book place o)
-standing-set book place o h f s =
-    record {
-      fair = set-each Fair book place o h (s .fair);
-      apart = set-apart book place o f (s .apart);
-      few = rw (length-set book place o) (s .few);
-    }
+apart-keep : (p : Order → Bool) (os : List Order) → Apart os → Apart (keep p os)
+apart-keep p [] a = unfold keep in tt
+apart-keep p (o ∷ os) a = go (p o) refl (apart-keep p os (a .1))
+  where
+    go : (b : Bool) → p o ≡ b → Apart (keep p os) → Apart (keep p (o ∷ os))
+    go true e ih =
+        rw (keep-true p o os e)
+        (each-keep (λ (x : Order). x .number ≡ o .number → o .number ≡ 0) p os (a .0), ih)
+    go false e ih = rw (keep-false p o os e) ih
 
-pub standing-rest :
-    (o : Order) (book : List Order)
-    → Fair o
-    → Fresh (o .number) book
-    → Standing book
-    → Standing (rest o book)
-standing-rest o book h f s = rw (rest-set o book) (standing-set book (lowestFree book) o h f s)
+pub standing-keep : (p : Order → Bool) (os : List Order) → Standing os → Standing (keep p os)
+standing-keep p os s = record { fair = each-keep Fair p os (s .fair); apart = apart-keep p os (s .apart) }
 
-pub standing-free : (book : List Order) (place : ℕ) → Standing book → Standing (set book place free)
-unfolding free
-standing-free book place s =
-    standing-set book place free fair-free
-    (each Fair (λ (p : Order). p .number ≡ 0 → 0 ≡ 0) book (λ p h e. refl) (s .fair)) s
-
--- ---- each place changed
+-- ---- after trades
 
 -- what is left of an order is free, or the same order with fewer shares
 pub record Less (o p : Order) : Type 0 where
@@ -192,21 +166,16 @@ module _ (ts : List Trade) where
   pub standing-settle : (book : List Order) → Standing book → Standing (settle ts book)
   unfolding settle
   standing-settle book s =
-      record {
-        fair = fairs book (s .fair);
-        apart = aparts book (s .apart);
-        few = rw (length-map book after) (s .few);
-      }
+      record { fair = fairs book (s .fair); apart = aparts book (s .apart) }
 
   -- a number that no order had, none has afterwards
   pub fresh-settle : (n : ℕ) (book : List Order) → Fresh n book → Fresh n (settle ts book)
   unfolding settle
   fresh-settle n book f = fresh-after n book f
 
-pub standing-cleared : (book : List Order) → length book ≤ 4_096 → Standing (cleared book)
+pub standing-cleared : (book : List Order) → Standing (cleared book)
 unfolding cleared
-standing-cleared book h =
-    record { fair = all-fair book; apart = all-apart book; few = rw (length-map book (λ (o : Order). free)) h }
+standing-cleared book = record { fair = all-fair book; apart = all-apart book }
   where
     all-fair : (os : List Order) → Each Fair (map (λ (o : Order). free) os)
     all-fair [] = tt

@@ -1,149 +1,101 @@
--- A line: a tree of tickets that lead to rows, from one time that it is asked to the next.
-use Prim.Native.Nat.{ℕ, _*_, _/_, _%_, _≤_, _<_}
-use mathlib.Core.Path.{_≡_, refl, sym, ap, _∙_}
-use mathlib.Core.List.{List, []}
-use mathlib.Core.Logic.{_⊎_, inl, inr}
+-- The orders of a side as they stand in the book, one place after the other.
+use Prim.Native.Nat.{ℕ, _+_, _-_, _≤_, _<_}
+use mathlib.Core.Path.{_≡_, sym, ap, _∙_}
+use mathlib.Core.List.{List, [], _∷_, _++_}
 use native.Mathlib.Omega.{arith}
-use lib.ListN.{length, getD, length-map, drop-of-length-le}
-use borrow.Author.Tests.{eq-eqb, ne-eqb}
+use native.Mathlib.Numerals.{add-one}
+use lib.ListN.{length, getD, take, drop, replicate, length-take, length-drop, length-map, drop-of-length-le}
+use lib.Seq.{drop-cons, getD-take, take-append-seam, drop-append-seam, take-append-add}
 use Rattle.model.specs.declared.Order.{Order}
-use Rattle.model.specs.Book.{queue}
-use Rattle.book.specs.declared.Next.{Next}
-use Rattle.book.specs.declared.Next.the-variants.{At, Nothing}
+use Rattle.model.specs.Book.{free, queue, headPrice, best}
 use Rattle.book.specs.Rows.{orderOf, bookOf}
-use Rattle.book.specs.Standing.{Standing}
-use Rattle.book.specs.Priority.{beyond, nextOf}
-use Rattle.book.specs.Tickets.{ticketsFrom, lastOf, never, remaining, soonest, atTicket, ticketsIn, Tree, Line, SamePast, LineOf}
-use Rattle.book.proofs.Lists.{at-each}
-use Rattle.book.proofs.Soonest.{remaining-all, remaining-again, soonest-none, soonest-again, soonest-has}
-use Rattle.book.proofs.Trees.{own-remaining, tickets-half, top-soonest}
-use Rattle.book.proofs.ByTicket.{last-of, tickets-own, ticket-next}
+use Rattle.book.specs.Standing.{Ranked}
+use Rattle.book.proofs.Memory.{book-at}
+use Rattle.book.specs.declared.Stretch.{Stretch}
+use Rattle.book.specs.Lines.{line, StretchOf}
+use Rattle.book.proofs.Parts.{Parts, RankedParts, parts-of, parts-length}
 
--- ---- where the soonest leads
+-- ---- one after the other
 
-module _ (rows : List (List ℕ)) {t soon : ℕ} (e : t ≡ soon) where
-  pub leads-nowhere : t ≡ never → Nothing ≡ atTicket rows soon
-  unfolding atTicket
-  leads-nowhere z = rw (sym e, eq-eqb t never z)
+pub line-end : (at end : ℕ) (rows : List (List ℕ)) → end ≤ at → line at end rows ≡ []
+unfolding line
+line-end at end rows h = drop-of-length-le (take end (bookOf rows)) {i = at} (omega (arith, length-take end (bookOf rows)))
 
-  pub leads-there : {o : Order} → (t ≡ never → ⊥) → o ≡ orderOf (getD rows (t % 4_096) []) → At o (t / 4_096) ≡ atTicket rows soon
-  unfolding atTicket
-  leads-there n at = rw (sym e, ne-eqb t never n, at)
+pub line-cons :
+    (at end : ℕ) (rows : List (List ℕ)) {o : Order}
+    → at < end
+    → end ≤ length rows
+    → o ≡ orderOf (getD rows at [])
+    → line at end rows ≡ o ∷ line (at + 1) end rows
+unfolding line
+line-cons at end rows {o} h k e =
+    let n : ℕ = length (take end (bookOf rows)) in
+    let inside : at < length (take end (bookOf rows)) =
+    omega (arith, length-take end (bookOf rows), length-map rows orderOf)
+    in
+    let it : getD (take end (bookOf rows)) at free ≡ o =
+    getD-take end (bookOf rows) at free h ∙ sym (book-at rows at) ∙ sym e
+    in
+    drop-cons (take end (bookOf rows)) at free inside ∙ rw (it, add-one)
 
--- ---- a line that is asked
+pub line-length : (at end : ℕ) (rows : List (List ℕ)) → end ≤ length rows → length (line at end rows) ≡ end - at
+unfolding line
+line-length at end rows h =
+    length-drop at (take end (bookOf rows)) ∙ omega (arith, length-take end (bookOf rows), length-map rows orderOf)
 
-module _ {rows : List (List ℕ)} {after : ℕ} {tree : List ℕ} (line : Line rows after tree) where
-  half : length (ticketsIn tree) ≡ length rows
-  half = tickets-half tree (line .sound .even) ∙ omega (arith, line .size)
+-- ---- where the sides stand
 
-  -- no rows, no tickets
-  module _ (none : length rows ≡ 0) where
-    no-tickets : ticketsIn tree ≡ []
-    unfolding ticketsIn
-    no-tickets = let h : length tree ≤ length tree / 2 = omega (arith, line .size) in drop-of-length-le tree h
+module _ (rows : List (List ℕ)) {buys sells : List Order} {spare : ℕ} (p : Parts (bookOf rows) buys sells spare) where
+  pub first-line : line 0 (length buys) rows ≡ buys
+  unfolding line
+  first-line = ap (take (length buys)) (p .made) ∙ take-append-seam buys (sells ++ replicate spare free)
 
-    pub line-nowhere : Nothing ≡ atTicket rows (soonest (lastOf after) (ticketsIn tree))
-    line-nowhere = leads-nowhere rows (sym (ap (soonest (lastOf after)) no-tickets ∙ soonest-none (lastOf after))) refl
+  pub second-line : line (length buys) (length buys + length sells) rows ≡ sells
+  unfolding line
+  second-line =
+      ap (λ (l : List Order). drop (length buys) (take (length buys + length sells) l)) (p .made)
+      ∙ ap (drop (length buys)) (take-append-add buys (sells ++ replicate spare free) (length sells))
+      ∙ drop-append-seam buys (take (length sells) (sells ++ replicate spare free))
+      ∙ take-append-seam sells (replicate spare free)
 
-    pub line-nothing : ticketsIn tree ≡ remaining (lastOf after) (ticketsIn tree)
-    line-nothing = no-tickets ∙ sym (ap (remaining (lastOf after)) no-tickets ∙ remaining-all (lastOf after) [] tt)
+  pub rows-length : length rows ≡ length buys + (length sells + spare)
+  rows-length = sym (length-map rows orderOf) ∙ parts-length p
 
-  -- the tickets up to the key are let go
-  module _ {tree′ : List ℕ} (t : Tree tree′) (e : ticketsIn tree′ ≡ remaining (lastOf after) (ticketsIn tree)) (long : length tree′ ≡ length tree) where
-    pub line-soonest : (length rows ≡ 0 → ⊥) → getD tree′ 1 0 ≡ soonest (lastOf after) (ticketsIn tree)
-    line-soonest some =
-        top-soonest t (lastOf after) (ticketsIn tree) (omega (arith, line .size)) (line .own) e
+module _ (rows : List (List ℕ)) (ranked : Ranked (bookOf rows)) where
+  abbrev parts : RankedParts (bookOf rows)
+  parts = parts-of (bookOf rows) ranked
 
-    pub line-again : Line rows after tree′
-    line-again =
-        record {
-          size = long ∙ line .size;
-          few = line .few;
-          low = line .low;
-          sound = t;
-          own = rw e (own-remaining (lastOf after) (ticketsIn tree) (line .own));
-        }
+  pub stretch-buys :
+      (side : ℕ) {m : ℕ}
+      → side ≡ 0
+      → m ≡ length (queue 0 (bookOf rows))
+      → StretchOf side rows (record { from = 0; to = m })
+  stretch-buys side z e =
+      rw (z, e)
+      (record { orders = first-line rows parts; some = omega arith; within = omega (arith, rows-length rows parts) })
 
-  -- the soonest leads to a row
-  pub line-place : {t : ℕ} → t ≡ soonest (lastOf after) (ticketsIn tree) → (t ≡ never → ⊥) → t % 4_096 < length rows
-  line-place {t} e n =
-      elim (soonest-has (λ x. (x ≡ never) ⊎ (x % 4_096 < length rows)) (lastOf after) (ticketsIn tree) (inl refl)
-      (at-each (λ x. lastOf after < x → (x ≡ never) ⊎ (x % 4_096 < length rows)) (ticketsIn tree) 0 one)) [
-        | inl z ↦ absurd (n (e ∙ z))
-        | inr h ↦ rw e h
-      ]
-    where
-      one : (i : ℕ) → i < length (ticketsIn tree) → lastOf after < getD (ticketsIn tree) i 0 → (getD (ticketsIn tree) i 0 ≡ never) ⊎ (getD (ticketsIn tree) i 0 % 4_096 < length rows)
-      one i h p = elim (line .own i h) [
-        | inl z ↦ inl z
-        | inr o ↦ inr (omega (arith, o .1, half))
-      ]
+  pub stretch-sells :
+      (side : ℕ) {m n : ℕ}
+      → side ≡ 1
+      → m ≡ length (queue 0 (bookOf rows))
+      → n ≡ length (queue 0 (bookOf rows)) + length (queue 1 (bookOf rows))
+      → StretchOf side rows (record { from = m; to = n })
+  stretch-sells side z e f =
+      rw (z, e, f)
+      (record { orders = second-line rows parts; some = omega arith; within = omega (arith, rows-length rows parts) })
 
--- ---- a side's line
+-- ---- the best price
 
--- a tree of 8,192 is large enough for every book
-pub tree-fits : (rows : List (List ℕ)) → Standing (bookOf rows) → 2 * length rows ≤ 8_192
-tree-fits rows s = omega (arith, s .few, length-map rows orderOf)
+pub best-first :
+    (side : ℕ) (rows : List (List ℕ)) {r : Stretch} {o : Order}
+    → StretchOf side rows r
+    → r .from < r .to
+    → o ≡ orderOf (getD rows (r .from) [])
+    → o .price ≡ best side (bookOf rows)
+unfolding best headPrice
+best-first side rows {r} {o} s l e =
+    ap headPrice (sym (line-cons (r .from) (r .to) rows l (s .within) e) ∙ s .orders)
 
--- of all of its orders
-pub line-first :
-    (side : ℕ) (rows : List (List ℕ)) (tree : List ℕ)
-    → Standing (bookOf rows)
-    → length tree ≡ 2 * length rows
-    → Tree tree
-    → ticketsIn tree ≡ ticketsFrom side 0 (bookOf rows)
-    → LineOf side rows 0 tree
-line-first side rows tree s size t e =
-    record {
-      line =
-          record {
-            size = size;
-            few = omega (arith, s .few, length-map rows orderOf);
-            low = omega arith;
-            sound = t;
-            own = rw e (tickets-own side (bookOf rows) (s .few) (s .fair));
-          };
-      past = ap (remaining (lastOf 0)) e;
-    }
-
--- those past a key, when they are asked for
-pub same-past : (after : ℕ) (tickets : List ℕ) {tickets′ : List ℕ} → tickets′ ≡ remaining (lastOf after) tickets → SamePast after tickets tickets′
-same-past after tickets e =
-    ap (remaining (lastOf after)) e ∙ remaining-again (lastOf after) (lastOf after) (omega arith) tickets
-
-module _ {side : ℕ} {rows : List (List ℕ)} {after : ℕ} {tree : List ℕ} (line : LineOf side rows after tree) where
-  abbrev all : List ℕ
-  all = ticketsFrom side 0 (bookOf rows)
-
-  abbrev gone : ℕ
-  gone = lastOf after
-
-  -- the soonest past the key leads to the next of the queue
-  pub by-ticket :
-      {n : Next}
-      → Standing (bookOf rows)
-      → n ≡ atTicket rows (soonest (lastOf after) (ticketsIn tree))
-      → n ≡ nextOf (beyond after (queue side (bookOf rows)))
-  by-ticket s e =
-      e
-      ∙ ap (atTicket rows)
-      (sym (soonest-again gone gone (omega arith) (ticketsIn tree))
-      ∙ ap (soonest gone) (line .past)
-      ∙ soonest-again gone gone (omega arith) all)
-      ∙ ticket-next side after rows s
-
-  -- the line goes on, behind the same key or a later one
-  pub line-on : {tree′ : List ℕ} → Line rows after tree′ → SamePast after (ticketsIn tree) (ticketsIn tree′) → LineOf side rows after tree′
-  line-on l e = record { line = l; past = e ∙ line .past }
-
-  pub line-later : (later : ℕ) → after ≤ later → later ≤ 1_000_000_999_999 → LineOf side rows later tree
-  line-later later l h =
-      let line′ = line .line in
-      let more : lastOf after ≤ lastOf later = omega (arith, last-of after, last-of later) in
-      record {
-        line = record { size = line′ .size; few = line′ .few; low = h; sound = line′ .sound; own = line′ .own };
-        past =
-            sym (remaining-again gone (lastOf later) more (ticketsIn tree))
-            ∙ ap (remaining (lastOf later)) (line .past)
-            ∙ remaining-again gone (lastOf later) more all;
-      }
+pub best-none : (side : ℕ) (rows : List (List ℕ)) {r : Stretch} → StretchOf side rows r → r .to ≤ r .from → 0 ≡ best side (bookOf rows)
+unfolding best headPrice
+best-none side rows {r} s l = ap headPrice (sym (line-end (r .from) (r .to) rows l) ∙ s .orders)

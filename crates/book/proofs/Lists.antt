@@ -5,7 +5,7 @@ use mathlib.Core.Bool.{Bool, true, false, cond, _&&_}
 use mathlib.Core.List.{List, [], _∷_, _++_, map, nil≢cons}
 use native.Mathlib.Omega.{arith}
 use native.Mathlib.Nat.{not-suc-le-zero, le-of-suc-le-suc, add-zero, add-suc, suc-add}
-use lib.ListN.{length, getD, set}
+use lib.ListN.{length, getD, set, take, drop}
 use lib.Seq.{sets}
 use Rattle.model.specs.Choice.{if_then_else_}
 use Rattle.model.specs.Lists.{keep, total}
@@ -194,7 +194,43 @@ pub at-each :
 at-each P [] d f = tt
 at-each P (x ∷ xs) d f = (f 0 (omega arith), at-each P xs d (λ i h. f (suc i) (omega arith)))
 
--- two lists in a row
+-- two lists in a row: what each has, each of the two has, and the other way
+pub each-parts : {A : Type 0} (P : A → Type 0) (xs ys : List A) → Each P (xs ++ ys) → Each P xs × Each P ys
+each-parts P [] ys e = (tt, e)
+each-parts P (x ∷ xs) ys e =
+    let h = each-parts P xs ys (e .1) in
+    ((e .0, h .0), h .1)
+
 pub each-append : {A : Type 0} (P : A → Type 0) (xs ys : List A) → Each P xs → Each P ys → Each P (xs ++ ys)
 each-append P [] ys e f = f
 each-append P (x ∷ xs) ys e f = (e .0, each-append P xs ys (e .1) f)
+
+pub keep-append : {A : Type 0} (f : A → Bool) (xs ys : List A) → keep f (xs ++ ys) ≡ keep f xs ++ keep f ys
+unfolding keep
+keep-append f [] ys = refl
+keep-append f (x ∷ xs) ys = rw (keep-append f xs ys) (go (f x))
+  where
+    go :
+        (b : Bool)
+        → (if b then x ∷ (keep f xs ++ keep f ys) else keep f xs ++ keep f ys) ≡ (if b then x ∷ keep f xs else keep f xs) ++ keep f ys
+    go true = refl
+    go false = refl
+
+-- the first n of a list, and what is left behind them
+pub each-take : {A : Type 0} (P : A → Type 0) (n : ℕ) (xs : List A) → Each P xs → Each P (take n xs)
+each-take P zero xs e = tt
+each-take P (suc n) [] e = tt
+each-take P (suc n) (x ∷ xs) e = (e .0, each-take P n xs (e .1))
+
+pub each-drop : {A : Type 0} (P : A → Type 0) (n : ℕ) (xs : List A) → Each P xs → Each P (drop n xs)
+each-drop P zero xs e = e
+each-drop P (suc n) [] e = tt
+each-drop P (suc n) (x ∷ xs) e = each-drop P n xs (e .1)
+
+-- two tests that agree keep the same
+pub keep-same : {A : Type 0} (p q : A → Bool) (xs : List A) → Each (λ x. p x ≡ q x) xs → keep p xs ≡ keep q xs
+unfolding keep
+keep-same p q [] e = refl
+keep-same {A} p q (x ∷ xs) e =
+    ap (λ (b : Bool). cond b (x ∷ keep p xs) (keep p xs)) (e .0)
+    ∙ ap (λ (l : List A). cond (q x) (x ∷ l) l) (keep-same p q xs (e .1))

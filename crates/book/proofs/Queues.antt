@@ -15,8 +15,8 @@ use Rattle.model.specs.Lists.{keep, total}
 use Rattle.model.specs.Book.{isLive, standsOn, better, ahead, insert, inPriority, queue}
 use Rattle.model.proofs.Bools.{and-left, and-right}
 use Rattle.book.specs.Standing.{Each, Fair, Apart, Standing}
-use Rattle.book.specs.Priority.{rank, key, isPast, beyond}
-use Rattle.book.proofs.Lists.{both, each, each-keep, kept, length-keep}
+use Rattle.book.specs.Priority.{rank, key}
+use Rattle.book.proofs.Lists.{both, each, each-keep, kept}
 use Rattle.book.proofs.Sorting.{
   insertBy,
   sortBy,
@@ -24,12 +24,9 @@ use Rattle.book.proofs.Sorting.{
   total-sort,
   same-sort,
   byKey,
-  over,
   Rising,
   Distinct,
   rising-sort,
-  all-over,
-  keep-next,
 }
 
 -- ---- what standing on a side says
@@ -210,17 +207,25 @@ pub queue-length : (side : ℕ) (book : List Order) → length (queue side book)
 queue-length side book =
     length-total (queue side book) ∙ total-queue (λ o. 1) side book ∙ sym (length-total (keep (standsOn side) book))
 
--- ---- the keys rise
+-- ---- the keys rise, and are no larger than this
 
 pub key-positive : (o : Order) → (o .number ≡ 0 → ⊥) → 0 < key o
 unfolding key
 key-positive o n = omega arith
 
+pub key-most : (o : Order) → Fair o → key o ≤ 1_000_000_999_999
+unfolding key rank
+key-most o f = go (eqb (o .side) 0)
+  where
+    go : (b : Bool) → cond b (1_000_000 - o .price) (o .price) * 1_000_000 + o .number ≤ 1_000_000_999_999
+    go true = omega (arith, f .number)
+    go false = omega (arith, f .number, f .price)
+
 key-number : (o y : Order) → Fair o → Fair y → key y ≡ key o → y .number ≡ o .number
 unfolding key
 key-number o y f g e = omega (arith, f .number, g .number)
 
-distinct : (side : ℕ) (book : List Order) → Each Fair book → Apart book → Distinct key (keep (standsOn side) book)
+pub distinct : (side : ℕ) (book : List Order) → Each Fair book → Apart book → Distinct key (keep (standsOn side) book)
 unfolding keep
 distinct side [] f a = tt
 distinct side (o ∷ os) f a = go (standsOn side o) refl (distinct side os (f .1) (a .1))
@@ -245,36 +250,3 @@ queue-rising side book s =
     (each (λ o. standsOn side o ≡ true) (λ o. 0 < key o) (keep (standsOn side) book)
     (λ o e. key-positive o (on-live side o e)) (kept (standsOn side) book))
     (distinct side book (s .fair) (s .apart)))
-
--- ---- what comes after a key
-
-beyond-is : (after : ℕ) (q : List Order) → beyond after q ≡ keep (over key after) q
-unfolding beyond isPast over
-beyond-is after q = refl
-
--- all of a queue comes after 0
-pub beyond-all : (q : List Order) → Rising key 0 q → beyond 0 q ≡ q
-beyond-all q r = beyond-is 0 q ∙ all-over key 0 0 q (omega arith) r
-
--- after the first past a key come those past the first
-pub beyond-next :
-    (after : ℕ) (q : List Order) (o : Order) (os : List Order)
-    → Rising key 0 q
-    → beyond after q ≡ o ∷ os
-    → (after < key o) × (os ≡ beyond (key o) q)
-beyond-next after q o os r e =
-    let h : (after < key o) × (os ≡ keep (over key (key o)) q) =
-    keep-next key after 0 q o os (omega arith) r (sym (beyond-is after q) ∙ e)
-    in
-    (h .0, h .1 ∙ sym (beyond-is (key o) q))
-
-pub beyond-short :
-    (side after : ℕ) (book : List Order) → length (beyond after (queue side book)) ≤ length book
-unfolding beyond
-beyond-short side after book =
-    omega (
-      arith,
-      length-keep (isPast after) (queue side book),
-      queue-length side book,
-      length-keep (standsOn side) book,
-    )

@@ -5,11 +5,9 @@ use mathlib.Core.List.{List, [], _∷_, _++_, map, append-nil}
 use native.Mathlib.Omega.{arith}
 use native.Mathlib.Numerals.{add-one}
 use lib.ListN.{length, take, drop, set, getD, length-map, length-append, take-append-drop, drop-of-length-le}
-use lib.Seq.{take-suc, drop-cons, take-all, length-take-le, set-at, getD-at, map-set-same}
+use lib.Seq.{take-suc, drop-cons, take-all, length-take-le, set-at, getD-at}
 use Rattle.model.specs.declared.Order.{Order}
-use Rattle.model.specs.Book.{free}
 use Rattle.book.specs.Rows.{orderOf, rowOf, bookOf, rowsOf}
-use Rattle.book.proofs.Memory.{book-rows, book-at, book-set}
 
 -- the row of an order after f
 abbrev rowBy : (Order → Order) → List ℕ → List ℕ
@@ -98,46 +96,3 @@ module _ (f : Order → Order) (rows₀ rows : List (List ℕ)) (i : ℕ) (e : r
   rewrite-end h =
       let long : length rows ≡ length rows₀ = rewrite-long in
       e ∙ halfway-end f rows₀ i (omega arith)
-
--- ---- in a loop that writes a place only where f changes it: the book now, from the rows at its start
-
-module _ (f : Order → Order) (rows₀ rows : List (List ℕ)) (i : ℕ) (e : bookOf rows ≡ bookOf (halfway f i rows₀)) where
-  pub change-long : length rows ≡ length rows₀
-  change-long =
-      sym (length-map rows orderOf) ∙ ap length e ∙ length-map (halfway f i rows₀) orderOf ∙ halfway-long f rows₀ i
-
-  module _ (o : Order) (h : i < length rows₀) (here : o ≡ orderOf (getD rows i [])) where
-    -- the order at the next place is still the one at the start
-    pub change-here : o ≡ orderOf (getD rows₀ i [])
-    change-here =
-        here
-        ∙ book-at rows i
-        ∙ ap (λ (b : List Order). getD b i free) e
-        ∙ sym (book-at (halfway f i rows₀) i)
-        ∙ ap orderOf (halfway-next f rows₀ i h)
-
-    pub change-next :
-        (p : Order) (rows′ : List (List ℕ))
-        → p ≡ f o
-        → rows′ ≡ set rows i (rowOf p)
-        → bookOf rows′ ≡ bookOf (halfway f (i + 1) rows₀)
-    change-next p rows′ new put =
-        ap bookOf put
-        ∙ book-set rows i p
-        ∙ ap (λ (b : List Order). set b i p) e
-        ∙ sym (book-set (halfway f i rows₀) i p)
-        ∙ ap (λ (x : Order). bookOf (set (halfway f i rows₀) i (rowOf x))) (new ∙ ap f change-here)
-        ∙ ap bookOf (set-next f rows₀ i h)
-
-    pub change-none : f o ≡ o → bookOf rows ≡ bookOf (halfway f (i + 1) rows₀)
-    change-none same =
-        e
-        ∙ sym
-        (map-set-same orderOf (halfway f i rows₀) i (rowBy f (getD rows₀ i [])) []
-        (ap f (sym change-here) ∙ same ∙ change-here ∙ sym (ap orderOf (halfway-next f rows₀ i h))))
-        ∙ ap bookOf (set-next f rows₀ i h)
-
-  pub change-end : length rows ≤ i → bookOf rows ≡ map f (bookOf rows₀)
-  change-end h =
-      let long : length rows ≡ length rows₀ = change-long in
-      e ∙ ap bookOf (halfway-end f rows₀ i (omega arith)) ∙ book-rows (map f (bookOf rows₀))

@@ -1,25 +1,20 @@
--- Shares: what trades fill is what the book has less afterwards, and a new rest or a cancel adds or takes what it has.
-use Prim.Native.Nat.{ℕ, zero, suc, _+_, _-_, _≤_, _<_}
-use mathlib.Core.Path.{_≡_, refl, sym, ap, _∙_}
-use mathlib.Core.Bool.{Bool, true, false, cond, not, _||_}
-use mathlib.Core.List.{List, [], _∷_, map}
-use mathlib.Core.Logic.{_⊎_, inl, inr}
+-- Shares: what trades fill is what the book has less afterwards.
+use Prim.Native.Nat.{ℕ, _+_, _-_, _≤_}
+use mathlib.Core.Path.{_≡_, refl, sym, _∙_}
+use mathlib.Core.Bool.{Bool, true, false, cond, _||_}
+use mathlib.Core.List.{List, [], _∷_}
 use native.Mathlib.Omega.{arith}
-use native.Mathlib.Nat.{not-suc-le-zero, le-of-suc-le-suc}
-use lib.ListN.{length, length-map, getD}
 use lib.Dec.{ltb, eqb}
 use borrow.Author.Tests.{eq-eqb, ne-eqb, eqb-true, eqb-false, ltb-true, ltb-false}
 use Rattle.model.specs.declared.Order.{Order}
 use Rattle.model.specs.declared.Trade.{Trade}
 use Rattle.model.specs.Lists.{total}
-use Rattle.model.specs.Book.{free, isLive}
-use Rattle.model.specs.Matching.{isIn, filledOf, lessBy, settle, rest}
-use Rattle.book.specs.Standing.{Each, Fair, Apart}
-use Rattle.book.specs.Places.{firstWith, lowestFree}
-use Rattle.book.proofs.Lists.{both, each, every, total-same, total-add, total-zero, total-set}
-use Rattle.book.proofs.Finding.{rest-set}
+use Rattle.model.specs.Book.{free}
+use Rattle.model.specs.Matching.{isIn, filledOf, lessBy, settle}
+use Rattle.book.specs.Standing.{Each, Apart}
+use Rattle.book.proofs.Lists.{both, each, every, total-same, total-add, total-zero}
 use Rattle.book.proofs.Settlements.{part, filled-none, filled-cons}
-use Rattle.book.proofs.Kept.{Less, after, after-less, free-left, free-number}
+use Rattle.book.proofs.Kept.{free-left}
 
 -- ---- by number
 
@@ -155,67 +150,3 @@ pub settle-total :
 unfolding settle total
 settle-total ts [] e = refl
 settle-total ts (o ∷ os) e = omega (arith, less-left (filledOf (o .number) ts) o (e .0), settle-total ts os (e .1))
-
--- ---- a new rest, and a cancel
-
--- the lowest free place is free
-free-there :
-    (book : List Order)
-    → Each Fair book
-    → lowestFree book < length book
-    → getD book (lowestFree book) free ≡ free
-unfolding lowestFree firstWith isLive
-free-there [] f h = absurd (not-suc-le-zero h)
-free-there (o ∷ os) f h = go (eqb (o .number) 0) refl h (free-there os (f .1))
-  where
-    go :
-        (b : Bool)
-        → eqb (o .number) 0 ≡ b
-        → cond (not (not b)) 0 (suc (lowestFree os)) < suc (length os)
-        → (lowestFree os < length os → getD os (lowestFree os) free ≡ free)
-        → getD (o ∷ os) (cond (not (not b)) 0 (suc (lowestFree os))) free ≡ free
-    go true e h rest = f .0 .none (eqb-true (o .number) 0 e)
-    go false e h rest = rest (le-of-suc-le-suc h)
-
--- and trades free places, and take none
-lowest-after : (ts : List Trade) (os : List Order) → lowestFree (settle ts os) ≤ lowestFree os
-unfolding settle lowestFree firstWith isLive
-lowest-after ts [] = omega arith
-lowest-after ts (o ∷ os) =
-    go (eqb (o .number) 0) refl (eqb (after ts o .number) 0) refl (lowest-after ts os)
-  where
-    gone : o .number ≡ 0 → (after ts o ≡ free) ⊎ Less o (after ts o) → after ts o .number ≡ 0
-    gone e (inl f) = ap (λ (x : Order). x .number) f ∙ free-number
-    gone e (inr l) = sym (l .number) ∙ e
-
-    go :
-        (b : Bool)
-        → eqb (o .number) 0 ≡ b
-        → (c : Bool)
-        → eqb (after ts o .number) 0 ≡ c
-        → lowestFree (map (after ts) os) ≤ lowestFree os
-        → cond (not (not c)) 0 (suc (lowestFree (map (after ts) os))) ≤ cond (not (not b)) 0 (suc (lowestFree os))
-    go b e true f h = omega arith
-    go true e false f h =
-        absurd (eqb-false (after ts o .number) 0 f (gone (eqb-true (o .number) 0 e) (after-less ts o)))
-    go false e false f h = omega arith
-
-pub room-after :
-    (ts : List Trade) (book : List Order)
-    → lowestFree book < length book
-    → lowestFree (settle ts book) < length (settle ts book)
-room-after ts book h =
-    let long : length (settle ts book) ≡ length book = unfold settle in length-map book (after ts) in
-    omega (arith, lowest-after ts book)
-
-pub rest-total :
-    (o : Order) (book : List Order)
-    → Each Fair book
-    → lowestFree book < length book
-    → total (λ x. x .left) (rest o book) ≡ total (λ x. x .left) book + o .left
-rest-total o book f h =
-    let none : getD book (lowestFree book) free .left ≡ 0 =
-    ap (λ (x : Order). x .left) (free-there book f h) ∙ free-left
-    in
-    omega
-    (arith, ap (total (λ x. x .left)) (rest-set o book), total-set (λ x. x .left) book (lowestFree book) o free h)

@@ -1,9 +1,11 @@
--- What the book's functions say of rows: rows as records, what a sound book gives, priority as a number, places, trades
--- written into a lent list, and how far a side has traded.
+-- What the book's functions say of rows: rows as records, what a sound book gives, priority as a number, where an order stands, the
+-- orders of a side as they stand, places found by a test, shares that come off the sides, and lists written at their front.
 pub mod Rows
 pub mod Standing
 pub mod Priority
-pub mod Writing
+pub mod Seats
+pub mod Lines
+pub mod Heads
+pub mod Settling
 pub mod Places
-pub mod Marks
-pub mod Tickets
+pub mod Writing

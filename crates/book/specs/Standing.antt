@@ -1,10 +1,10 @@
--- What a sound day gives of its book, as one record: all that the functions below the calls ask for.
+-- What a sound day gives of its book: orders as they may stand in one, and a book in its order.
 use Prim.Native.Nat.{ℕ, _≤_}
 use mathlib.Core.Path.{_≡_}
 use mathlib.Core.List.{List, [], _∷_}
 use lib.ListN.{length}
 use Rattle.model.specs.declared.Order.{Order}
-use Rattle.model.specs.Book.{free}
+use Rattle.model.specs.Book.{free, arranged}
 
 -- whole fen
 pub record Price (p : ℕ) : Type 0 where
@@ -31,7 +31,17 @@ abbrev pub Apart : List Order → Type 0
 Apart [] = Unit {0}
 Apart (o ∷ os) = Each (λ p. p .number ≡ o .number → o .number ≡ 0) os × Apart os
 
-pub record Standing (book : List Order) : Type 0 where
-  pub fair : Each Fair book
-  pub apart : Apart book
+-- orders as they may stand in a book, wherever they do
+pub record Standing (os : List Order) : Type 0 where
+  pub fair : Each Fair os
+  pub apart : Apart os
+
+-- buys from best to worst, then sells the same, free places last
+abbrev pub Ordered : List Order → Type 0
+Ordered book = book ≡ arranged (length book) book
+
+-- all that the functions below the calls ask of a book in memory
+pub record Ranked (book : List Order) : Type 0 where
+  pub stands : Standing book
   pub few : length book ≤ 4_096
+  pub ordered : Ordered book

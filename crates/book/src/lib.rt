@@ -1,8 +1,10 @@
-// The book as rows of memory: reading and setting one place or one trade. Nothing above this crate knows what a row holds.
+// The book as rows of memory: reading and setting one place or one trade. Nothing above this crate knows what a row holds. A book
+// stands in priority order: buys from best to worst, then sells the same, free places last, so that the next order is the next row.
+pub mod heads;
+pub mod joining;
 pub mod places;
-pub mod priority;
+pub mod seats;
 pub mod settling;
-pub mod tickets;
 
 ghost use mathlib.Core.Path.{_≡_};
 ghost use Prim.Native.Nat.{_<_, min};
@@ -12,15 +14,18 @@ ghost use Rattle.book.specs.Rows.{orderOf, rowOf, tradeOf, tradeRow};
 use model::Order;
 use model::Trade;
 
-// The next order of a queue with its key, if there is one.
-pub enum Next {
-    At { order: Order, key: u64 },
-    Nothing,
+// The places of a side: from its first order up to the one behind its last.
+pub struct Stretch {
+    pub from: usize,
+    pub to: usize,
 }
 
-// How far a side has traded: all orders before the key, and of the one at the key all but what is left.
-pub struct Mark {
-    pub key: u64,
+// The order of a side that trades next in an auction: its place, its number, its price, and what is left of it, 0 behind the last
+// order.
+pub struct Head {
+    pub at: usize,
+    pub number: u64,
+    pub price: u64,
     pub left: u64,
 }
 
@@ -69,17 +74,19 @@ pub fn trade_at(trades: &[[u64; 6]], place: usize) -> Trade
     }
 }
 
+// The trade at its place; a list that does not reach so far stays as it is.
 pub fn put_trade(trades: &mut [[u64; 6]], place: usize, t: Trade)
-    requires { ⌜ place < length (now trades) ⌝ }
     ensures { λ _. ⌜ now (trades .exit) ≡ set (now (trades .entry)) place (tradeRow t) ⌝ }
 {
-    let row = [
-        t.price,
-        t.quantity,
-        t.buyer,
-        t.seller,
-        t.buyerleft,
-        t.sellerleft,
-    ];
-    trades[place] = row;
+    if place < trades.len() {
+        let row = [
+            t.price,
+            t.quantity,
+            t.buyer,
+            t.seller,
+            t.buyerleft,
+            t.sellerleft,
+        ];
+        trades[place] = row;
+    }
 }

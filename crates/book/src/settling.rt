@@ -1,63 +1,66 @@
-// The book after trades, and the trades on their way into the lent list.
+// The book after trades and after a cancel: orders go, those behind them move up, and the places at the end become free. Only what
+// has to move is moved.
 ghost use mathlib.Core.Path.{_≡_};
-ghost use Prim.Native.Nat.{_≤_};
-ghost use lib.ListN.{length};
+ghost use mathlib.Core.List.{[], _∷_, _++_};
+ghost use Prim.Native.Nat.{_+_, _-_, _≤_, _<_};
+ghost use lib.ListN.{length, take, drop, replicate};
+ghost use Rattle.model.specs.Book.{free, queue};
 ghost use Rattle.model.specs.Matching.{lessBy};
 ghost use Rattle.model.specs.Calls.{cleared};
 ghost use Rattle.book.specs.Rows.{bookOf, rowsOf};
-ghost use Rattle.book.specs.Standing.{Each, Fair};
-ghost use Rattle.book.specs.Writing.{put};
-ghost use Rattle.book.specs.Marks.{goneAt, gone, tradedTo};
-use crate::Mark;
+ghost use Rattle.book.specs.Standing.{Ranked};
+ghost use Rattle.book.specs.Lines.{line};
+ghost use Rattle.book.specs.Settling.{offFront, placed, FreeFrom, CutAt};
 use crate::order_at;
 use crate::places::free_place;
-use crate::priority::key_of;
 use crate::put_order;
-use crate::put_trade;
+use crate::seats::free_from;
+use crate::seats::sells_from;
 use model::Order;
-use model::Trade;
 
-// The trade at its place of the list, while there is room: a first pass with no room only counts.
-pub fn put_trade_below(trades: &mut [[u64; 6]], room: usize, place: usize, t: Trade)
-    requires { ⌜ room ≤ length (now trades) ⌝ }
-    ensures { λ _. ⌜ now (trades .exit) ≡ put room place t (now (trades .entry)) ⌝ }
+// Every place from one up to another is free.
+fn free_places(rows: &mut [[u64; 5]], from: usize, to: usize)
+    requires { ⌜ from ≤ to ⌝ }
+    requires { ⌜ to ≤ length (now rows) ⌝ }
+    ensures { λ _. ⌜ bookOf (now (rows .exit)) ≡ take from (bookOf (now (rows .entry))) ++ (replicate (to - from) free ++ drop to (bookOf (now (rows .entry)))) ⌝ }
 {
-    if place < room {
-        put_trade(&mut *trades, place, t);
+    let mut place = from;
+    while place < to {
+        put_order(&mut *rows, place, free_place());
+        place += 1;
     }
 }
 
-// What is gone of an order of a side that has traded to the mark.
-fn gone_at(m: Mark, o: Order) -> u64
-    requires { ⌜ Fair o ⌝ }
-    ensures { λ r. ⌜ r ≡ goneAt m o ⌝ }
+// The orders from `next` up to `end` move up to `place`; what they leave behind still stands there too.
+fn move_up(rows: &mut [[u64; 5]], place: usize, next: usize, end: usize)
+    requires { ⌜ place ≤ next ⌝ }
+    requires { ⌜ next ≤ end ⌝ }
+    requires { ⌜ end ≤ length (now rows) ⌝ }
+    ensures { λ _. ⌜ bookOf (now (rows .exit)) ≡ take place (bookOf (now (rows .entry))) ++ (line next end (now (rows .entry)) ++ drop (place + (end - next)) (bookOf (now (rows .entry)))) ⌝ }
 {
-    let k = key_of(o);
-    if k < m.key {
-        return o.left;
-    }
-    if k != m.key {
-        return 0;
-    }
-    if o.left <= m.left {
-        return 0;
-    }
-    o.left - m.left
-}
-
-// The mark of its side says what is gone of an order.
-fn gone(buys: Mark, sells: Mark, o: Order) -> u64
-    requires { ⌜ Fair o ⌝ }
-    ensures { λ r. ⌜ r ≡ gone buys sells o ⌝ }
-{
-    if o.side == 0 {
-        gone_at(buys, o)
-    } else {
-        gone_at(sells, o)
+    let mut i = next;
+    while i < end {
+        let order = order_at(rows, i);
+        put_order(&mut *rows, place + (i - next), order);
+        i += 1;
     }
 }
 
-// An order less so many shares: its place is free once nothing is left.
+// The places from `place` up to `next` are given up: the orders behind them, up to `end`, move there, and free places follow.
+fn close_up(rows: &mut [[u64; 5]], place: usize, next: usize, end: usize)
+    requires { ⌜ place ≤ next ⌝ }
+    requires { ⌜ next ≤ end ⌝ }
+    requires { ⌜ end ≤ length (now rows) ⌝ }
+    ensures { λ _. ⌜ bookOf (now (rows .exit)) ≡ take place (bookOf (now (rows .entry))) ++ (line next end (now (rows .entry)) ++ (replicate (next - place) free ++ drop end (bookOf (now (rows .entry))))) ⌝ }
+{
+    if place == next {
+        return;
+    }
+    move_up(&mut *rows, place, next, end);
+    free_places(&mut *rows, place + (end - next), end);
+}
+
+// An order less so many shares: no order once nothing is left.
 fn less_by(q: u64, o: Order) -> Order
     ensures { λ r. ⌜ r ≡ lessBy q o ⌝ }
 {
@@ -73,20 +76,79 @@ fn less_by(q: u64, o: Order) -> Order
     }
 }
 
-// The book when its sides have traded to these marks: one pass, whatever the number of trades. Only what changes is written.
-pub fn settle_to(rows: &mut [[u64; 5]], buys: Mark, sells: Mark)
-    requires { ⌜ Each Fair (bookOf (now rows)) ⌝ }
-    ensures { λ _. ⌜ bookOf (now (rows .exit)) ≡ tradedTo buys sells (bookOf (now (rows .entry))) ⌝ }
+// Shares come off the orders from `from` up to `to`, one after the other: what is left of them stands from the place that is
+// handed back up to `to`. The places before it still hold who has nothing left.
+fn cut_front(rows: &mut [[u64; 5]], from: usize, to: usize, shares: u64) -> usize
+    requires { ⌜ from ≤ to ⌝ }
+    requires { ⌜ to ≤ length (now rows) ⌝ }
+    ensures { λ r. ⌜ CutAt shares from to (now (rows .entry)) (now (rows .exit)) r ⌝ }
 {
-    let mut i = 0;
-    while i < rows.len() {
-        let o = order_at(rows, i);
-        let q = gone(buys, sells, o);
-        if q != 0 {
-            put_order(&mut *rows, i, less_by(q, o));
+    let mut left = shares;
+    let mut at = from;
+    while at < to {
+        let o = order_at(rows, at);
+        if left < o.left {
+            put_order(&mut *rows, at, less_by(left, o));
+            return at;
         }
-        i += 1;
+        left -= o.left;
+        at += 1;
     }
+    at
+}
+
+// The same, and the places that they leave are closed up by those behind, up to `end`.
+fn take_off(rows: &mut [[u64; 5]], from: usize, to: usize, end: usize, shares: u64)
+    requires { ⌜ from ≤ to ⌝ }
+    requires { ⌜ to ≤ end ⌝ }
+    requires { ⌜ end ≤ length (now rows) ⌝ }
+    requires { ⌜ FreeFrom end (now rows) ⌝ }
+    ensures { λ _. ⌜ bookOf (now (rows .exit)) ≡ placed (length (now (rows .entry))) (take from (bookOf (now (rows .entry))) ++ (offFront shares (line from to (now (rows .entry))) ++ line to end (now (rows .entry)))) ⌝ }
+{
+    let at = cut_front(&mut *rows, from, to, shares);
+    close_up(&mut *rows, from, at, end);
+}
+
+// So many shares come off the front of the buys.
+pub fn off_buys(rows: &mut [[u64; 5]], shares: u64)
+    requires { ⌜ Ranked (bookOf (now rows)) ⌝ }
+    ensures { λ _. ⌜ bookOf (now (rows .exit)) ≡ placed (length (now (rows .entry))) (offFront shares (queue 0 (bookOf (now (rows .entry)))) ++ queue 1 (bookOf (now (rows .entry)))) ⌝ }
+{
+    let middle = sells_from(rows);
+    let end = free_from(rows);
+    take_off(&mut *rows, 0, middle, end, shares);
+}
+
+// Of the sells.
+pub fn off_sells(rows: &mut [[u64; 5]], shares: u64)
+    requires { ⌜ Ranked (bookOf (now rows)) ⌝ }
+    ensures { λ _. ⌜ bookOf (now (rows .exit)) ≡ placed (length (now (rows .entry))) (queue 0 (bookOf (now (rows .entry))) ++ offFront shares (queue 1 (bookOf (now (rows .entry))))) ⌝ }
+{
+    let middle = sells_from(rows);
+    let end = free_from(rows);
+    take_off(&mut *rows, middle, end, end, shares);
+}
+
+// Of both sides: the sells first, so that the buys still stand where they stood.
+pub fn off_both(rows: &mut [[u64; 5]], shares: u64)
+    requires { ⌜ Ranked (bookOf (now rows)) ⌝ }
+    ensures { λ _. ⌜ bookOf (now (rows .exit)) ≡ placed (length (now (rows .entry))) (offFront shares (queue 0 (bookOf (now (rows .entry)))) ++ offFront shares (queue 1 (bookOf (now (rows .entry))))) ⌝ }
+{
+    let middle = sells_from(rows);
+    let end = free_from(rows);
+    take_off(&mut *rows, middle, end, end, shares);
+    take_off(&mut *rows, 0, middle, end, shares);
+}
+
+// The order at a place is taken out: those behind it move up by one place, and the last place becomes free.
+pub fn take_out(rows: &mut [[u64; 5]], place: usize)
+    requires { ⌜ Ranked (bookOf (now rows)) ⌝ }
+    requires { ⌜ place < length (queue 0 (bookOf (now rows))) + length (queue 1 (bookOf (now rows))) ⌝ }
+    ensures { λ _. ⌜ bookOf (now (rows .exit)) ≡ take place (bookOf (now (rows .entry))) ++ (drop (place + 1) (bookOf (now (rows .entry))) ++ (free ∷ [])) ⌝ }
+{
+    let end = free_from(rows);
+    let next = place + 1;
+    close_up(&mut *rows, place, next, end);
 }
 
 // Every place free.

@@ -3,24 +3,28 @@
 use Prim.Native.Nat.{ℕ, _≤_, _<_}
 use mathlib.Core.Path.{_≡_, refl}
 use mathlib.Core.Bool.{true, false}
-use mathlib.Core.List.{List, _∷_, _++_}
+use mathlib.Core.List.{List, [], _∷_, _++_}
 use borrow.Author.Tests.{le-leb, lt-leb, eq-eqb, ne-eqb, eqb-false}
 use Rattle.model.specs.declared.Order.{Order}
 use Rattle.model.specs.declared.Asked.{Asked}
 use Rattle.model.specs.declared.Day.{Day}
 use Rattle.model.specs.Clock.{phaseAt, continuous, takesOrders}
 use Rattle.model.specs.Limits.{isPrice, isQuantity, inBand}
-use Rattle.model.specs.Refusals.{_when_, firstOf, unsound}
+use Rattle.model.specs.Refusals.{Rule, _when_, firstOf, unsound}
 use Rattle.model.specs.Calls.{orderRules}
 use Rattle.model.proofs.Rules.{Numbered, given-by, passed-by}
-use Rattle.day.specs.Checks.{formRules, hourRules, numberRules, askedRules, bookRules}
+use Rattle.day.specs.Checks.{formRules, hourRules, numberRules, askedRules, bookRules, listRules}
 
 pub order-groups :
     (d : Day) (a : Asked) (book : List Order) (room : ℕ)
     → orderRules d a book room
-    ≡ 15 when (unsound d book) ∷ (askedRules d a ++ bookRules d a book room)
-unfolding orderRules askedRules formRules hourRules numberRules bookRules
+    ≡ 15 when (unsound d book) ∷ ((askedRules d a ++ bookRules d a book) ++ listRules d a book room)
+unfolding orderRules askedRules formRules hourRules numberRules bookRules listRules
 order-groups d a book room = refl
+
+pub numbered-append : (rs ss : List Rule) → Numbered rs → Numbered ss → Numbered (rs ++ ss)
+numbered-append [] ss k l = l
+numbered-append (r ∷ rs) ss k l = (k .0, numbered-append rs ss (k .1) l)
 
 -- ---- what is asked by itself
 

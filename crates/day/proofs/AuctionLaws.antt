@@ -14,7 +14,8 @@ use Rattle.model.specs.Refusals.{_when_, firstOf, unsound}
 use Rattle.model.specs.ClockCall.{auctionPrice}
 use Rattle.model.specs.AuctionCalls.{reportRules, reportAt, reportCall, listRules, due, listCall}
 use Rattle.auction.specs.declared.Listed.{Listed}
-use Rattle.auction.specs.Fitting.{fitted, listed}
+use Rattle.book.specs.Writing.{fitted}
+use Rattle.auction.specs.Fitting.{listed}
 use Rattle.day.specs.Promises.{listLeft}
 
 module _ (d : Day) (book : List Order) where

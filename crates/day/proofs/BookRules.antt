@@ -1,12 +1,12 @@
 -- An order's rules by the book: the base of its range, whether it is outside, and which of these rules is the first to hold.
 -- Assumes nothing.
-use Prim.Native.Nat.{ℕ, _≤_}
+use Prim.Native.Nat.{ℕ, _+_, _≤_}
 use mathlib.Core.Path.{_≡_, refl, sym, _∙_}
 use mathlib.Core.Bool.{Bool, true, false, not, _&&_}
 use mathlib.Core.List.{List}
 use lib.ListN.{length, length-map}
 use lib.Dec.{ltb, eqb}
-use borrow.Author.Tests.{le-leb, le-ltb, eq-eqb, ne-eqb}
+use borrow.Author.Tests.{le-leb, le-ltb, eq-eqb, ne-eqb, eqb-false}
 use native.Mathlib.Omega.{arith}
 use Rattle.model.specs.declared.Order.{Order}
 use Rattle.model.specs.declared.Asked.{Asked}
@@ -15,15 +15,16 @@ use Rattle.model.specs.declared.Trade.{Trade}
 use Rattle.model.specs.Lists.{all}
 use Rattle.model.specs.Clock.{phaseAt, continuous}
 use Rattle.model.specs.Limits.{isPrice, inRange}
-use Rattle.model.specs.Book.{isLive, best, other}
+use Rattle.model.specs.Book.{isLive, queue, best, other}
 use Rattle.model.specs.Figures.{reference}
 use Rattle.model.specs.Entry.{entryTrades, base}
 use Rattle.model.specs.Refusals.{_when_, firstOf}
 use Rattle.model.proofs.Bools.{and-both, not-both}
+use Rattle.model.proofs.Rules.{Numbered}
 use Rattle.book.specs.Rows.{orderOf, bookOf}
-use Rattle.book.specs.Standing.{Standing}
-use Rattle.book.specs.Places.{lowestFree}
-use Rattle.book.proofs.Finding.{full, not-full, lowest-bound}
+use Rattle.book.specs.Standing.{Standing, Ranked}
+use Rattle.book.proofs.Lists.{length-keep}
+use Rattle.book.proofs.Counting.{orders, queues-orders, full, not-full}
 use Rattle.book.proofs.Best.{best-price}
 use Rattle.matching.specs.declared.Swept.{Swept}
 use Rattle.matching.specs.Sweeping.{comesTo}
@@ -99,41 +100,43 @@ module _ (d : Day) (a : Asked) (book : List Order) where
 
 -- ---- which is the first
 
-module _ (d : Day) (a : Asked) (book : List Order) (room : ℕ) where
-  pub book-range : outside d a book ≡ true → 9 ≡ firstOf (bookRules d a book room)
+module _ (d : Day) (a : Asked) (book : List Order) where
+  pub book-range : outside d a book ≡ true → 9 ≡ firstOf (bookRules d a book)
   unfolding bookRules firstOf _when_
   book-range o = rw o
 
   module _ (o : outside d a book ≡ false) where
-    pub book-full : all isLive book ≡ true → 10 ≡ firstOf (bookRules d a book room)
+    pub book-full : all isLive book ≡ true → 10 ≡ firstOf (bookRules d a book)
     unfolding bookRules firstOf _when_
     book-full l = rw (o, l)
 
     module _ (l : all isLive book ≡ false) where
-      pub book-issued : d .issued ≡ 999_999 → 11 ≡ firstOf (bookRules d a book room)
+      pub book-issued : d .issued ≡ 999_999 → 11 ≡ firstOf (bookRules d a book)
       unfolding bookRules firstOf _when_
       book-issued i = rw (o, l, eq-eqb (d .issued) 999_999 i)
 
-      module _ (i : d .issued ≡ 999_999 → ⊥) where
-        pub book-room : ltb room (length (entryTrades d a book)) ≡ true → 13 ≡ firstOf (bookRules d a book room)
-        unfolding bookRules firstOf _when_
-        book-room h = rw (o, l, ne-eqb (d .issued) 999_999 i, h)
+      pub book-none : (d .issued ≡ 999_999 → ⊥) → 0 ≡ firstOf (bookRules d a book)
+      unfolding bookRules firstOf _when_
+      book-none i = rw (o, l, ne-eqb (d .issued) 999_999 i)
 
-        pub book-none : ltb room (length (entryTrades d a book)) ≡ false → 0 ≡ firstOf (bookRules d a book room)
-        unfolding bookRules firstOf _when_
-        book-none h = rw (o, l, ne-eqb (d .issued) 999_999 i, h)
+  pub book-numbered : Numbered (bookRules d a book)
+  unfolding bookRules _when_
+  book-numbered = (eqb-false 9 0 refl, (eqb-false 10 0 refl, (eqb-false 11 0 refl, tt)))
 
 -- ---- what the code found
 
-module _ (rows : List (List ℕ)) {n : ℕ} (e : n ≡ lowestFree (bookOf rows)) where
+module _ (rows : List (List ℕ)) (r : Ranked (bookOf rows)) {n : ℕ} (e : n ≡ length (queue 0 (bookOf rows)) + length (queue 1 (bookOf rows))) where
   places : length (bookOf rows) ≡ length rows
   places = length-map rows orderOf
 
+  counted : n ≡ orders (bookOf rows)
+  counted = e ∙ queues-orders (bookOf rows) (r .stands .fair)
+
   pub full-of : n ≡ length rows → all isLive (bookOf rows) ≡ true
-  full-of h = full (bookOf rows) (omega (arith, places))
+  full-of h = full (bookOf rows) (omega (arith, places, counted))
 
   pub free-of : (n ≡ length rows → ⊥) → all isLive (bookOf rows) ≡ false
-  free-of h = not-full (bookOf rows) (omega (arith, places, lowest-bound (bookOf rows)))
+  free-of h = not-full (bookOf rows) (omega (arith, places, counted, length-keep isLive (bookOf rows)))
 
 -- no order has more trades than the book has places
 pub list-holds-entry :

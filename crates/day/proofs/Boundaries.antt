@@ -4,25 +4,28 @@ use Prim.Native.Nat.{ℕ, _+_, _≤_, _<_}
 use mathlib.Core.Path.{_≡_, refl, sym, ap, _∙_}
 use mathlib.Core.Bool.{Bool, true, false, cond, _||_}
 use mathlib.Core.List.{List, [], _∷_, _++_, append-nil}
-use lib.ListN.{length, drop, getD, drop-of-length-le}
+use lib.ListN.{length, drop, getD, length-map, drop-of-length-le}
 use lib.Seq.{drop-cons}
 use lib.Dec.{leb}
 use borrow.Author.Tests.{le-ltb, lt-ltb}
 use native.Mathlib.Numerals.{add-one}
+use native.Mathlib.Omega.{arith}
 use Rattle.model.specs.declared.Order.{Order}
 use Rattle.model.specs.declared.Trade.{Trade}
 use Rattle.model.specs.declared.Day.{Day}
 use Rattle.model.specs.declared.Boundary.{Boundary}
 use Rattle.model.specs.Clock.{passes, boundaries}
-use Rattle.model.specs.Book.{free, standsOn}
-use Rattle.model.specs.Matching.{settle}
+use Rattle.model.specs.Book.{free, standsOn, queue, arranged}
+use Rattle.model.specs.Matching.{filledOf, lessBy, settle}
 use Rattle.model.specs.Figures.{tally}
 use Rattle.model.specs.Sound.{crosses}
 use Rattle.model.specs.Calls.{cleared}
 use Rattle.model.specs.ClockCall.{auctionTrades, Held, hold, pass, through, start, moved}
-use Rattle.book.specs.Standing.{Each, Standing}
+use Rattle.book.specs.Standing.{Each, Standing, Ranked}
 use Rattle.book.proofs.Lists.{each}
-use Rattle.book.proofs.Kept.{free-number, standing-settle, standing-cleared}
+use Rattle.book.proofs.Kept.{free-number, standing-settle}
+use Rattle.book.proofs.Counting.{queues-fit}
+use Rattle.book.proofs.Arranging.{cleared-same, cleared-ranked, arranged-length, arranged-ranked, arranged-crosses}
 use Rattle.book.proofs.Queues.{on-live}
 use Rattle.book.proofs.Settlements.{settle-none}
 use Rattle.book.proofs.Crossing.{SellsAbove, not-crossed}
@@ -39,9 +42,6 @@ unfolding cleared
 cleared-twice [] = refl
 cleared-twice (o ∷ os) = ap (λ (l : List Order). free ∷ l) (cleared-twice os)
 
-cleared-stands : (book : List Order) → Standing book → Standing (cleared book)
-cleared-stands book s = standing-cleared book (s .few)
-
 all-free : (os : List Order) → Each (λ o. o ≡ free) (cleared os)
 unfolding cleared
 all-free [] = tt
@@ -57,7 +57,7 @@ cleared-uncrossed book =
 -- ---- where no buy reaches a sell there is nothing to trade
 
 record Quiet (h : Held) : Type 0 where
-  stands : Standing (h .book)
+  ranked : Ranked (h .book)
   apart : crosses (h .book) ≡ false
 
 -- with every place cleared, or as it is
@@ -67,46 +67,67 @@ lapsed lapse h = record { day = h .day; book = cond lapse (cleared (h .book)) (h
 hold-quiet : (b : Boundary) (h : Held) → Quiet h → hold b h ≡ lapsed (b .lapse) h
 unfolding hold
 hold-quiet b h q =
-    let none : auctionTrades (h .day) (h .book) ≡ [] = uncrossed-none (h .book) (q .stands) (h .day) (q .apart) in
+    let none : auctionTrades (h .day) (h .book) ≡ [] = uncrossed-none (h .book) (q .ranked .stands) (h .day) (q .apart) in
     let day : tally (auctionTrades (h .day) (h .book)) (h .day) ≡ h .day =
     ap (λ (ts : List Trade). tally ts (h .day)) none ∙ sym (tally-zero (h .day) [] 0 refl) in
-    let book : settle (auctionTrades (h .day) (h .book)) (h .book) ≡ h .book =
-    ap (λ (ts : List Trade). settle ts (h .book)) none ∙ settle-none (h .book) (q .stands .fair) in
+    let book : arranged (length (h .book)) (settle (auctionTrades (h .day) (h .book)) (h .book)) ≡ h .book =
+    ap (λ (ts : List Trade). arranged (length (h .book)) (settle ts (h .book))) none
+    ∙ ap (arranged (length (h .book))) (settle-none (h .book) (q .ranked .stands .fair))
+    ∙ sym (q .ranked .ordered) in
     let trades : h .trades ++ auctionTrades (h .day) (h .book) ≡ h .trades =
     ap (λ (ts : List Trade). h .trades ++ ts) none ∙ append-nil (h .trades) in
     rw (day, book, trades)
 
 -- so it is after any auction
-quiet-hold : (b : Boundary) (h : Held) → Standing (h .book) → Quiet (hold b h)
-unfolding hold
-quiet-hold b h s = go (b .lapse)
-  where
-    ts : List Trade
-    ts = auctionTrades (h .day) (h .book)
+module _ (h : Held) (r : Ranked (h .book)) where
+  abbrev ts : List Trade
+  ts = auctionTrades (h .day) (h .book)
 
-    go : (lapse : Bool) → Quiet (record { day = tally ts (h .day); book = cond lapse (cleared (settle ts (h .book))) (settle ts (h .book)); trades = h .trades ++ ts })
-    go true =
-        record {
-          stands = cleared-stands (settle ts (h .book)) (standing-settle ts (h .book) s);
-          apart = cleared-uncrossed (settle ts (h .book));
-        }
-    go false = record { stands = standing-settle ts (h .book) s; apart = auction-uncrosses (h .book) s (h .day) }
+  -- the book after the trades
+  abbrev after : List Order
+  after = arranged (length (h .book)) (settle ts (h .book))
 
-quiet-auctioned : (c : Bool) (h : Held) → Standing (h .book) → Quiet (auctioned c h)
-unfolding auctioned
-quiet-auctioned c h s = quiet-hold _ h s
+  settled : Standing (settle ts (h .book))
+  settled = standing-settle ts (h .book) (r .stands)
 
--- ---- a boundary more
+  fit : length (queue 0 (settle ts (h .book))) + length (queue 1 (settle ts (h .book))) ≤ length (h .book)
+  unfolding settle
+  fit = omega (arith, queues-fit (settle ts (h .book)) (settled .fair), length-map (h .book) (λ (o : Order). lessBy (filledOf (o .number) ts) o))
 
-lapsed-again : (l c : Bool) (h : Held) → lapsed l (auctioned c h) ≡ auctioned (c || l) h
-unfolding auctioned hold
-lapsed-again false false h = refl
-lapsed-again false true h = refl
-lapsed-again true false h = refl
-lapsed-again true true h = rw cleared-twice
+  quiet-hold : (b : Boundary) → Quiet (hold b h)
+  unfolding hold
+  quiet-hold b = go (b .lapse)
+    where
+      go : (lapse : Bool) → Quiet (record { day = tally ts (h .day); book = cond lapse (cleared (h .book)) after; trades = h .trades ++ ts })
+      go true = record { ranked = cleared-ranked (h .book) (r .few); apart = cleared-uncrossed (h .book) }
+      go false =
+          record {
+            ranked = arranged-ranked (length (h .book)) (settle ts (h .book)) settled fit (r .few);
+            apart =
+                arranged-crosses (length (h .book)) (settle ts (h .book)) settled fit
+                ∙ auction-uncrosses (h .book) (r .stands) (h .day);
+          }
 
-hold-again : (b : Boundary) (c : Bool) (h : Held) → Standing (h .book) → hold b (auctioned c h) ≡ auctioned (c || b .lapse) h
-hold-again b c h s = hold-quiet b (auctioned c h) (quiet-auctioned c h s) ∙ lapsed-again (b .lapse) c h
+  -- the places of the book after the trades are those before
+  pub same-cleared : cleared after ≡ cleared (h .book)
+  same-cleared =
+      cleared-same after (h .book) (arranged-length (length (h .book)) (settle ts (h .book)) settled fit)
+
+  quiet-auctioned : (c : Bool) → Quiet (auctioned c h)
+  unfolding auctioned
+  quiet-auctioned c = quiet-hold _
+
+  -- ---- a boundary more
+
+  lapsed-again : (l c : Bool) → lapsed l (auctioned c h) ≡ auctioned (c || l) h
+  unfolding auctioned hold
+  lapsed-again false false = refl
+  lapsed-again false true = refl
+  lapsed-again true false = rw same-cleared
+  lapsed-again true true = rw cleared-twice
+
+  hold-again : (b : Boundary) (c : Bool) → hold b (auctioned c h) ≡ auctioned (c || b .lapse) h
+  hold-again b c = hold-quiet b (auctioned c h) (quiet-auctioned c) ∙ lapsed-again (b .lapse) c
 
 hold-first : (b : Boundary) (h : Held) → hold b h ≡ auctioned (b .lapse) h
 unfolding auctioned hold
@@ -126,16 +147,16 @@ past-then false Nothing h = refl
 past-then false Auction h = refl
 past-then false Lapse h = refl
 
-hold-past : (b : Boundary) (p : Passed) (h : Held) → Standing (h .book) → hold b (past p h) ≡ past (andThen (b .lapse) p) h
+hold-past : (b : Boundary) (p : Passed) (h : Held) → Ranked (h .book) → hold b (past p h) ≡ past (andThen (b .lapse) p) h
 unfolding past
 hold-past b Nothing h s = hold-first b h ∙ past-then (b .lapse) Nothing h
-hold-past b Auction h s = hold-again b false h s ∙ past-then (b .lapse) Auction h
-hold-past b Lapse h s = hold-again b true h s ∙ past-then (b .lapse) Lapse h
+hold-past b Auction h s = hold-again h s b false ∙ past-then (b .lapse) Auction h
+hold-past b Lapse h s = hold-again h s b true ∙ past-then (b .lapse) Lapse h
 
 -- ---- all of them
 
 module _ (old new : ℕ) where
-  one-more : (b : Boundary) (p : Passed) (h : Held) → Standing (h .book) → pass old new b (past p h) ≡ past (passedBy old new b p) h
+  one-more : (b : Boundary) (p : Passed) (h : Held) → Ranked (h .book) → pass old new b (past p h) ≡ past (passedBy old new b p) h
   unfolding pass passedBy
   one-more b p h s = go (passes (b .second) old new)
     where
@@ -143,12 +164,12 @@ module _ (old new : ℕ) where
       go true = hold-past b p h s
       go false = refl
 
-  through-past : (bs : List Boundary) (p : Passed) (h : Held) → Standing (h .book) → through old new bs (past p h) ≡ past (passed old new bs p) h
+  through-past : (bs : List Boundary) (p : Passed) (h : Held) → Ranked (h .book) → through old new bs (past p h) ≡ past (passed old new bs p) h
   unfolding through passed
   through-past [] p h s = refl
   through-past (b ∷ bs) p h s = ap (through old new bs) (one-more b p h s) ∙ through-past bs (passedBy old new b p) h s
 
-module _ (d : Day) (t : ℕ) (book : List Order) (s : Standing book) where
+module _ (d : Day) (t : ℕ) (book : List Order) (s : Ranked book) where
   pub moved-past : moved d t book ≡ past (passed (d .time) t boundaries Nothing) (start d book)
   unfolding moved past start
   moved-past = through-past (d .time) t boundaries Nothing (start d book) s

@@ -1,26 +1,26 @@
 -- A cancel: which of its rules is the first to hold, and what it comes to. Assumes nothing.
-use Prim.Native.Nat.{ℕ, _≤_, _<_}
+use Prim.Native.Nat.{ℕ, _+_, _≤_, _<_}
 use mathlib.Core.Path.{_≡_, refl, sym, ap, _∙_}
-use mathlib.Core.Bool.{true, false}
-use mathlib.Core.List.{List, [], map}
+use mathlib.Core.Bool.{true, false, not}
+use mathlib.Core.List.{List, [], _∷_, _++_}
 use native.Mathlib.Omega.{arith}
-use lib.ListN.{length, length-map, getD, set}
+use lib.ListN.{length, length-map, getD, take, drop}
 use borrow.Author.Tests.{lt-ltb, le-ltb, ltb-true, eqb-false, eq-eqb, ne-eqb, not-false}
 use Rattle.model.specs.declared.Order.{Order}
 use Rattle.model.specs.declared.Day.{Day}
 use Rattle.model.specs.declared.CancelReply.the-variants.{Refused, Withdrawn}
-use Rattle.model.specs.Choice.{if_then_else_}
 use Rattle.model.specs.Lists.{any, keep, total}
 use Rattle.model.specs.Clock.{takesCancels}
-use Rattle.model.specs.Book.{free}
+use Rattle.model.specs.Book.{free, queue, arranged}
 use Rattle.model.specs.Refusals.{_when_, firstOf, unsound}
 use Rattle.model.specs.Calls.{isOwn, cancelRules, cancelCall}
 use Rattle.model.proofs.Rules.{Numbered, NoneHolds, none-holds}
-use Rattle.book.specs.Rows.{orderOf, rowOf, bookOf}
+use Rattle.book.specs.Rows.{orderOf, bookOf}
 use Rattle.book.specs.Places.{placeOf}
-use Rattle.book.specs.Standing.{Apart}
-use Rattle.book.proofs.Finding.{own-any, cancel-set, cancel-left}
-use Rattle.book.proofs.Memory.{book-at, book-set}
+use Rattle.book.specs.Standing.{Ranked}
+use Rattle.book.proofs.Finding.{own-any, own-live, cancel-left}
+use Rattle.book.proofs.Memory.{book-at}
+use Rattle.book.proofs.TakenOut.{live-before, cancel-arranged}
 use Rattle.day.specs.Promises.{cancelLeft}
 
 module _ (d : Day) (account number : ℕ) (rows : List (List ℕ)) where
@@ -79,19 +79,26 @@ module _ (d : Day) (account number : ℕ) (rows : List (List ℕ)) where
             let k : placeOf account number book < length book = ltb-true _ _ (sym (own-any account number book) ∙ h) in
             omega (arith, length-map rows orderOf)
 
+        -- it is live, so it stands before the free places
+        pub cancel-live : Ranked book → place < length (queue 0 book) + length (queue 1 book)
+        cancel-live r =
+            live-before book r place
+            (λ n.
+            own-live account number book (omega (arith, e, cancel-place, length-map rows orderOf))
+            (ap (λ (i : ℕ). getD book i free .number) (sym e) ∙ n))
+
         pub cancel-accepted :
-            {own : Order} {after : List (List ℕ)}
-            → Apart book
+            {own : Order} (after : List (List ℕ))
+            → Ranked book
             → own ≡ orderOf (getD rows place [])
-            → after ≡ set rows place (rowOf free)
+            → bookOf after ≡ take place book ++ (drop (place + 1) book ++ (free ∷ []))
             → cancelLeft (Withdrawn (own .left)) after ≡ cancelCall d account number book
         unfolding cancelCall
-        cancel-accepted {own} {after} a f g =
+        cancel-accepted {own} after r₁ f g =
             let l : own .left ≡ total (λ o. o .left) (keep (isOwn account number) book) =
             ap (λ (o : Order). o .left) (f ∙ ap (λ (k : ℕ). orderOf (getD rows k [])) e ∙ book-at rows _)
-            ∙ sym (cancel-left account number book a) in
-            let b : bookOf after ≡ map (λ o. if isOwn account number o then free else o) book =
-            ap bookOf (g ∙ ap (λ (k : ℕ). set rows k (rowOf free)) e)
-            ∙ book-set rows _ free
-            ∙ sym (cancel-set account number book a) in
+            ∙ sym (cancel-left account number book (r₁ .stands .apart)) in
+            let b : bookOf after ≡ arranged (length book) (keep (λ o. not (isOwn account number o)) book) =
+            g ∙ cancel-arranged book r₁ account number e (omega (arith, cancel-place, length-map rows orderOf))
+            in
             rw (eq-eqb rules 0 (sym r ∙ z), l, b)

@@ -18,17 +18,18 @@ use Rattle.model.specs.Refusals.{_when_, firstOf, unsound}
 use Rattle.model.specs.Calls.{Outcome, written, cleared}
 use Rattle.model.specs.ClockCall.{auctionTrades, Held, hold, start, moved, clockRules, clockCall}
 use Rattle.model.proofs.Rules.{hit, skip, Numbered, NoneHolds, none-holds}
-use Rattle.book.specs.Rows.{bookOf, rowsOf, tradeOf, tradesOf}
-use Rattle.book.specs.Standing.{Standing}
+use Rattle.book.specs.Rows.{orderOf, bookOf, rowsOf, tradeOf, tradesOf}
+use Rattle.book.specs.Standing.{Ranked}
 use Rattle.book.proofs.Memory.{book-rows}
+use Rattle.pairing.proofs.Moves.{moved-few}
+use Rattle.day.specs.declared.Dealt.{Dealt}
 use Rattle.day.specs.declared.Passage.{Passage}
 use Rattle.day.specs.declared.Passed.{Passed}
 use Rattle.day.specs.declared.Passed.the-variants.{Nothing, Auction, Lapse}
 use Rattle.day.specs.Promises.{left}
 use Rattle.day.specs.Ready.{Ready}
-use Rattle.day.specs.Moving.{passed, auctioned, past, auctionRules, reached}
-use Rattle.day.proofs.Readiness.{ready-if}
-use Rattle.day.proofs.Boundaries.{moved-past}
+use Rattle.day.specs.Moving.{passed, auctioned, past, dealt, reached}
+use Rattle.day.proofs.Boundaries.{moved-past, same-cleared}
 
 -- ---- the trades of what is passed
 
@@ -49,7 +50,7 @@ auction-is-some a n = let z : _≡_ {A = ℕ} 0 1 = cc in omega arith
 pub lapse-is-some : {p : Passed} → p ≡ Lapse → p ≡ Nothing → ⊥
 lapse-is-some a n = let z : _≡_ {A = ℕ} 0 1 = cc in omega arith
 
-module _ (d : Day) (t : ℕ) (book : List Order) (s : Standing book) {p : Passed} (e : p ≡ passed (d .time) t boundaries Nothing) where
+module _ (d : Day) (t : ℕ) (book : List Order) (s : Ranked book) {p : Passed} (e : p ≡ passed (d .time) t boundaries Nothing) where
   moved-by : moved d t book ≡ past p (start d book)
   moved-by = moved-past d t book s ∙ ap (λ (q : Passed). past q (start d book)) (sym e)
 
@@ -59,6 +60,33 @@ module _ (d : Day) (t : ℕ) (book : List Order) (s : Standing book) {p : Passed
 
   pub moved-trades : (p ≡ Nothing → ⊥) → moved d t book .trades ≡ auctionTrades d book
   moved-trades n = ap (λ (h : Held). h .trades) moved-by ∙ past-trades d book p n
+
+-- ---- the places for its trades
+
+module _ (d : Day) (t : ℕ) (rows : List (List ℕ)) (s : Ranked (bookOf rows)) (places : ℕ) where
+  -- no move has more trades than the book has places
+  pub list-holds-move : length rows ≤ places → false ≡ ltb places (length (moved d t (bookOf rows) .trades))
+  list-holds-move h =
+      sym
+      (le-ltb places (length (moved d t (bookOf rows) .trades))
+      (omega (arith, moved-few (bookOf rows) (s .stands) d t, length-map rows orderOf)))
+
+  module _ {p : Passed} (e : p ≡ passed (d .time) t boundaries Nothing) where
+    pub none-lacks : p ≡ Nothing → false ≡ ltb places (length (moved d t (bookOf rows) .trades))
+    none-lacks n =
+        sym
+        (ap (λ (ts : List Trade). ltb places (length ts)) (moved-none d t (bookOf rows) s e n)
+        ∙ le-ltb places 0 (omega arith))
+
+    pub auction-lacks :
+        {r : Dealt}
+        → (p ≡ Nothing → ⊥)
+        → r ≡ dealt (auctionTrades d (bookOf rows))
+        → ltb places (r .made) ≡ ltb places (length (moved d t (bookOf rows) .trades))
+    unfolding dealt
+    auction-lacks n f =
+        ap (λ (x : Dealt). ltb places (x .made)) f
+        ∙ ap (λ (ts : List Trade). ltb places (length ts)) (sym (moved-trades d t (bookOf rows) s e n))
 
 -- ---- which rule is the first
 
@@ -81,29 +109,17 @@ module _ (d : Day) (t : ℕ) (book : List Order) (room : ℕ) where
       clock-back l = sym (skip 15 _ u ∙ hit 1 _ (rw (le-leb t 86_399 h, lt-ltb t (d .time) l)))
 
       module _ (l : d .time ≤ t) where
-        stands : Standing book
-        stands = ready-if d book u .stands
-
         -- neither soundness nor the time is in the way
-        by-room : rules ≡ firstOf (13 when (ltb room (length (moved d t book .trades))) ∷ [])
+        by-list : rules ≡ firstOf (13 when (ltb room (length (moved d t book .trades))) ∷ [])
         unfolding clockRules isTime
-        by-room = skip 15 _ u ∙ skip 1 _ (rw (le-leb t 86_399 h, le-ltb t (d .time) l))
+        by-list = skip 15 _ u ∙ skip 1 _ (rw (le-leb t 86_399 h, le-ltb t (d .time) l))
 
-        module _ {p : Passed} (e : p ≡ passed (d .time) t boundaries Nothing) where
-          pub clock-idle : p ≡ Nothing → 0 ≡ rules
-          unfolding firstOf
-          clock-idle n =
-              sym
-              (by-room
-              ∙ skip 13 []
-              (ap (λ (ts : List Trade). ltb room (length ts)) (moved-none d t book stands e n) ∙ le-ltb room 0 (omega arith)))
+        pub clock-list : ltb room (length (moved d t book .trades)) ≡ true → 13 ≡ rules
+        clock-list e = sym (by-list ∙ hit 13 [] e)
 
-          pub clock-auction : {r : ℕ} → (p ≡ Nothing → ⊥) → r ≡ firstOf (auctionRules d book room) → r ≡ rules
-          unfolding auctionRules
-          clock-auction n f =
-              f
-              ∙ ap (λ (ts : List Trade). firstOf (13 when (ltb room (length ts)) ∷ [])) (sym (moved-trades d t book stands e n))
-              ∙ sym by-room
+        pub clock-none : ltb room (length (moved d t book .trades)) ≡ false → 0 ≡ rules
+        unfolding firstOf
+        clock-none e = sym (by-list ∙ skip 13 [] e)
 
   pub clock-numbered : Numbered (clockRules d t book room)
   unfolding clockRules _when_
@@ -112,10 +128,6 @@ module _ (d : Day) (t : ℕ) (book : List Order) (room : ℕ) where
   module _ {n : ℕ} (e : n ≡ rules) (z : n ≡ 0) where
     none : NoneHolds (clockRules d t book room)
     none = none-holds (clockRules d t book room) clock-numbered (sym e ∙ z)
-
-    pub move-ready : Ready d book
-    unfolding clockRules _when_
-    move-ready = ready-if d book (none .0)
 
     pub move-fits : length (moved d t book .trades) ≤ room
     unfolding clockRules _when_
@@ -132,11 +144,11 @@ module _ (d : Day) (t : ℕ) (rows : List (List ℕ)) (r : Ready d (bookOf rows)
   book = bookOf rows
 
   pub one-fits : {room : ℕ} → (p ≡ Nothing → ⊥) → length (moved d t book .trades) ≤ room → length (auctionTrades d book) ≤ room
-  one-fits n h = rw (moved-trades d t book (r .stands) e n) at h
+  one-fits n h = rw (moved-trades d t book (r .ranked) e n) at h
 
   module _ (lent : List Trade) where
     by-past : reached (past p (start d book)) lent ≡ reached (moved d t book) lent
-    by-past = ap (λ (h : Held). reached h lent) (sym (moved-by d t book (r .stands) e))
+    by-past = ap (λ (h : Held). reached h lent) (sym (moved-by d t book (r .ranked) e))
 
     at-nothing : record { answer = record { day = d; made = 0 }; book = book; trades = lent } ≡ reached (past Nothing (start d book)) lent
     unfolding reached past start written
@@ -154,8 +166,8 @@ module _ (d : Day) (t : ℕ) (rows : List (List ℕ)) (r : Ready d (bookOf rows)
       passed-auction n = at-auction ∙ ap (λ (q : Passed). reached (past q (start d book)) lent) (sym n) ∙ by-past
 
       at-lapse : clearing (reached (auctioned false (start d book)) lent) ≡ reached (past Lapse (start d book)) lent
-      unfolding past reached auctioned hold
-      at-lapse = refl
+      unfolding past reached auctioned hold start
+      at-lapse = rw (same-cleared (start d book) (r .ranked))
 
       pub passed-lapse : {rows₂ : List (List ℕ)} → p ≡ Lapse → rows₂ ≡ rowsOf (cleared (bookOf rows₁)) → left a rows₂ after ≡ reached (moved d t book) lent
       passed-lapse n g =
@@ -186,12 +198,10 @@ module _ (d : Day) (t : ℕ) (rows lent : List (List ℕ)) {n : ℕ} (e : n ≡ 
   first = ap (λ (k : ℕ). firstOf (clockRules d t (bookOf rows) k)) (length-map lent tradeOf) ∙ sym e
 
   pub clock-refused :
-      (after : List (List ℕ))
-      → (n ≡ 0 → ⊥)
-      → after ≡ lent
-      → left (record { reply = Refused n; made = 0; day = d }) rows after ≡ clockCall d t (bookOf rows) (tradesOf lent)
+      (n ≡ 0 → ⊥)
+      → left (record { reply = Refused n; made = 0; day = d }) rows lent ≡ clockCall d t (bookOf rows) (tradesOf lent)
   unfolding clockCall
-  clock-refused after z k = rw (first, ne-eqb n 0 z, k)
+  clock-refused z = rw (first, ne-eqb n 0 z)
 
   pub clock-accepted :
       (a : Passage) (rows₁ after : List (List ℕ)) {phase : ℕ} {day : Day}

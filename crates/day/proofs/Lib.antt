@@ -8,5 +8,6 @@ pub mod ClockLaws
 pub mod Determined
 pub mod Openings
 pub mod OrderLaws
+pub mod Entered
 pub mod Readiness
 pub mod Tallies

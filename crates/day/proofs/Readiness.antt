@@ -8,12 +8,12 @@ use Rattle.model.specs.declared.Day.{Day}
 use Rattle.model.specs.Sound.{hasPlaces, sound}
 use Rattle.model.specs.Refusals.{unsound}
 use Rattle.model.proofs.Bools.{and-right}
-use Rattle.soundness.proofs.SoundDays.{sound-day, stands}
+use Rattle.soundness.proofs.SoundDays.{sound-day, ranked}
 use Rattle.day.specs.Ready.{Ready}
 
 module _ (d : Day) (book : List Order) where
   tested : (hasPlaces book && sound d book) ≡ true → Ready d book
-  tested e = record { sound = sound-day d book (and-right (hasPlaces book) (sound d book) e); stands = stands d book e }
+  tested e = record { sound = sound-day d book (and-right (hasPlaces book) (sound d book) e); ranked = ranked d book e }
 
   pub ready-if : unsound d book ≡ false → Ready d book
   unfolding unsound

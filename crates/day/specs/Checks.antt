@@ -1,5 +1,5 @@
 -- An order's rules, in the groups in which the code goes through them: what is asked by itself, when it is asked, its numbers,
--- and the book. Law `order-groups` says that these are document 01's rules, in its order.
+-- the book, and the lent list. Law `order-groups` says that these are document 01's rules, in its order.
 use Prim.Native.Nat.{ℕ}
 use mathlib.Core.Bool.{Bool, not, _&&_, _||_}
 use mathlib.Core.List.{List, [], _∷_, _++_}
@@ -42,13 +42,16 @@ outside d a book =
     && eqb (phaseAt (d .time)) continuous
     && not (inRange (a .side) (base d (a .side) book) (a .price))
 
-unfoldable pub bookRules : Day → Asked → List Order → ℕ → List Rule
-bookRules d a book room =
+unfoldable pub bookRules : Day → Asked → List Order → List Rule
+bookRules d a book =
     9 when
     (eqb (a .kind) 0
     && eqb (phaseAt (d .time)) continuous
     && not (inRange (a .side) (base d (a .side) book) (a .price)))
     ∷ 10 when (all isLive book)
     ∷ 11 when (eqb (d .issued) 999_999)
-    ∷ 13 when (ltb room (length (entryTrades d a book)))
     ∷ []
+
+-- a lent list of so many places
+unfoldable pub listRules : Day → Asked → List Order → ℕ → List Rule
+listRules d a book places = 13 when (ltb places (length (entryTrades d a book))) ∷ []

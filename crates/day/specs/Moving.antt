@@ -4,16 +4,14 @@ use Prim.Native.Nat.{ℕ}
 use mathlib.Core.Bool.{Bool, true, false}
 use mathlib.Core.List.{List, [], _∷_}
 use lib.ListN.{length}
-use lib.Dec.{ltb}
-use Rattle.model.specs.declared.Order.{Order}
 use Rattle.model.specs.declared.Trade.{Trade}
-use Rattle.model.specs.declared.Day.{Day}
 use Rattle.model.specs.declared.Boundary.{Boundary}
 use Rattle.model.specs.Choice.{if_then_else_}
 use Rattle.model.specs.Clock.{passes}
-use Rattle.model.specs.Refusals.{Rule, _when_}
+use Rattle.model.specs.Matching.{filled}
 use Rattle.model.specs.Calls.{Outcome, written}
-use Rattle.model.specs.ClockCall.{auctionTrades, Held, hold}
+use Rattle.model.specs.ClockCall.{Held, hold}
+use Rattle.day.specs.declared.Dealt.{Dealt}
 use Rattle.day.specs.declared.Passage.{Passage}
 use Rattle.day.specs.declared.Passed.{Passed}
 use Rattle.day.specs.declared.Passed.the-variants.{Nothing, Auction, Lapse}
@@ -42,9 +40,9 @@ past Nothing h = h
 past Auction h = auctioned false h
 past Lapse h = auctioned true h
 
--- the rules of an auction held now, for a trade list of so many places
-unfoldable pub auctionRules : Day → List Order → ℕ → List Rule
-auctionRules d book room = 13 when (ltb room (length (auctionTrades d book))) ∷ []
+-- what a run of an auction's trades comes to
+unfoldable pub dealt : List Trade → Dealt
+dealt ts = record { made = length ts; shares = filled ts }
 
 -- what is handed back and left behind: figures, number of trades, book, and the trades at the front of the lent list
 unfoldable pub reached : Held → List Trade → Outcome Passage

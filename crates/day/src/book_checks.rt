@@ -1,7 +1,8 @@
-// What an order is refused for by the book: its range, a free place, a number, and room for its trades.
+// What an order is refused for by the book: its range, a free place, a number; and whether a trade list has places for its trades.
 use crate::figures::reference_of;
-use book::places::lowest_free;
-use book::priority::best_price;
+use book::seats::best_price;
+use book::seats::free_from;
+use clock::phase_at;
 use limits::in_range;
 use matching::entering::enter_trades;
 use matching::sweeping::other_side;
@@ -18,12 +19,13 @@ ghost use Rattle.model.specs.Figures.{reference};
 ghost use Rattle.model.specs.Entry.{base, entryTrades};
 ghost use Rattle.model.specs.Refusals.{firstOf};
 ghost use Rattle.book.specs.Rows.{bookOf};
-ghost use Rattle.book.specs.Standing.{Standing};
+ghost use Rattle.book.specs.Standing.{Ranked};
 ghost use Rattle.day.specs.Checks.{outside, bookRules};
 
 // The base of the order range: the other side's best, else the own side's, else the last trade, else the previous close.
 fn base_of(rows: &[[u64; 5]], d: Day, side: u64) -> u64
-    requires { ⌜ Standing (bookOf (now rows)) ⌝ }
+    requires { ⌜ Ranked (bookOf (now rows)) ⌝ }
+    requires { ⌜ side ≤ 1 ⌝ }
     ensures { λ r. ⌜ r ≡ base d side (bookOf (now (rows .entry))) ⌝ }
 {
     let opposite = best_price(rows, other_side(side));
@@ -39,7 +41,8 @@ fn base_of(rows: &[[u64; 5]], d: Day, side: u64) -> u64
 
 // A limit order in continuous trading that is outside its range.
 fn is_outside(rows: &[[u64; 5]], d: Day, phase: u64, a: Asked) -> bool
-    requires { ⌜ Standing (bookOf (now rows)) ⌝ }
+    requires { ⌜ Ranked (bookOf (now rows)) ⌝ }
+    requires { ⌜ a .side ≤ 1 ⌝ }
     requires { ⌜ phase ≡ phaseAt (d .time) ⌝ }
     requires { ⌜ isPrice (reference d) ≡ true ⌝ }
     requires { ⌜ isPrice (a .price) ≡ true ⌝ }
@@ -55,41 +58,40 @@ fn is_outside(rows: &[[u64; 5]], d: Day, phase: u64, a: Asked) -> bool
     !in_range(a.side, base, a.price)
 }
 
-// More trades than the list has room for. No order has more than the book has places, so they are counted only where the list is
-// shorter: a run that writes nothing.
-fn lacks_room(rows: &[[u64; 5]], trades: &mut [[u64; 6]], d: Day, phase: u64, a: Asked) -> bool
-    requires { ⌜ Standing (bookOf (now rows)) ⌝ }
-    requires { ⌜ phase ≡ phaseAt (d .time) ⌝ }
-    requires { ⌜ d .issued ≤ 999_999 ⌝ }
-    ensures { λ r. ⌜ (r ≡ ltb (length (now (trades .entry))) (length (entryTrades d a (bookOf (now (rows .entry)))))) × (now (trades .exit) ≡ now (trades .entry)) ⌝ }
-{
-    if rows.len() <= trades.len() {
-        return false;
-    }
-    let counted = enter_trades(rows, &mut *trades, 0, d, phase, a);
-    trades.len() < counted.trades
-}
-
-// 9: outside the range. 10: no free place. 11: no number left. 13: no room for the trades.
-pub fn book_refusal(rows: &[[u64; 5]], trades: &mut [[u64; 6]], d: Day, phase: u64, a: Asked) -> u64
-    requires { ⌜ Standing (bookOf (now rows)) ⌝ }
+// 9: outside the range. 10: no free place. 11: no number left.
+pub fn book_refusal(rows: &[[u64; 5]], d: Day, phase: u64, a: Asked) -> u64
+    requires { ⌜ Ranked (bookOf (now rows)) ⌝ }
+    requires { ⌜ a .side ≤ 1 ⌝ }
     requires { ⌜ phase ≡ phaseAt (d .time) ⌝ }
     requires { ⌜ isPrice (reference d) ≡ true ⌝ }
     requires { ⌜ isPrice (a .price) ≡ true ⌝ }
-    requires { ⌜ d .issued ≤ 999_999 ⌝ }
-    ensures { λ r. ⌜ (r ≡ firstOf (bookRules d a (bookOf (now (rows .entry))) (length (now (trades .entry))))) × (now (trades .exit) ≡ now (trades .entry)) ⌝ }
+    ensures { λ r. ⌜ r ≡ firstOf (bookRules d a (bookOf (now (rows .entry)))) ⌝ }
 {
     if is_outside(rows, d, phase, a) {
         return 9;
     }
-    if lowest_free(rows) == rows.len() {
+    if free_from(rows) == rows.len() {
         return 10;
     }
     if d.issued == 999_999 {
         return 11;
     }
-    if lacks_room(rows, &mut *trades, d, phase, a) {
-        return 13;
-    }
     0
+}
+
+// Whether the order's trades outnumber so many places. No order has more than the book has places, so they are counted only where
+// the places are fewer: a list of none takes no trade, and all are counted.
+pub fn lacks_places(rows: &[[u64; 5]], d: Day, a: Asked, places: usize) -> bool
+    requires { ⌜ Ranked (bookOf (now rows)) ⌝ }
+    requires { ⌜ a .side ≤ 1 ⌝ }
+    requires { ⌜ d .issued ≤ 999_999 ⌝ }
+    ensures { λ r. ⌜ r ≡ ltb places (length (entryTrades d a (bookOf (now (rows .entry))))) ⌝ }
+{
+    if rows.len() <= places {
+        return false;
+    }
+    let phase = phase_at(d.time);
+    let mut none = [[0; 6]; 1];
+    let counted = enter_trades(rows, &mut none[..0], d, phase, a);
+    places < counted.trades
 }

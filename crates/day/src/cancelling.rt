@@ -1,8 +1,7 @@
 // A cancel: it takes out the live order with that number and account, and nothing else.
 use book::order_at;
-use book::places::free_place;
 use book::places::place_of;
-use book::put_order;
+use book::settling::take_out;
 use clock::takes_cancels;
 use model::CancelReply;
 use model::Day;
@@ -39,7 +38,7 @@ pub fn cancel_sound(d: Day, rows: &mut [[u64; 5]], account: u64, number: u64) ->
     }
     let place = place_of(rows, account, number);
     let own = order_at(rows, place);
-    put_order(&mut *rows, place, free_place());
+    take_out(&mut *rows, place);
     CancelReply::Withdrawn(own.left)
 }
 

@@ -15,6 +15,12 @@ pub struct Totals {
     pub money: u64,
 }
 
+// An auction's trades: how many, and the shares that they are of.
+pub struct Dealt {
+    pub made: usize,
+    pub shares: u64,
+}
+
 // What a move of the clock passes: nothing, an auction, or one after which all that rests lapses.
 pub enum Passed {
     Nothing,

@@ -1,39 +1,38 @@
 // A move of the clock: what it passes on the way, and what that does to day, book and trade list.
+use crate::Dealt;
 use crate::Passage;
 use crate::Passed;
 use crate::figures::day_at;
 use crate::figures::reference_of;
 use crate::figures::tally_trades;
+use auction::depth::volume_at;
 use auction::price::auction_price;
-use book::Mark;
 use book::settling::clear_rows;
-use book::settling::settle_to;
 use clock::phase_at;
 use model::Boundary;
 use model::ClockAnswer;
 use model::ClockReply;
 use model::Day;
-use pairing::Paired;
 use pairing::pair_at;
+use pairing::settling::settle_auction;
 use soundness::is_sound;
 use soundness::places::buys_reach_sells;
 ghost use mathlib.Core.Path.{_≡_};
 ghost use mathlib.Core.Bool.{false};
 ghost use Prim.Native.Nat.{_≤_};
+ghost use lib.Dec.{ltb};
 ghost use lib.ListN.{length};
 ghost use Rattle.model.specs.Clock.{boundaries};
 ghost use Rattle.model.specs.Clock as clock;
-ghost use Rattle.model.specs.Matching.{settle};
-ghost use Rattle.model.specs.Refusals.{firstOf, unsound};
-ghost use Rattle.model.specs.ClockCall.{auctionTrades, start, moved, clockRules, clockCall};
+ghost use Rattle.model.specs.Refusals.{unsound};
+ghost use Rattle.model.specs.ClockCall.{auctionTrades, start, moved, clockCall};
 ghost use Rattle.book.specs.Rows.{bookOf, tradesOf, tradeRows};
-ghost use Rattle.book.specs.Standing.{Standing};
-ghost use Rattle.book.specs.Writing.{front};
-ghost use Rattle.book.specs.Marks.{tradedTo};
+ghost use Rattle.book.specs.Standing.{Ranked};
+ghost use Rattle.book.specs.Writing.{fitted};
 ghost use Rattle.day.specs.declared.Passed.the-variants.{Nothing};
 ghost use Rattle.day.specs.Promises.{left, clockRefused};
 ghost use Rattle.day.specs.Ready.{Ready};
-ghost use Rattle.day.specs.Moving.{passedBy, auctioned, auctionRules, reached};
+ghost use Rattle.day.specs.Moving.{passedBy, auctioned, dealt, reached};
 ghost use Rattle.day.specs.Moving as moving;
 
 // Passing 9:25 holds the opening auction; passing 15:00 holds the closing one, then all that rests lapses.
@@ -89,71 +88,52 @@ fn passed(old: u64, new: u64) -> Passed
     p
 }
 
-// The trades of an auction held now, and how far each side has traded: all are counted, and written while there is room. No
-// price is looked for where no buy reaches a sell.
-fn auction_trades(d: Day, rows: &[[u64; 5]], trades: &mut [[u64; 6]], room: usize) -> Paired
-    requires { ⌜ Standing (bookOf (now rows)) ⌝ }
-    requires { ⌜ room ≤ length (now trades) ⌝ }
-    ensures { λ r. ⌜ (r .made ≡ length (auctionTrades d (bookOf (now (rows .entry))))) × (now (trades .exit) ≡ front room (tradeRows (auctionTrades d (bookOf (now (rows .entry))))) (now (trades .entry))) ⌝ }
-    ensures { λ r. ⌜ settle (auctionTrades d (bookOf (now (rows .entry)))) (bookOf (now (rows .entry))) ≡ tradedTo (r .buys) (r .sells) (bookOf (now (rows .entry))) ⌝ }
+// The trades of an auction held now: all are counted, and as many are written as the list holds. No price is looked for where no
+// buy reaches a sell.
+fn auction_trades(d: Day, rows: &[[u64; 5]], trades: &mut [[u64; 6]]) -> Dealt
+    requires { ⌜ Ranked (bookOf (now rows)) ⌝ }
+    ensures { λ r. ⌜ r ≡ dealt (auctionTrades d (bookOf (now (rows .entry)))) ⌝ }
+    ensures { λ r. ⌜ now (trades .exit) ≡ fitted (tradeRows (auctionTrades d (bookOf (now (rows .entry))))) (now (trades .entry)) ⌝ }
 {
     if !buys_reach_sells(rows) {
-        let untouched = Mark { key: 0, left: 0 };
-        return Paired {
-            made: 0,
-            buys: untouched,
-            sells: untouched,
-        };
+        return Dealt { made: 0, shares: 0 };
     }
     let price = auction_price(rows, reference_of(d));
-    pair_at(rows, &mut *trades, room, price)
+    let shares = volume_at(rows, price);
+    let made = pair_at(rows, &mut *trades, price, shares);
+    Dealt { made, shares }
 }
 
-// 13: more trades than the list has room for. No auction has more than the book has places, so they are counted only where the
-// list is shorter: a run that writes nothing.
-fn auction_refusal(d: Day, rows: &[[u64; 5]], trades: &mut [[u64; 6]]) -> u64
-    requires { ⌜ Standing (bookOf (now rows)) ⌝ }
-    ensures { λ r. ⌜ (r ≡ firstOf (auctionRules d (bookOf (now (rows .entry))) (length (now (trades .entry))))) × (now (trades .exit) ≡ now (trades .entry)) ⌝ }
+// Whether the trades of what the move passes outnumber so many places. No auction has more than the book has places, so they are
+// counted only where the places are fewer: a list of none takes no trade, and all are counted. One auction is all that trades:
+// after it no buy reaches a sell.
+fn lacks_places(d: Day, time: u64, rows: &[[u64; 5]], places: usize) -> bool
+    requires { ⌜ Ready d (bookOf (now rows)) ⌝ }
+    ensures { λ r. ⌜ r ≡ ltb places (length (moved d time (bookOf (now (rows .entry))) .trades)) ⌝ }
 {
-    if rows.len() <= trades.len() {
-        return 0;
-    }
-    let counted = auction_trades(d, rows, &mut *trades, 0);
-    if trades.len() < counted.made {
-        return 13;
-    }
-    0
-}
-
-// On a sound day, 1: the time. 13: by the first auction on the way. No other has trades: after an auction no buy reaches a
-// sell.
-fn clock_refusal(d: Day, time: u64, rows: &[[u64; 5]], trades: &mut [[u64; 6]]) -> u64
-    requires { ⌜ unsound d (bookOf (now rows)) ≡ false ⌝ }
-    ensures { λ r. ⌜ (r ≡ firstOf (clockRules d time (bookOf (now (rows .entry))) (length (now (trades .entry))))) × (now (trades .exit) ≡ now (trades .entry)) ⌝ }
-{
-    if 86_399 < time {
-        return 1;
-    }
-    if time < d.time {
-        return 1;
+    if rows.len() <= places {
+        return false;
     }
     let p = passed(d.time, time);
     match p {
-        Passed::Nothing => 0,
-        _ => auction_refusal(d, rows, &mut *trades),
+        Passed::Nothing => false,
+        _ => {
+            let mut none = [[0; 6]; 1];
+            let counted = auction_trades(d, rows, &mut none[..0]);
+            places < counted.made
+        }
     }
 }
 
-// An auction: its trades at the front of the list, off the book in one pass, and onto the day's figures.
+// An auction: its trades at the front of the list, off the book, and onto the day's figures.
 fn hold_auction(d: Day, rows: &mut [[u64; 5]], trades: &mut [[u64; 6]]) -> Passage
     requires { ⌜ Ready d (bookOf (now rows)) ⌝ }
     requires { ⌜ length (auctionTrades d (bookOf (now rows))) ≤ length (now trades) ⌝ }
     ensures { λ r. ⌜ left r (now (rows .exit)) (now (trades .exit)) ≡ reached (auctioned false (start d (bookOf (now (rows .entry))))) (tradesOf (now (trades .entry))) ⌝ }
 {
-    let room = trades.len();
-    let paired = auction_trades(d, rows, &mut *trades, room);
-    settle_to(&mut *rows, paired.buys, paired.sells);
-    let made = paired.made;
+    let dealt = auction_trades(d, rows, &mut *trades);
+    settle_auction(&mut *rows, dealt.shares);
+    let made = dealt.made;
     Passage {
         day: tally_trades(d, trades, made),
         made,
@@ -193,9 +173,16 @@ pub fn move_sound(d: Day, time: u64, rows: &mut [[u64; 5]], trades: &mut [[u64; 
     requires { ⌜ unsound d (bookOf (now rows)) ≡ false ⌝ }
     ensures { λ r. ⌜ left r (now (rows .exit)) (now (trades .exit)) ≡ clockCall d time (bookOf (now (rows .entry))) (tradesOf (now (trades .entry))) ⌝ }
 {
-    let refusal = clock_refusal(d, time, rows, &mut *trades);
-    if refusal != 0 {
-        return refused(d, refusal);
+    // 1: no time, or before the day's time
+    if 86_399 < time {
+        return refused(d, 1);
+    }
+    if time < d.time {
+        return refused(d, 1);
+    }
+    // 13: the trades outnumber the lent list
+    if lacks_places(d, time, rows, trades.len()) {
+        return refused(d, 13);
     }
     let passage = pass_boundaries(d, time, &mut *rows, &mut *trades);
     let made = passage.made;

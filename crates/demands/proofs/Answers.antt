@@ -29,7 +29,7 @@ pub event-sound : (e : Event) (s : Desk) → Sound (s .day) (s .book) → Sound 
 unfolding stepped
 event-sound (Moves t lent) s k = clock-kept (s .day) (s .book) k t lent
 event-sound (Enters a lent) s k = order-kept (s .day) a (s .book) lent k
-event-sound (Cancels account number) s k = cancel-kept account number (s .book) (s .day) k
+event-sound (Cancels account number) s k = cancel-kept (s .day) account number (s .book) k
 
 -- ---- 15 is the first rule of each, and no other has its number
 

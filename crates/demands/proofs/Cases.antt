@@ -1,8 +1,8 @@
 -- Each event by whether it is refused: what holds of both outcomes holds of the call. Assumes nothing.
 use Prim.Native.Nat.{ℕ}
 use mathlib.Core.Path.{_≡_, refl}
-use mathlib.Core.Bool.{Bool, true, false, cond}
-use mathlib.Core.List.{List, map}
+use mathlib.Core.Bool.{Bool, true, false, cond, not}
+use mathlib.Core.List.{List}
 use lib.ListN.{length}
 use lib.Dec.{eqb}
 use borrow.Author.Tests.{eqb-true, eqb-false}
@@ -15,10 +15,9 @@ use Rattle.model.specs.declared.CancelReply as CancelReply
 use Rattle.model.specs.declared.ClockReply as ClockReply
 use Rattle.model.specs.declared.OrderAnswer.{OrderAnswer}
 use Rattle.model.specs.declared.ClockAnswer.{ClockAnswer}
-use Rattle.model.specs.Choice.{if_then_else_}
 use Rattle.model.specs.Lists.{keep, total}
 use Rattle.model.specs.Clock.{phaseAt}
-use Rattle.model.specs.Book.{free}
+use Rattle.model.specs.Book.{arranged}
 use Rattle.model.specs.Figures.{at}
 use Rattle.model.specs.Refusals.{firstOf}
 use Rattle.model.specs.Calls.{Outcome, written, CancelOutcome, isOwn, orderRules, entered, orderCall, cancelRules, cancelCall}
@@ -54,7 +53,7 @@ module _ (d : Day) (account number : ℕ) (book : List Order) where
       → P
       (record {
         reply = CancelReply.the-variants.Withdrawn (total (λ o. o .left) (keep (isOwn account number) book));
-        book = map (λ o. if isOwn account number o then free else o) book;
+        book = arranged (length book) (keep (λ o. not (isOwn account number o)) book);
       }))
       → ((cancel-rule ≡ 0 → ⊥) → P (record { reply = CancelReply.the-variants.Refused cancel-rule; book = book }))
       → P (cancelCall d account number book)

@@ -9,6 +9,8 @@ use Rattle.demands.specs.Entering.{Entering}
 use Rattle.demands.specs.Totalling.{Totalling}
 use Rattle.demands.specs.Owning.{OwnOnly}
 use Rattle.demands.specs.Leaving.{Leaving}
+use Rattle.demands.specs.Ordering.{Ordering}
+use Rattle.demands.specs.Older.{SameHistories}
 use Rattle.demands.proofs.Pricings.{sound-stands, listing, called, one, trades-there}
 use Rattle.demands.proofs.Fresh.{open-fresh}
 use Rattle.demands.proofs.Cancelled.{cancel-kept}
@@ -19,6 +21,8 @@ use Rattle.demands.proofs.Totals.{order-totals, clock-totals}
 use Rattle.demands.proofs.Owns.{cancel-own}
 use Rattle.demands.proofs.Staying.{order-stays, clock-stays}
 use Rattle.demands.proofs.Leavings.{order-leaves, incoming-leaves, clock-leaves, clock-stands}
+use Rattle.demands.proofs.Histories as histories
+use Rattle.demands.proofs.Orderings as orderings
 
 -- ---- demand 2
 
@@ -27,7 +31,7 @@ keeping =
     record {
       fresh = open-fresh;
       order-kept = order-kept;
-      cancel-kept = λ d account number book s. cancel-kept account number book d s;
+      cancel-kept = cancel-kept;
       clock-kept = λ d t book lent s. clock-kept d book s t lent;
     }
 
@@ -41,8 +45,8 @@ pub own-only : OwnOnly
 own-only =
     record {
       cancel = λ d account number shares book s. cancel-own d account number book s shares;
-      order = λ d a book lent s. order-stays book (sound-stands d book s) d a lent;
-      clock = λ d t book lent s. clock-stays book (sound-stands d book s) d t lent;
+      order = λ d a book lent s. order-stays d a book s lent;
+      clock = λ d t book lent s. clock-stays d t book (sound-stands d book s) lent;
     }
 
 pub leaving : Leaving
@@ -53,6 +57,13 @@ leaving =
       clock = λ d t book lent s. clock-leaves d t book (sound-stands d book s) lent;
       clock-stands = λ d t book lent s. clock-stands d t book (sound-stands d book s) lent;
     }
+
+pub ordering : Ordering
+ordering = orderings.ordering keeping
+
+-- every history goes as it went when orders did not move
+pub same-histories : SameHistories
+same-histories = histories.same-histories keeping
 
 -- ---- demand 3
 

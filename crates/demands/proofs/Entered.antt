@@ -1,12 +1,11 @@
 -- An order keeps a sound day sound: what no rule refuses, and then the day and the book after it. Assumes nothing.
-use Prim.Native.Nat.{ℕ, suc, _+_, _-_, _*_, _≤_, _<_}
+use Prim.Native.Nat.{ℕ, suc, _+_, _-_, _*_, _≤_}
 use mathlib.Core.Path.{_≡_, refl, ap, _∙_}
 use mathlib.Core.Logic.{inr, ⊎-elim}
 use mathlib.Core.Bool.{Bool, true, false, cond, not, _&&_, _||_}
-use mathlib.Core.List.{List}
+use mathlib.Core.List.{List, _∷_}
 use native.Mathlib.Omega.{arith}
-use native.Mathlib.Nat.{lt-of-not-le}
-use lib.ListN.{length, length-set}
+use lib.ListN.{length}
 use lib.Dec.{leb, eqb}
 use borrow.Author.Tests.{leb-true, eqb-false, eq-eqb, not-false}
 use Rattle.model.specs.declared.Order.{Order}
@@ -16,26 +15,23 @@ use Rattle.model.specs.declared.Day.{Day}
 use Rattle.model.specs.Lists.{all, total}
 use Rattle.model.specs.Clock.{takesOrders}
 use Rattle.model.specs.Limits.{isPrice, inBand}
-use Rattle.model.specs.Book.{isLive}
-use Rattle.model.specs.Matching.{filled, settle, rest}
+use Rattle.model.specs.Book.{isLive, queue, arranged}
+use Rattle.model.specs.Matching.{filled, settle}
 use Rattle.model.specs.Figures.{nextNumber, issue, tally}
 use Rattle.model.specs.Entry.{entryTrades, restPrice}
-use Rattle.model.specs.Sound.{hasPlaces}
 use Rattle.model.specs.Refusals.{_when_, firstOf}
-use Rattle.model.specs.Calls.{orderRules, placed, entered, orderCall}
+use Rattle.model.specs.Calls.{orderRules, joined, entered, orderCall}
 use Rattle.model.proofs.Bools.{and-left, and-right, and-true, not-both}
 use Rattle.book.specs.Standing.{Price, Each, Standing}
-use Rattle.book.specs.Places.{lowestFree}
 use Rattle.book.proofs.Lists.{each}
-use Rattle.book.proofs.Kept.{New, free-number, set-each}
-use Rattle.book.proofs.Finding.{full, rest-set}
+use Rattle.book.proofs.Kept.{New, free-number}
 use Rattle.soundness.specs.SoundDay.{InBand, Rests, Place, SoundDay}
 use Rattle.soundness.proofs.Clauses.{says-price, says-band}
 use Rattle.soundness.specs.Sized.{Sized}
 use Rattle.soundness.proofs.Sizes.{says-quantity, sized-most}
-use Rattle.soundness.proofs.SoundDays.{sound-day, day-sound, next-new}
-use Rattle.matching.proofs.EntryLaws.{entry-filled, remainder}
-use Rattle.matching.proofs.EntryKept.{entered-standing, entered-shares}
+use Rattle.soundness.proofs.SoundDays.{sound-day, next-new}
+use Rattle.matching.proofs.EntryLaws.{entry-filled, remainder, ordersThen}
+use Rattle.matching.proofs.EntryKept.{entered-standing, entered-fits, entered-shares}
 use Rattle.matching.proofs.AfterEntry.{entered-uncrossed}
 use Rattle.demands.specs.Refusing.{NoneOf}
 use Rattle.demands.specs.Pricing.{Sound}
@@ -43,10 +39,11 @@ use Rattle.demands.proofs.FirstRules.{gives-none}
 use Rattle.demands.proofs.Refusals.{order-numbers}
 use Rattle.demands.proofs.Cases.{order-cases}
 use Rattle.demands.proofs.Pricings.{sound-stands}
-use Rattle.demands.proofs.Wholes.{Traded, Whole, Timely, timely-of, sound-of}
+use Rattle.demands.proofs.Wholes.{Traded, Whole, Timely, timely-of}
 use Rattle.demands.proofs.Hours.{none-early, none-late, then-continuous}
 use Rattle.demands.proofs.Tallied.{traded-tally}
-use Rattle.demands.proofs.Settled.{Later, settle-places, settle-length}
+use Rattle.demands.proofs.Settled.{Later, settle-places}
+use Rattle.demands.proofs.Arranged.{arranged-sound}
 use Rattle.demands.proofs.EntryPrices.{trades-have, rest-has, entry-proper}
 
 -- ---- an order that no rule refuses
@@ -60,7 +57,7 @@ pub record Allowed (d : Day) (a : Asked) (book : List Order) : Type 0 where
   pub most : a .quantity ≤ 1_000_000
   pub price : Price (a .price)
   pub band : d .limited ≡ 1 → InBand (d .close) (a .price)
-  pub place : lowestFree book < length book
+  pub place : all isLive book ≡ false
   pub number : d .issued ≡ 999_999 → ⊥
 
 module _ (d : Day) (a : Asked) (book : List Order) (lent : List Trade) where
@@ -73,9 +70,6 @@ module _ (d : Day) (a : Asked) (book : List Order) (lent : List Trade) where
 
   in-band : (eqb (d .limited) 1 && not (inBand (d .close) (a .price))) ≡ false → d .limited ≡ 1 → InBand (d .close) (a .price)
   in-band e l = says-band (d .close) (a .price) .0 (not-false (inBand (d .close) (a .price)) (and-true (eq-eqb (d .limited) 1 l) e))
-
-  has-place : all isLive book ≡ false → lowestFree book < length book
-  has-place e = lt-of-not-le (λ h. not-both (full book h) e)
 
   pub allowed : firstOf (orderRules d a book (length lent)) ≡ 0 → Allowed d a book
   unfolding orderRules _when_
@@ -93,7 +87,7 @@ module _ (d : Day) (a : Asked) (book : List Order) (lent : List Trade) where
         most = sized-most (a .side) (a .quantity) (a .balance) size;
         price = says-price (a .price) .0 (not-false (isPrice (a .price)) (n .1 .1 .1 .1 .1 .1 .0));
         band = in-band (n .1 .1 .1 .1 .1 .1 .1 .0);
-        place = has-place (n .1 .1 .1 .1 .1 .1 .1 .1 .1 .0);
+        place = n .1 .1 .1 .1 .1 .1 .1 .1 .1 .0;
         number = eqb-false (d .issued) 999_999 (n .1 .1 .1 .1 .1 .1 .1 .1 .1 .1 .0);
       }
 
@@ -112,8 +106,9 @@ module _ (d : Day) (a : Asked) (book : List Order) (s : Sound d book) (k : Allow
   abbrev at : ℕ
   at = restPrice a ts book
 
-  abbrev book′ : List Order
-  book′ = placed a (nextNumber d) left at (settle ts book)
+  -- the orders then, which are arranged in the book
+  abbrev orders : List Order
+  orders = ordersThen d a book (nextNumber d)
 
   day : SoundDay d book
   day = sound-day d book (s .1)
@@ -157,8 +152,8 @@ module _ (d : Day) (a : Asked) (book : List Order) (s : Sound d book) (k : Allow
         issued = omega arith;
       })
 
-  entered-places : Each (Place next) book′
-  unfolding placed
+  entered-places : Each (Place next) orders
+  unfolding joined
   entered-places = go (eqb left 0) refl (eqb at 0) refl
     where
       settled : Each (Place next) (settle ts book)
@@ -169,28 +164,36 @@ module _ (d : Day) (a : Asked) (book : List Order) (s : Sound d book) (k : Allow
           → eqb left 0 ≡ b
           → (c : Bool)
           → eqb at 0 ≡ c
-          → Each (Place next) (cond (b || c) (settle ts book) (rest (remainder d a book (nextNumber d)) (settle ts book)))
+          → Each (Place next) (cond (b || c) (settle ts book) (remainder d a book (nextNumber d) ∷ settle ts book))
       go true x c y = settled
       go false x true y = settled
-      go false x false y =
-          rw (rest-set (remainder d a book (nextNumber d)) (settle ts book))
-          (set-each (Place next) (settle ts book) (lowestFree (settle ts book)) (remainder d a book (nextNumber d))
-          (rest-place (eqb-false left 0 x) (eqb-false at 0 y)) settled)
+      go false x false y = (rest-place (eqb-false left 0 x) (eqb-false at 0 y), settled)
 
-  entered-apart : Standing book′
+  pub orders-stand : Standing orders
   unfolding nextNumber
-  entered-apart =
-      entered-standing d a book stands (k .price .high) (nextNumber d) (k .side) (k .most) issued-fits new
+  orders-stand = entered-standing d a book stands (k .price .high) (nextNumber d) (k .side) (k .most) issued-fits new
 
-  entered-fits : 2 * next .shares + total (λ (o : Order). o .left) book′ ≤ 1_000_000 * next .issued
+  -- no number is higher than the new one
+  pub orders-highest : Each (λ (o : Order). o .number ≤ nextNumber d) orders
   unfolding tally issue nextNumber
-  entered-fits =
-      go (eqb at 0) (entered-shares d a book stands (k .price .high) new (k .place))
+  orders-highest =
+      each (Place next) (λ (o : Order). o .number ≤ suc (d .issued)) orders
+      (λ o p. ⊎-elim (λ e. omega (arith, ap (λ (x : Order). x .number) e, free-number)) (λ r. r .issued) p)
+      entered-places
+
+  -- each has a place
+  pub orders-fit : length (queue 0 orders) + length (queue 1 orders) ≤ length book
+  unfolding nextNumber
+  orders-fit = entered-fits d a book stands (k .price .high) (nextNumber d) (k .side) (k .most) issued-fits new (k .place)
+
+  shares-fit : 2 * next .shares + total (λ (o : Order). o .left) orders ≤ 1_000_000 * next .issued
+  unfolding tally issue nextNumber
+  shares-fit = go (eqb at 0) (entered-shares d a book stands (k .price .high) new)
     where
       go :
           (b : Bool)
-          → total (λ (o : Order). o .left) book′ + filled ts ≡ total (λ (o : Order). o .left) book + cond b 0 left
-          → 2 * (d .shares + filled ts) + total (λ (o : Order). o .left) book′ ≤ 1_000_000 * suc (d .issued)
+          → total (λ (o : Order). o .left) orders + filled ts ≡ total (λ (o : Order). o .left) book + cond b 0 left
+          → 2 * (d .shares + filled ts) + total (λ (o : Order). o .left) orders ≤ 1_000_000 * suc (d .issued)
       go true e = omega (arith, entry-filled d a book, k .most, day .shares)
       go false e = omega (arith, entry-filled d a book, k .most, day .shares)
 
@@ -204,7 +207,7 @@ module _ (d : Day) (a : Asked) (book : List Order) (s : Sound d book) (k : Allow
       (record { untraded = day .untraded; traded = day .traded; least = day .least; most = day .most })
       (entry-proper d a book (stands .fair) entered-prices)
 
-  entered-whole : Whole next book′
+  entered-whole : Whole next orders
   unfolding tally issue nextNumber
   entered-whole =
       record {
@@ -212,12 +215,12 @@ module _ (d : Day) (a : Asked) (book : List Order) (s : Sound d book) (k : Allow
         limited = day .limited;
         issued = issued-fits;
         places = entered-places;
-        apart = entered-apart .apart;
-        shares = entered-fits;
+        apart = orders-stand .apart;
+        shares = shares-fit;
         figures = entered-figures;
       }
 
-  entered-timely : Timely (next .time) book′
+  entered-timely : Timely (next .time) orders
   unfolding tally issue
   entered-timely =
       record {
@@ -229,24 +232,8 @@ module _ (d : Day) (a : Asked) (book : List Order) (s : Sound d book) (k : Allow
             (timely-of d book day .uncrossed x y);
       }
 
-  entered-many : hasPlaces book′ ≡ true
-  unfolding hasPlaces placed
-  entered-many = go (eqb left 0 || eqb at 0)
-    where
-      same : length (settle ts book) ≡ length book
-      same = settle-length ts book
-
-      go :
-          (b : Bool)
-          → leb 1 (length (cond b (settle ts book) (rest (remainder d a book (nextNumber d)) (settle ts book))))
-          && leb (length (cond b (settle ts book) (rest (remainder d a book (nextNumber d)) (settle ts book)))) 4_096
-          ≡ true
-      go true = rw same (s .0)
-      go false =
-          rw (rest-set (remainder d a book (nextNumber d)) (settle ts book), length-set, same) (s .0)
-
-  pub entered-sound : Sound next book′
-  entered-sound = (entered-many, day-sound next book′ (sound-of next book′ entered-whole entered-timely))
+  pub entered-sound : Sound next (arranged (length book) orders)
+  entered-sound = arranged-sound next book orders (s .0) entered-whole entered-timely orders-fit
 
 pub order-kept :
     (d : Day) (a : Asked) (book : List Order) (lent : List Trade)

@@ -1,6 +1,6 @@
 -- One accepted order: what matching's laws say of its trades, in the words of the demand. Assumes nothing.
 use Prim.Native.Nat.{ℕ, _+_, _-_}
-use mathlib.Core.Path.{_≡_, refl}
+use mathlib.Core.Path.{_≡_, refl, ap}
 use mathlib.Core.Bool.{Bool, true, false, cond, _&&_}
 use mathlib.Core.List.{List, [], _∷_, map}
 use native.Mathlib.Omega.{arith}
@@ -17,12 +17,12 @@ use Rattle.model.specs.declared.Remainder.the-variants.{Nothing, Rests, Withdra
 use Rattle.model.specs.declared.OrderReply as OrderReply
 use Rattle.model.specs.declared.OrderAnswer.{OrderAnswer}
 use Rattle.model.specs.Choice.{if_then_else_}
-use Rattle.model.specs.Book.{standsOn, other}
+use Rattle.model.specs.Book.{standsOn, other, arranged}
 use Rattle.model.specs.Matching.{meets, tradeWith, sweep, filled, levels, settle}
 use Rattle.model.specs.Figures.{nextNumber}
 use Rattle.model.specs.Entry.{opposite, entryTrades, restPrice}
 use Rattle.model.specs.Replies.{restingOf, withdrawnOf}
-use Rattle.model.specs.Calls.{Outcome, ended, placed, entered, orderCall}
+use Rattle.model.specs.Calls.{Outcome, ended, joined, entered, orderCall}
 use Rattle.book.specs.Standing.{Each}
 use Rattle.book.proofs.Lists.{each}
 use Rattle.matching.proofs.Trades.{Some, Deal}
@@ -95,17 +95,17 @@ module _ (d : Day) (a : Asked) (book : List Order) where
       go true = refl
       go false = rw z
 
-  -- what rests is what is placed
-  pub placed-rests : (n : ℕ) (os : List Order) → placed a n left at os ≡ placed a n (restingOf (ended left at)) at os
-  unfolding placed ended restingOf
-  placed-rests n os = go (eqb left 0) refl (eqb at 0) refl
+  -- what rests is what joins the others
+  pub joined-rests : (n : ℕ) (os : List Order) → joined a n left at os ≡ joined a n (restingOf (ended left at)) at os
+  unfolding joined ended restingOf
+  joined-rests n os = go (eqb left 0) refl (eqb at 0) refl
     where
       go :
           (b : Bool)
           → eqb left 0 ≡ b
           → (c : Bool)
           → eqb at 0 ≡ c
-          → placed a n left at os ≡ placed a n (restingOf (cond b Nothing (cond c (Withdrawn left) (Rests left)))) at os
+          → joined a n left at os ≡ joined a n (restingOf (cond b Nothing (cond c (Withdrawn left) (Rests left)))) at os
       go true e c f = rw (eqb-true left 0 e)
       go false e true f = rw (f, e)
       go false e false f = refl
@@ -155,7 +155,7 @@ module _ (d : Day) (a : Asked) (book : List Order) where
               partners = partners;
               trades = entry-allowed d a book;
               rests = λ n. rest-limit d a book (rests-somewhere n);
-              book-after = placed-rests (nextNumber d) (settle ts book);
+              book-after = ap (arranged (length book)) (joined-rests (nextNumber d) (settle ts book));
             };
         in-priority = in-priority;
       }

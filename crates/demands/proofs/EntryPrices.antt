@@ -20,7 +20,6 @@ use Rattle.book.specs.Standing.{Price, Each, Fair}
 use Rattle.book.proofs.Lists.{each}
 use Rattle.book.proofs.Queues.{on-live}
 use Rattle.book.proofs.Best.{on-each, best-has}
-use Rattle.book.proofs.Soonest.{either-min}
 use Rattle.matching.proofs.Trades.{Deal}
 use Rattle.matching.proofs.EntryLaws.{last-has, of-opposite, taker, entry-cases, each-entry}
 use Rattle.demands.proofs.Tallied.{Proper}
@@ -28,6 +27,13 @@ use Rattle.demands.proofs.Tallied.{Proper}
 -- ---- prices
 
 module _ (P : ℕ → Type 0) where
+  either-min : (p q : ℕ) → P p → P q → P (min p q)
+  either-min p q x y = go (leb p q) refl
+    where
+      go : (b : Bool) → leb p q ≡ b → P (min p q)
+      go true e = let h : p ≤ q = leb-true p q e in let z : min p q ≡ p = omega arith in rw z x
+      go false e = let h : q < p = leb-false p q e in let z : min p q ≡ q = omega arith in rw z y
+
   either-max : (p q : ℕ) → P p → P q → P (max p q)
   either-max p q x y = go (leb p q) refl
     where

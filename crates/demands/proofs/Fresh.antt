@@ -22,10 +22,11 @@ use Rattle.model.proofs.Bools.{and-left, and-right}
 use Rattle.book.specs.Standing.{Apart}
 use Rattle.book.proofs.Lists.{each, total-zero}
 use Rattle.book.proofs.Kept.{free-left, free-number}
+use Rattle.book.proofs.Arranging.{cleared-ranked}
 use Rattle.soundness.specs.SoundDay.{Place, Empty}
 use Rattle.soundness.proofs.Says.{says-le}
 use Rattle.soundness.proofs.Clauses.{says-price}
-use Rattle.soundness.proofs.SoundDays.{day-sound}
+use Rattle.soundness.proofs.SoundDays.{day-sound, few-places}
 use Rattle.demands.specs.Pricing.{Sound}
 use Rattle.demands.proofs.Wholes.{Whole, Timely, sound-of}
 
@@ -100,12 +101,14 @@ module _ (close mark : ℕ) where
         let h = and-left (isPrice close && isMark mark) (hasPlaces book) e in
         let p = and-left (isPrice close) (isMark mark) h in
         let m : mark ≤ 1 = says-le mark 1 .0 (and-right (isPrice close) (isMark mark) h) in
+        let many = and-right (isPrice close && isMark mark) (hasPlaces book) e in
         let n = cleared-empty book in (
-          places-cleared book (and-right (isPrice close && isMark mark) (hasPlaces book) e),
+          places-cleared book many,
           day-sound (freshDay close mark) (cleared book)
               (sound-of (freshDay close mark) (cleared book)
               (whole-cleared (freshDay close mark) [] (cleared book) (fresh-whole p m) n)
-              (fresh-timely (cleared book) n)),
+              (fresh-timely (cleared book) n))
+              (cleared-ranked book (few-places book many) .ordered),
         )
 
     abbrev opened : Bool → OpenOutcome

@@ -1,13 +1,13 @@
 -- What is left after each fill, for every event: from the laws of a sweep and of an auction to the book afterwards. Assumes
 -- nothing.
-use Prim.Native.Nat.{ℕ, _-_, _≤_, _<_}
+use Prim.Native.Nat.{ℕ, _+_, _-_, _≤_, _<_}
 use mathlib.Core.Path.{_≡_, refl, sym, ap, _∙_}
-use mathlib.Core.Logic.{⊎-elim}
+use mathlib.Core.Logic.{inl, inr, ⊎-elim}
 use mathlib.Core.Bool.{Bool, true, false, cond, _||_}
 use mathlib.Core.List.{List, [], _∷_, append-nil}
 use native.Mathlib.Omega.{arith}
 use lib.ListN.{length, getD, take, drop}
-use lib.Seq.{take-at, getD-set-same}
+use lib.Seq.{take-at}
 use lib.Dec.{eqb}
 use borrow.Author.Tests.{ne-eqb}
 use Rattle.model.specs.declared.Order.{Order}
@@ -18,32 +18,34 @@ use Rattle.model.specs.declared.Entry.{Entry}
 use Rattle.model.specs.declared.OrderReply as OrderReply
 use Rattle.model.specs.Choice.{if_then_else_}
 use Rattle.model.specs.Clock.{passes}
-use Rattle.model.specs.Book.{free, isLive}
-use Rattle.model.specs.Matching.{filled, isIn, filledOf, lessBy, settle, rest}
+use Rattle.model.specs.Book.{free, queue, arranged}
+use Rattle.model.specs.Matching.{filled, isIn, filledOf, lessBy, settle}
 use Rattle.model.specs.Figures.{tally, nextNumber}
 use Rattle.model.specs.Entry.{entryTrades, restPrice}
-use Rattle.model.specs.Calls.{written, placed, entered, orderCall}
+use Rattle.model.specs.Replies.{restingOf}
+use Rattle.model.specs.Calls.{written, ended, joined, entered, orderCall}
 use Rattle.model.specs.ClockCall.{auctionTrades, hold, start, moved, clockCall}
 use Rattle.book.specs.Standing.{Each, Fair, Standing}
-use Rattle.book.specs.Places.{lowestFree}
 use Rattle.book.proofs.Lists.{both as each-both, each, every, each-at}
-use Rattle.book.proofs.Queues.{number-live}
-use Rattle.book.proofs.Finding.{rest-set}
-use Rattle.book.proofs.Kept.{New, new-fresh, free-number, set-each, less-by, standing-settle, fresh-settle}
-use Rattle.book.proofs.Shares.{room-after}
+use Rattle.book.proofs.Kept.{New, new-fresh, free-number, less-by, standing-settle, fresh-settle}
 use Rattle.book.proofs.Settlements.{filled-none, part, filled-cons, less-some}
 use Rattle.soundness.proofs.SoundDays.{sound-day, next-new}
-use Rattle.pairing.proofs.Auctions.{auction-uncrosses, uncrossed-none}
+use Rattle.matching.proofs.Trades.{Some}
+use Rattle.matching.proofs.EntryLaws.{remainder, ordersThen}
+use Rattle.pairing.proofs.Auctions.{uncrossed-none, settled-fit, afterwards, afterwards-stands, afterwards-uncrossed}
 use Rattle.pairing.proofs.Moves.{both, moved-by}
 use Rattle.demands.specs.Pricing.{Sound}
 use Rattle.demands.specs.Leaving.{leftIn, Falls, lastLeft, Stands, EachFalls, EachStands, Incoming}
-use Rattle.demands.proofs.Elements.{each-map}
+use Rattle.demands.proofs.Elements.{each-map, some-at}
+use Rattle.demands.proofs.Places.{stands-once, behind-equals}
+use Rattle.book.proofs.Arranging.{each-arranged}
+use Rattle.demands.proofs.Arranged.{stands-there}
 use Rattle.demands.proofs.Cases.{order-cases, clock-cases}
-use Rattle.demands.proofs.Settled.{settle-length}
-use Rattle.demands.proofs.Pricings.{sound-stands}
+use Rattle.demands.proofs.Pricings.{sound-stands, sound-ranked}
+use Rattle.demands.proofs.Entered.{Allowed, allowed, orders-stand, orders-fit, orders-highest, entered-sound}
 use Rattle.demands.proofs.Moved.{not-reached}
-use Rattle.demands.proofs.Staying.{settle-at, rest-elsewhere}
-use Rattle.demands.proofs.Entries.{all-ends, rests-somewhere, placed-rests, accepted-cases}
+use Rattle.demands.proofs.Staying.{settle-has}
+use Rattle.demands.proofs.Entries.{all-ends, rests-somewhere, joined-rests, entry, accepted-cases}
 use Rattle.demands.proofs.Once.{Once, book-once}
 use Rattle.demands.proofs.SweptLeft.{entry-own-falls, entry-own-filled, entry-falls}
 use Rattle.demands.proofs.PairedLeft.{auction-falls}
@@ -102,13 +104,28 @@ gone n had ts book live e h =
         omega (arith, f e, k .0 .some, k .1))
         (less-by (filledOf (o .number) ts) o)
 
+-- q shares are left of an order, and it is one of these; or nothing is left, and none bears its number
+record Among (q : ℕ) (o : Order) (os : List Order) : Type 0 where
+  some :
+      (q ≡ 0 → ⊥)
+      → Some (λ (p : Order). p ≡ record { side = o .side; account = o .account; left = q; price = o .price; number = o .number }) os
+  none : q ≡ 0 → Each (λ (p : Order). p .number ≡ o .number → ⊥) os
+
+abbrev EachAmong : List Trade → List Order → List Order → Type 0
+EachAmong ts book os =
+    (i : ℕ)
+    → i < length book
+    → (getD book i free .number ≡ 0 → ⊥)
+    → Among (lastLeft (getD book i free .number) (getD book i free .left) ts) (getD book i free) os
+
 module _ (ts : List Trade) (book : List Order) (s : Standing book) (falls : EachFalls ts book) where
-  settled-stands : EachStands ts book (settle ts book)
+  settled-stands : EachAmong ts book (settle ts book)
   settled-stands i l live =
       let o = getD book i free in
       let h = falls-last (o .number) (o .left) ts (each-at (λ (o : Order). (o .number ≡ 0 → ⊥) → Falls (o .number) (o .left) ts) book free falls i l live) in
       record {
-        some = λ n. settle-at ts book i l ∙ sym (less-some (filledOf (o .number) ts) (lastLeft (o .number) (o .left) ts) o (h .1) n);
+        some = λ n.
+            settle-has ts book i _ l (sym (less-some (filledOf (o .number) ts) (lastLeft (o .number) (o .left) ts) o (h .1) n));
         none =
             λ z.
             gone (o .number) (o .left) ts book live
@@ -116,33 +133,39 @@ module _ (ts : List Trade) (book : List Order) (s : Standing book) (falls : Each
             (omega (arith, h .0, h .1, z));
       }
 
--- ---- and with a new order that rests
+-- ---- with a new order, and arranged in the book
 
-rested :
-    (i q : ℕ) (o x : Order) (os : List Order)
-    → i < length os
-    → (o .number ≡ 0 → ⊥)
-    → (x .number ≡ o .number → ⊥)
-    → Stands i q o os
-    → Stands i q o (rest x os)
-rested i q o x os l live apart k =
-    record {
-      some =
-          λ n.
-          let h = k .some n in
-          rest-elsewhere x os i l (ap isLive h ∙ number-live (record { side = o .side; account = o .account; left = q; price = o .price; number = o .number }) live) ∙ h;
-      none = λ z. rw (rest-set x os) (set-each (λ (p : Order). p .number ≡ o .number → ⊥) os (lowestFree os) x apart (k .none z));
-    }
+joined-among : (q : ℕ) (o x : Order) (os : List Order) → (x .number ≡ o .number → ⊥) → Among q o os → Among q o (x ∷ os)
+joined-among q o x os apart k = record { some = λ n. inr (k .some n); none = λ z. (apart, k .none z) }
+
+module _ (n : ℕ) (os : List Order) (s : Standing os) (fit : length (queue 0 os) + length (queue 1 os) ≤ n) where
+  arranged-stands : (q : ℕ) (o : Order) → (o .number ≡ 0 → ⊥) → Among q o os → Stands q o (arranged n os)
+  arranged-stands q o live k =
+      record {
+        some = λ z.
+            stands-there n os s fit
+            (record { side = o .side; account = o .account; left = q; price = o .price; number = o .number })
+            live
+            (k .some z);
+        none = λ z. each-arranged (λ (p : Order). p .number ≡ o .number → ⊥) n os (λ e. live (sym e ∙ free-number)) (k .none z);
+      }
+
+  all-stand : (ts : List Trade) (book : List Order) → EachAmong ts book os → EachStands ts book (arranged n os)
+  all-stand ts book k i l live =
+      arranged-stands (lastLeft (getD book i free .number) (getD book i free .left) ts) (getD book i free) live (k i l live)
 
 -- ---- no trades
 
 no-falls : (book : List Order) → EachFalls [] book
 no-falls book = every (λ (o : Order). (o .number ≡ 0 → ⊥) → Falls (o .number) (o .left) []) book (λ o _. tt)
 
-no-trade-stands : (book : List Order) → Each Fair book → EachStands [] book book
+no-trade-stands : (book : List Order) → Standing book → EachStands [] book book
 unfolding lastLeft
-no-trade-stands book f i l live =
-    record { some = λ _. refl; none = λ z. absurd (omega (arith, z, each-at Fair book free f i l .some live)) }
+no-trade-stands book s i l live =
+    record {
+      some = λ _. stands-once book (s .apart) (getD book i free) live (some-at book free i l);
+      none = λ z. absurd (omega (arith, z, each-at Fair book free (s .fair) i l .some live));
+    }
 
 -- ---- an order
 
@@ -160,26 +183,23 @@ module _ (d : Day) (a : Asked) (book : List Order) (s : Sound d book) where
   resting-fall =
       each-both (λ (o : Order). (o .number ≡ 0 → ⊥) → Once (o .number) (o .left) book) (λ (o : Order). o .number ≡ nextNumber d → ⊥)
       (λ (o : Order). (o .number ≡ 0 → ⊥) → Falls (o .number) (o .left) ts) book
-      (λ o k n live. entry-falls d a book stands new (o .number) (o .left) n (k live))
+      (λ o k n live. entry-falls d a book (o .number) (o .left) n (k live))
       (book-once book (stands .apart)) (new .fresh)
 
-  placed-stands : (q p : ℕ) → EachStands ts book (placed a (nextNumber d) q p (settle ts book))
-  unfolding placed
-  placed-stands q p i l live = go (eqb q 0 || eqb p 0)
+  orders-left : EachAmong ts book (ordersThen d a book (nextNumber d))
+  unfolding joined
+  orders-left i l live = go (eqb (a .quantity - filled ts) 0 || eqb (restPrice a ts book) 0)
     where
       o : Order
       o = getD book i free
 
-      x : Order
-      x = record { side = a .side; account = a .account; left = q; price = p; number = nextNumber d }
-
-      still : Stands i (lastLeft (o .number) (o .left) ts) o (settle ts book)
+      still : Among (lastLeft (o .number) (o .left) ts) o (settle ts book)
       still = settled-stands ts book stands resting-fall i l live
 
-      go : (b : Bool) → Stands i (lastLeft (o .number) (o .left) ts) o (cond b (settle ts book) (rest x (settle ts book)))
+      go : (b : Bool) → Among (lastLeft (o .number) (o .left) ts) o (cond b (settle ts book) (remainder d a book (nextNumber d) ∷ settle ts book))
       go true = still
       go false =
-          rested i (lastLeft (o .number) (o .left) ts) o x (settle ts book) (omega (arith, l, settle-length ts book)) live
+          joined-among (lastLeft (o .number) (o .left) ts) o (remainder d a book (nextNumber d)) (settle ts book)
           (λ e. each-at (λ (y : Order). y .number ≡ nextNumber d → ⊥) book free (new .fresh) i l (sym e)) still
 
   pub order-leaves :
@@ -190,31 +210,71 @@ module _ (d : Day) (a : Asked) (book : List Order) (s : Sound d book) where
   order-leaves lent =
       order-cases d a book lent
       (λ o. EachFalls (take (o .answer .made) (o .trades)) book × EachStands (take (o .answer .made) (o .trades)) book (o .book))
-      (λ _. rw (take-at ts (drop (length ts) lent) (length ts) refl) (resting-fall, placed-stands (a .quantity - filled ts) (restPrice a ts book)))
-      (λ _. (no-falls book, no-trade-stands book (stands .fair)))
+      (λ z.
+      let k = allowed d a book lent z in
+      rw (take-at ts (drop (length ts) lent) (length ts) refl) (
+        resting-fall,
+        all-stand (length book) (ordersThen d a book (nextNumber d)) (orders-stand d a book s k) (orders-fit d a book s k) ts book orders-left,
+      ))
+      (λ _. (no-falls book, no-trade-stands book stands))
 
-  -- what rests of it goes to the lowest free place, and its number is nowhere else
-  own-stands :
+  -- what rests of it is one of the orders, and where nothing rests its number is nowhere
+  own-among :
       (q p : ℕ)
-      → lowestFree book < length book
       → ((q ≡ 0 → ⊥) → p ≡ 0 → ⊥)
-      → Stands (lowestFree (settle ts book)) q
-      (record { side = a .side; account = a .account; left = a .quantity; price = p; number = nextNumber d })
-      (placed a (nextNumber d) q p (settle ts book))
-  unfolding placed
-  own-stands q p room priced =
-      let x : Order = record { side = a .side; account = a .account; left = q; price = p; number = nextNumber d } in
+      → Among q (record { side = a .side; account = a .account; left = a .quantity; price = p; number = nextNumber d })
+      (joined a (nextNumber d) q p (settle ts book))
+  unfolding joined
+  own-among q p priced =
       record {
-        some =
-            λ n.
-            rw (ne-eqb q 0 n, ne-eqb p 0 (priced n), rest-set x (settle ts book))
-            (getD-set-same (settle ts book) (lowestFree (settle ts book)) x free (room-after ts book room));
+        some = λ n. rw (ne-eqb q 0 n, ne-eqb p 0 (priced n)) (inl refl);
         none =
             λ z.
             rw z
             (each (λ (o : Order). o .number ≡ nextNumber d → nextNumber d ≡ 0) (λ (o : Order). o .number ≡ nextNumber d → ⊥) (settle ts book)
             (λ o f e. new .real (f e)) (fresh-settle ts (nextNumber d) book (new-fresh (nextNumber d) book new)));
       }
+
+  module _ (k : Allowed d a book) where
+    abbrev after : List Order
+    after = arranged (length book) (ordersThen d a book (nextNumber d))
+
+    abbrev resting : ℕ
+    resting = restingOf (ended (a .quantity - filled ts) (restPrice a ts book))
+
+    own-stands :
+        Stands resting
+        (record { side = a .side; account = a .account; left = a .quantity; price = restPrice a ts book; number = nextNumber d })
+        after
+    own-stands =
+        arranged-stands (length book) (ordersThen d a book (nextNumber d)) (orders-stand d a book s k) (orders-fit d a book s k) resting _
+        (new .real)
+        (rw (joined-rests d a book (nextNumber d) (settle ts book)) (own-among resting (restPrice a ts book) (rests-somewhere d a book)))
+
+    -- no number is higher than its own
+    highest : (i : ℕ) → i < length after → getD after i free .number ≤ nextNumber d
+    highest i l =
+        each-at (λ (o : Order). o .number ≤ nextNumber d) after free
+        (each-arranged (λ (o : Order). o .number ≤ nextNumber d) (length book) (ordersThen d a book (nextNumber d)) (omega (arith, free-number))
+        (orders-highest d a book s k)) i l
+
+    own-left : Incoming a (entry d a book) ts book after
+    own-left =
+        let f = entry-own-falls d a book new in
+        let h = falls-last (nextNumber d) (a .quantity) ts f in
+        record {
+          falls = f;
+          last = omega (arith, h .0, h .1, all-ends d a book, entry-own-filled d a book);
+          stands = own-stands;
+          behind = λ n i l live e p.
+              let x = own-stands .some n in
+              let there : getD after (x .place) free .number ≡ nextNumber d = ap (λ (o : Order). o .number) (x .there) in
+              behind-equals after (sound-ranked _ after (entered-sound d a book s k)) i (x .place) l (x .inside) live
+              (λ z. new .real (sym there ∙ z))
+              (e ∙ sym (ap (λ (o : Order). o .side) (x .there)))
+              (p ∙ sym (ap (λ (o : Order). o .price) (x .there)))
+              (omega (arith, there, highest i l));
+        }
 
   pub incoming-leaves :
       (lent : List Trade) (e : Entry)
@@ -223,15 +283,7 @@ module _ (d : Day) (a : Asked) (book : List Order) (s : Sound d book) where
   unfolding entered written
   incoming-leaves lent e =
       accepted-cases d a book lent e (λ x o. Incoming a x (take (o .answer .made) (o .trades)) book (o .book))
-      (λ k.
-      let f = entry-own-falls d a book stands new in
-      let h = falls-last (nextNumber d) (a .quantity) ts f in
-      rw (take-at ts (drop (length ts) lent) (length ts) refl)
-      (record {
-        falls = f;
-        last = omega (arith, h .0, h .1, all-ends d a book, entry-own-filled d a book);
-        stands = rw (placed-rests d a book (nextNumber d) (settle ts book)) (own-stands _ (restPrice a ts book) (k .place) (rests-somewhere d a book));
-      }))
+      (λ k. rw (take-at ts (drop (length ts) lent) (length ts) refl) (own-left k))
 
 -- ---- a move of the clock
 
@@ -246,7 +298,7 @@ module _ (d : Day) (t : ℕ) (book : List Order) (s : Standing book) where
   moved-falls true false = auction-falls book s d
   moved-falls false true = auction-falls book s d
   moved-falls true true =
-      rw (uncrossed-none (settle auctioned book) (standing-settle auctioned book s) (tally auctioned d) (auction-uncrosses book s d), append-nil auctioned)
+      rw (uncrossed-none (afterwards book s d) (afterwards-stands book s d) (tally auctioned d) (afterwards-uncrossed book s d), append-nil auctioned)
       (auction-falls book s d)
 
   pub clock-leaves :
@@ -263,8 +315,10 @@ module _ (d : Day) (t : ℕ) (book : List Order) (s : Standing book) where
 
   moved-stands : (p : Bool) → EachStands (both d t book p false .trades) book (both d t book p false .book)
   unfolding hold start
-  moved-stands true = settled-stands auctioned book s (auction-falls book s d)
-  moved-stands false = no-trade-stands book (s .fair)
+  moved-stands true =
+      all-stand (length book) (settle auctioned book) (standing-settle auctioned book s) (settled-fit book s d) auctioned book
+      (settled-stands auctioned book s (auction-falls book s d))
+  moved-stands false = no-trade-stands book s
 
   pub clock-stands :
       (lent : List Trade)
@@ -277,4 +331,4 @@ module _ (d : Day) (t : ℕ) (book : List Order) (s : Standing book) where
       rw (take-at (moved d t book .trades) (drop (length (moved d t book .trades)) lent) (length (moved d t book .trades)) refl)
       (rw (moved-by d t book (passes 33_900 (d .time) t) false refl (not-reached 54_000 (d .time) t l))
       (moved-stands (passes 33_900 (d .time) t))))
-      (λ _. no-trade-stands book (s .fair))
+      (λ _. no-trade-stands book s)

@@ -5,6 +5,8 @@ pub mod Cases
 pub mod Pricings
 pub mod Wholes
 pub mod Elements
+pub mod Places
+pub mod Arranged
 pub mod Fresh
 pub mod Cancelled
 pub mod Tallied
@@ -27,5 +29,15 @@ pub mod Once
 pub mod SweptLeft
 pub mod PairedLeft
 pub mod Leavings
+pub mod SameQueues
+pub mod LowestPlace
+pub mod Twins
+pub mod OlderSound
+pub mod OlderReports
+pub mod OlderCancels
+pub mod OlderClocks
+pub mod OlderOrders
+pub mod Histories
+pub mod Orderings
 pub mod Stars
 pub mod Demands

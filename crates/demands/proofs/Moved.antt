@@ -14,6 +14,7 @@ use Rattle.model.specs.declared.Day.{Day}
 use Rattle.model.specs.declared.Boundary.{Boundary}
 use Rattle.model.specs.Lists.{total}
 use Rattle.model.specs.Clock.{isTime, passes, boundaries}
+use Rattle.model.specs.Book.{arranged}
 use Rattle.model.specs.Matching.{filled, settle}
 use Rattle.model.specs.Figures.{at, tally}
 use Rattle.model.specs.Sound.{hasPlaces, crosses}
@@ -21,22 +22,24 @@ use Rattle.model.specs.Refusals.{_when_, firstOf}
 use Rattle.model.specs.Calls.{cleared}
 use Rattle.model.specs.ClockCall.{auctionPrice, auctionTrades, Held, hold, pass, through, start, moved, clockRules, clockCall}
 use Rattle.model.proofs.Bools.{not-both}
-use Rattle.book.specs.Standing.{Price, Standing}
+use Rattle.book.specs.Standing.{Price, Standing, Ordered}
 use Rattle.book.proofs.Lists.{each}
 use Rattle.book.proofs.Kept.{standing-settle}
+use Rattle.book.proofs.Arranging.{cleared-ranked}
 use Rattle.soundness.specs.SoundDay.{Empty, SoundDay}
-use Rattle.soundness.proofs.SoundDays.{sound-day, day-sound, few-places}
+use Rattle.soundness.proofs.SoundDays.{sound-day, sound-ordered, day-sound, few-places}
 use Rattle.pairing.proofs.Moves.{both, moved-by}
-use Rattle.pairing.proofs.Auctions.{auction-priced, auction-shares, auction-cases, auction-uncrosses}
+use Rattle.pairing.proofs.Auctions.{auction-priced, auction-shares, auction-cases, settled-fit, afterwards-uncrossed}
 use Rattle.demands.specs.Pricing.{Sound, EachAuction}
 use Rattle.demands.proofs.FirstRules.{gives-none}
 use Rattle.demands.proofs.Refusals.{clock-numbers}
 use Rattle.demands.proofs.Cases.{clock-cases}
 use Rattle.demands.proofs.Pricings.{sound-stands, trades-there}
 use Rattle.demands.proofs.Wholes.{Whole, whole-of, timely-of, sound-of, whole-stands}
+use Rattle.demands.proofs.Arranged.{arranged-whole, arranged-ordered, arranged-many}
 use Rattle.demands.proofs.Fresh.{cleared-empty, places-cleared, whole-cleared}
 use Rattle.demands.proofs.Tallied.{Proper, traded-tally}
-use Rattle.demands.proofs.Settled.{Later, places-later, settle-places, settle-length}
+use Rattle.demands.proofs.Settled.{Later, places-later, settle-places}
 
 -- ---- an auction
 
@@ -44,10 +47,11 @@ use Rattle.demands.proofs.Settled.{Later, places-later, settle-places, 
 pub record Fit (h : Held) : Type 0 where
   pub many : hasPlaces (h .book) ≡ true
   pub whole : Whole (h .day) (h .book)
+  pub ordered : Ordered (h .book)
 
 module _ (h : Held) (f : Fit h) where
   pub fit-stands : Standing (h .book)
-  fit-stands = whole-stands (h .day) (h .book) (few-places (h .book) (f .many)) (f .whole)
+  fit-stands = whole-stands (h .day) (h .book) (f .whole)
 
   abbrev ts : List Trade
   ts = auctionTrades (h .day) (h .book)
@@ -67,10 +71,6 @@ module _ (h : Held) (f : Fit h) where
       (λ k. rw (k .1) (record { priced = tt; some = λ z. refl }))
       (auction-cases (h .book) fit-stands (h .day))
 
-  settled-many : hasPlaces (settle ts (h .book)) ≡ true
-  unfolding hasPlaces
-  settled-many = rw (settle-length ts (h .book)) (f .many)
-
   settled-whole : Whole (tally ts (h .day)) (settle ts (h .book))
   unfolding tally
   settled-whole =
@@ -87,19 +87,30 @@ module _ (h : Held) (f : Fit h) where
       later : Later (h .day) (tally ts (h .day))
       later = record { close = refl; limited = refl; issued = omega arith }
 
+  few : length (h .book) ≤ 4_096
+  few = few-places (h .book) (f .many)
+
   pub hold-fit : (b : Boundary) → Fit (hold b h)
   unfolding hold
   hold-fit b = go (b .lapse)
     where
-      go : (l : Bool) → Fit (record { day = tally ts (h .day); book = cond l (cleared (settle ts (h .book))) (settle ts (h .book)); trades = h .trades ++ ts })
+      go :
+          (l : Bool)
+          → Fit
+          (record { day = tally ts (h .day); book = cond l (cleared (h .book)) (arranged (length (h .book)) (settle ts (h .book))); trades = h .trades ++ ts })
       go true =
           record {
-            many = places-cleared (settle ts (h .book)) settled-many;
-            whole =
-                whole-cleared (tally ts (h .day)) (settle ts (h .book)) (cleared (settle ts (h .book))) settled-whole
-                (cleared-empty (settle ts (h .book)));
+            many = places-cleared (h .book) (f .many);
+            whole = whole-cleared (tally ts (h .day)) (settle ts (h .book)) (cleared (h .book)) settled-whole (cleared-empty (h .book));
+            ordered = cleared-ranked (h .book) few .ordered;
           }
-      go false = record { many = settled-many; whole = settled-whole }
+      go false =
+          let places = settled-fit (h .book) fit-stands (h .day) in
+          record {
+            many = arranged-many (h .book) (settle ts (h .book)) (standing-settle ts (h .book) fit-stands) places (f .many);
+            whole = arranged-whole (tally ts (h .day)) (length (h .book)) (settle ts (h .book)) settled-whole places;
+            ordered = arranged-ordered (tally ts (h .day)) (length (h .book)) (settle ts (h .book)) settled-whole places few;
+          }
 
 -- ---- through the boundaries
 
@@ -170,7 +181,7 @@ module _ (d : Day) (t : ℕ) (book : List Order) where
     then-uncrossed a b = go (ltb (d .time) 33_900) refl
       where
         after : crosses (both d t book true false .book) ≡ false
-        after = unfold hold start in auction-uncrosses book k d
+        after = unfold hold start in afterwards-uncrossed book k d
 
         before : 33_900 ≤ d .time → crosses (both d t book false false .book) ≡ false
         before l = unfold start in timely-of d book s .uncrossed l (omega arith)
@@ -189,7 +200,8 @@ module _ (d : Day) (t : ℕ) (book : List Order) where
 module _ (d : Day) (book : List Order) (s : Sound d book) where
   pub start-fit : Fit (start d book)
   unfolding start
-  start-fit = record { many = s .0; whole = whole-of d book (sound-day d book (s .1)) }
+  start-fit =
+      record { many = s .0; whole = whole-of d book (sound-day d book (s .1)); ordered = sound-ordered d book (s .1) }
 
   pub move-auctions : (t : ℕ) → EachAuction (d .time) t boundaries (start d book)
   move-auctions t = each-auction (d .time) t boundaries (start d book) start-fit
@@ -233,7 +245,8 @@ module _ (d : Day) (book : List Order) (s : Sound d book) where
               early = early-empty d t book day stands l;
               late = late-empty d t book day stands l;
               uncrossed = then-uncrossed d t book day stands l;
-            })),
+            }))
+            (moved-fit t .ordered),
       )
 
   -- rule 1 does not hold

@@ -1,33 +1,33 @@
 -- Whose the resting orders are: each is one of the accepted orders, with its number, account and side. Assumes nothing.
 use Prim.Native.Nat.{ℕ, _-_}
 use mathlib.Core.Path.{_≡_, refl, sym, _∙_}
-use mathlib.Core.Logic.{inl, inr, ⊎-elim}
-use mathlib.Core.Bool.{Bool, true, false, cond, _||_}
-use mathlib.Core.List.{List, [], _∷_, _++_, map, append-assoc}
+use mathlib.Core.Logic.{inl}
+use mathlib.Core.Bool.{Bool, true, false, cond, not, _||_}
+use mathlib.Core.List.{List, [], _∷_, _++_, append-assoc}
+use lib.ListN.{length}
 use lib.Dec.{ltb, eqb}
 use Rattle.model.specs.declared.Order.{Order}
 use Rattle.model.specs.declared.Asked.{Asked}
 use Rattle.model.specs.declared.Trade.{Trade}
 use Rattle.model.specs.declared.Day.{Day}
 use Rattle.model.specs.declared.Boundary.{Boundary}
-use Rattle.model.specs.Choice.{if_then_else_}
+use Rattle.model.specs.Lists.{keep}
 use Rattle.model.specs.Clock.{passes, boundaries}
-use Rattle.model.specs.Book.{free}
-use Rattle.model.specs.Matching.{filledOf, lessBy, settle, rest}
+use Rattle.model.specs.Book.{free, arranged}
+use Rattle.model.specs.Matching.{filledOf, lessBy, settle}
 use Rattle.model.specs.Figures.{nextNumber}
 use Rattle.model.specs.Entry.{entryTrades}
-use Rattle.model.specs.Calls.{isOwn, cleared, placed, entered}
+use Rattle.model.specs.Calls.{isOwn, cleared, joined, entered}
 use Rattle.model.specs.ClockCall.{auctionTrades, Held, hold, pass, through, start, moved}
 use Rattle.model.specs.Session.{Desk}
 use Rattle.book.specs.Standing.{Each}
-use Rattle.book.specs.Places.{lowestFree}
-use Rattle.book.proofs.Lists.{each, every}
-use Rattle.book.proofs.Finding.{taken, rest-set}
-use Rattle.book.proofs.Kept.{free-number, set-each}
+use Rattle.book.proofs.Lists.{each, every, each-keep}
+use Rattle.book.proofs.Kept.{free-number}
 use Rattle.matching.proofs.Trades.{Some}
 use Rattle.demands.specs.Running.{Event, Moves, Enters, Cancels, Owner, Is, ownersBy, accepted, stepped, after, acceptedIn}
 use Rattle.demands.proofs.Cases.{order-cases, cancel-cases, clock-cases}
-use Rattle.demands.proofs.Elements.{each-map, some-map}
+use Rattle.demands.proofs.Elements.{each-map, some-map, some-left, some-right}
+use Rattle.book.proofs.Arranging.{each-arranged}
 
 -- an order is one of these, where the place is not free
 abbrev pub Known : List Owner → Order → Type 0
@@ -35,14 +35,6 @@ Known ws o = (o .number ≡ 0 → ⊥) → Some (Is o) ws
 
 abbrev pub Owned : List Owner → List Order → Type 0
 Owned ws book = Each (Known ws) book
-
-some-left : {A : Type 0} (P : A → Type 0) (xs ys : List A) → Some P xs → Some P (xs ++ ys)
-some-left P [] ys h = absurd h
-some-left P (x ∷ xs) ys h = ⊎-elim inl (λ k. inr (some-left P xs ys k)) h
-
-some-right : {A : Type 0} (P : A → Type 0) (xs ys : List A) → Some P ys → Some P (xs ++ ys)
-some-right P [] ys h = h
-some-right P (x ∷ xs) ys h = inr (some-right P xs ys h)
 
 module _ (ws : List Owner) where
   free-known : Known ws free
@@ -80,14 +72,11 @@ module _ (ws : List Owner) where
   unfolding cleared
   cleared-owned book = each-map (Known ws) (λ (_ : Order). free) book (every (λ (_ : Order). Known ws free) book (λ _. free-known))
 
-  cancel-owned : (account number : ℕ) (book : List Order) → Owned ws book → Owned ws (map (taken account number) book)
-  cancel-owned account number book w =
-      each-map (Known ws) (taken account number) book
-      (each (Known ws) (λ o. Known ws (taken account number o)) book (λ o h. go o h (isOwn account number o)) w)
-    where
-      go : (o : Order) → Known ws o → (b : Bool) → Known ws (if b then free else o)
-      go o h true = free-known
-      go o h false = h
+  arranged-owned : (n : ℕ) (os : List Order) → Owned ws os → Owned ws (arranged n os)
+  arranged-owned n os = each-arranged (Known ws) n os free-known
+
+  kept-owned : (p : Order → Bool) (book : List Order) → Owned ws book → Owned ws (arranged (length book) (keep p book))
+  kept-owned p book w = arranged-owned (length book) (keep p book) (each-keep (Known ws) p book w)
 
   -- ---- a move of the clock
 
@@ -95,11 +84,12 @@ module _ (ws : List Owner) where
   unfolding hold
   hold-owned b h w = go (b .lapse)
     where
-      go :
-          (l : Bool)
-          → Owned ws (cond l (cleared (settle (auctionTrades (h .day) (h .book)) (h .book))) (settle (auctionTrades (h .day) (h .book)) (h .book)))
-      go true = cleared-owned (settle (auctionTrades (h .day) (h .book)) (h .book))
-      go false = settle-owned (auctionTrades (h .day) (h .book)) (h .book) w
+      ts : List Trade
+      ts = auctionTrades (h .day) (h .book)
+
+      go : (l : Bool) → Owned ws (cond l (cleared (h .book)) (arranged (length (h .book)) (settle ts (h .book))))
+      go true = cleared-owned (h .book)
+      go false = arranged-owned (length (h .book)) (settle ts (h .book)) (settle-owned ts (h .book) w)
 
   through-owned :
       (old new : ℕ) (bs : List Boundary) (h : Held) → Owned ws (h .book) → Owned ws (through old new bs h .book)
@@ -121,9 +111,9 @@ module _ (ws : List Owner) (d : Day) (a : Asked) (book : List Order) (w : Owned 
   newest = record { number = nextNumber d; account = a .account; side = a .side }
 
   entered-owned :
-      (q p : ℕ) → Owned (ws ++ (newest ∷ [])) (placed a (nextNumber d) q p (settle ts book))
-  unfolding placed
-  entered-owned q p = go (eqb q 0 || eqb p 0)
+      (q p : ℕ) → Owned (ws ++ (newest ∷ [])) (arranged (length book) (joined a (nextNumber d) q p (settle ts book)))
+  unfolding joined
+  entered-owned q p = arranged-owned (ws ++ (newest ∷ [])) (length book) _ (go (eqb q 0 || eqb p 0))
     where
       rested : Order
       rested = record { side = a .side; account = a .account; left = q; price = p; number = nextNumber d }
@@ -134,11 +124,9 @@ module _ (ws : List Owner) (d : Day) (a : Asked) (book : List Order) (w : Owned 
       known : Known (ws ++ (newest ∷ [])) rested
       known n = some-right (Is rested) ws (newest ∷ []) (inl (record { number = refl; account = refl; side = refl }))
 
-      go : (b : Bool) → Owned (ws ++ (newest ∷ [])) (cond b (settle ts book) (rest rested (settle ts book)))
+      go : (b : Bool) → Owned (ws ++ (newest ∷ [])) (cond b (settle ts book) (rested ∷ settle ts book))
       go true = settled
-      go false =
-          rw (rest-set rested (settle ts book))
-          (set-each (Known (ws ++ (newest ∷ []))) (settle ts book) (lowestFree (settle ts book)) rested known settled)
+      go false = (known, settled)
 
 -- ---- events and runs
 
@@ -154,7 +142,7 @@ event-owned ws (Enters a lent) s w =
     (λ _. more ws [] (s .book) w)
 event-owned ws (Cancels account number) s w =
     cancel-cases (s .day) account number (s .book) (λ o. Owned (ws ++ []) (o .book))
-    (λ _. more ws [] (map (taken account number) (s .book)) (cancel-owned ws account number (s .book) w))
+    (λ _. kept-owned (ws ++ []) (λ o. not (isOwn account number o)) (s .book) (more ws [] (s .book) w))
     (λ _. more ws [] (s .book) w)
 
 pub run-owned : (ws : List Owner) (es : List Event) (s : Desk) → Owned ws (s .book) → Owned (ws ++ acceptedIn es s) (after es s .book)

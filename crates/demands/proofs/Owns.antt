@@ -1,76 +1,42 @@
--- An accepted cancel sets free the one place with that number and account. Assumes nothing.
-use Prim.Native.Nat.{ℕ, zero, suc, _<_}
+-- An accepted cancel takes out the one order with that number and account. Assumes nothing.
+use Prim.Native.Nat.{ℕ, _<_}
 use mathlib.Core.Path.{_≡_, refl, sym, ap, _∙_}
-use mathlib.Core.Bool.{Bool, true, false, cond, _&&_}
-use mathlib.Core.List.{List, [], _∷_, map}
+use mathlib.Core.Bool.{true, not, _&&_}
+use mathlib.Core.List.{List, [], _∷_, _++_}
 use native.Mathlib.Omega.{arith}
-use native.Mathlib.Nat.{le-of-suc-le-suc, not-suc-le-zero}
-use lib.ListN.{length, getD}
+use native.Mathlib.Numerals.{add-one}
+use lib.ListN.{length, getD, take, drop}
 use lib.Dec.{eqb}
 use borrow.Author.Tests.{eqb-true, ltb-true, not-false}
 use Rattle.model.specs.declared.Order.{Order}
 use Rattle.model.specs.declared.Day.{Day}
 use Rattle.model.specs.declared.CancelReply as CancelReply
-use Rattle.model.specs.Choice.{if_then_else_}
 use Rattle.model.specs.Lists.{any, keep, total}
-use Rattle.model.specs.Book.{free, isLive}
+use Rattle.model.specs.Book.{free, isLive, arranged}
 use Rattle.model.specs.Refusals.{_when_, firstOf}
 use Rattle.model.specs.Calls.{isOwn, cancelRules, cancelCall}
 use Rattle.model.proofs.Bools.{and-left, and-right}
-use Rattle.book.specs.Standing.{Fair, Apart, Standing}
-use Rattle.book.specs.Places.{firstWith, placeOf}
+use Rattle.book.specs.Standing.{Fair, Standing, Ranked}
+use Rattle.book.specs.Places.{placeOf}
 use Rattle.book.proofs.Lists.{each-at}
 use Rattle.book.proofs.Queues.{live-number}
-use Rattle.book.proofs.Finding.{own-any, cancel-set, cancel-left}
+use Rattle.book.proofs.Finding.{first-passes, own-any, cancel-left}
+use Rattle.book.proofs.TakenOut.{cancel-arranged}
 use Rattle.demands.specs.Refusing.{NoneOf}
 use Rattle.demands.specs.Pricing.{Sound}
 use Rattle.demands.specs.Owning.{TakesOut}
 use Rattle.demands.proofs.FirstRules.{gives-none}
 use Rattle.demands.proofs.Refusals.{cancel-numbers}
 use Rattle.demands.proofs.Cases.{cancel-cases}
-use Rattle.demands.proofs.Pricings.{sound-stands}
-
--- ---- places by their index
-
--- one number, one live order
-one-place :
-    (book : List Order)
-    → Apart book
-    → (i j : ℕ)
-    → i < length book
-    → j < length book
-    → getD book i free .number ≡ getD book j free .number
-    → (getD book j free .number ≡ 0 → ⊥)
-    → i ≡ j
-one-place [] a i j l m e n = absurd (not-suc-le-zero l)
-one-place (o ∷ os) a zero zero l m e n = refl
-one-place (o ∷ os) a zero (suc j) l m e n =
-    absurd (n (sym e ∙ each-at (λ p. p .number ≡ o .number → o .number ≡ 0) os free (a .0) j (le-of-suc-le-suc m) (sym e)))
-one-place (o ∷ os) a (suc i) zero l m e n =
-    absurd (n (each-at (λ p. p .number ≡ o .number → o .number ≡ 0) os free (a .0) i (le-of-suc-le-suc l) e))
-one-place (o ∷ os) a (suc i) (suc j) l m e n =
-    ap suc (one-place os (a .1) i j (le-of-suc-le-suc l) (le-of-suc-le-suc m) e n)
-
--- the first place that passes a test passes it
-pub first-passes : (p : Order → Bool) (book : List Order) → firstWith p book < length book → p (getD book (firstWith p book) free) ≡ true
-unfolding firstWith
-first-passes p [] l = absurd (not-suc-le-zero l)
-first-passes p (o ∷ os) l = go (p o) refl (first-passes p os) l
-  where
-    go :
-        (b : Bool)
-        → p o ≡ b
-        → (firstWith p os < length os → p (getD os (firstWith p os) free) ≡ true)
-        → cond b 0 (suc (firstWith p os)) < suc (length os)
-        → p (getD (o ∷ os) (cond b 0 (suc (firstWith p os))) free) ≡ true
-    go true e f h = e
-    go false e f h = f (le-of-suc-le-suc h)
-
--- ---- the cancel
+use Rattle.demands.proofs.Pricings.{sound-ranked}
+use Rattle.demands.proofs.Places.{one-place}
 
 module _ (d : Day) (account number : ℕ) (book : List Order) (s : Sound d book) where
+  in-order : Ranked book
+  in-order = sound-ranked d book s
+
   stands : Standing book
-  stands = sound-stands d book s
+  stands = in-order .stands
 
   abbrev place : ℕ
   place = placeOf account number book
@@ -85,7 +51,7 @@ module _ (d : Day) (account number : ℕ) (book : List Order) (s : Sound d book)
 
     is-own : isOwn account number (getD book place free) ≡ true
     unfolding placeOf
-    is-own = first-passes (isOwn account number) book inside
+    is-own = first-passes (isOwn account number) book free inside
 
     abbrev order : Order
     order = getD book place free
@@ -108,10 +74,10 @@ module _ (d : Day) (account number : ℕ) (book : List Order) (s : Sound d book)
         eqb-true (order .account) account
         (and-right (isLive order && eqb (order .number) number) (eqb (order .account) account) is-own)
 
-    taken-out :
+    takes-out :
         TakesOut account number (total (λ o. o .left) (keep (isOwn account number) book)) book
-        (map (λ o. if isOwn account number o then free else o) book)
-    taken-out =
+        (arranged (length book) (keep (λ o. not (isOwn account number o)) book))
+    takes-out =
         let left = cancel-left account number book (stands .apart) in
         record {
           place = place;
@@ -122,7 +88,9 @@ module _ (d : Day) (account number : ℕ) (book : List Order) (s : Sound d book)
           its-shares = sym left;
           some = rw left (each-at Fair book free (stands .fair) place inside .some is-live);
           only = λ i l e. one-place book (stands .apart) i place l inside (e ∙ sym number-is) is-live;
-          set-free = cancel-set account number book (stands .apart);
+          taken-out =
+              sym (cancel-arranged book in-order account number refl inside)
+              ∙ ap (λ k. take place book ++ (drop k book ++ (free ∷ []))) (add-one place);
         }
 
   pub cancel-own :
@@ -132,5 +100,5 @@ module _ (d : Day) (account number : ℕ) (book : List Order) (s : Sound d book)
   cancel-own shares =
       cancel-cases d account number book
       (λ o. o .reply ≡ CancelReply.the-variants.Withdrawn shares → TakesOut account number shares book (o .book))
-      (λ z r. let e : total (λ o. o .left) (keep (isOwn account number) book) ≡ shares = cc in rw (← e) (taken-out z))
+      (λ z r. let e : total (λ o. o .left) (keep (isOwn account number) book) ≡ shares = cc in rw (← e) (takes-out z))
       (λ _ r. let z : _≡_ {A = ℕ} 0 1 = cc in absurd (omega arith))

@@ -11,7 +11,6 @@ use borrow.Author.Tests.{ltb-true, ltb-false, not-false}
 use Rattle.model.specs.declared.Order.{Order}
 use Rattle.model.specs.declared.Day.{Day}
 use Rattle.model.specs.Lists.{any, from, among}
-use Rattle.model.specs.Matching.{settle}
 use Rattle.model.specs.Figures.{reference}
 use Rattle.model.specs.Auction.{qualifying, leftBy}
 use Rattle.model.specs.Sound.{hasPlaces, sound, crosses}
@@ -19,10 +18,9 @@ use Rattle.model.specs.Refusals.{_when_, firstOf, unsound}
 use Rattle.model.specs.ClockCall.{auctionPrice, auctionTrades}
 use Rattle.model.specs.AuctionCalls.{due, listRules, listCall}
 use Rattle.model.proofs.Bools.{and-left, and-right, not-both, true-or-false, and-both}
-use Rattle.book.specs.Standing.{Standing}
+use Rattle.book.specs.Standing.{Standing, Ranked}
 use Rattle.book.proofs.Crossing.{uncrossed, not-crossed}
-use Rattle.book.proofs.Kept.{standing-settle}
-use Rattle.soundness.proofs.SoundDays.{stands}
+use Rattle.soundness.proofs.SoundDays.{ranked}
 use Rattle.auction.specs.Rule.{Rising}
 use Rattle.auction.specs.Spans.{ends}
 use Rattle.auction.proofs.Runs.{run-length, run-at}
@@ -30,7 +28,7 @@ use Rattle.auction.proofs.Spanning.{Spans, span-law}
 use Rattle.auction.proofs.Writing.{due-none, due-all, due-from}
 use Rattle.auction.proofs.Rules.{listed-qualifies, qualifies-listed, due-names, qualifying-rises, no-cross-empty, empty-no-cross, one-left}
 use Rattle.pairing.proofs.Auctioned.{buys-filled, sells-filled}
-use Rattle.pairing.proofs.Auctions.{auction-trades-are, auction-filled, auction-priced, auction-cases, auction-uncrosses}
+use Rattle.pairing.proofs.Auctions.{auction-trades-are, auction-filled, auction-priced, auction-cases, afterwards, afterwards-stands, afterwards-uncrossed}
 use Rattle.demands.specs.Pricing.{Sound, Listing, Called, OneLeft, TradesThere}
 
 -- ---- a sound day
@@ -45,8 +43,11 @@ sound-if d book u =
     let h = not-false (hasPlaces book && sound d book) u in
     (and-left (hasPlaces book) (sound d book) h, and-right (hasPlaces book) (sound d book) h)
 
+pub sound-ranked : (d : Day) (book : List Order) → Sound d book → Ranked book
+sound-ranked d book s = ranked d book (and-both (s .0) (s .1))
+
 pub sound-stands : (d : Day) (book : List Order) → Sound d book → Standing book
-sound-stands d book s = stands d book (and-both (s .0) (s .1))
+sound-stands d book s = sound-ranked d book s .stands
 
 -- ---- the list
 
@@ -117,7 +118,7 @@ module _ (book : List Order) (s : Standing book) where
           sells = rw e (sells-filled p book s);
           none = λ z.
               ⊎-elim (λ k. absurd (unlisted z (qualifies-listed book (k .qualifies)))) (λ k. k .1) (auction-cases book s d);
-          after = uncrossed (settle (auctionTrades d book) book) (standing-settle (auctionTrades d book) book s) (auction-uncrosses book s d);
+          after = uncrossed (afterwards book s d) (afterwards-stands book s d) (afterwards-uncrossed book s d);
         }
       where
         unlisted : qualifying book ≡ [] → among (qualifying book) (auctionPrice d book) ≡ true → ⊥

@@ -1,40 +1,45 @@
 -- An order that no trade names stays as it is: after an order, and after a move of the clock before the close.
 -- Assumes nothing.
-use Prim.Native.Nat.{ℕ, zero, suc, _-_, _<_}
+use Prim.Native.Nat.{ℕ, zero, suc, _+_, _-_, _≤_, _<_}
 use mathlib.Core.Path.{_≡_, refl, ap, _∙_}
-use mathlib.Core.Bool.{Bool, true, false, cond, not, _||_}
+use mathlib.Core.Logic.{inr}
+use mathlib.Core.Bool.{Bool, true, false, cond, _||_}
 use mathlib.Core.List.{List, [], _∷_}
 use native.Mathlib.Nat.{le-of-suc-le-suc, not-suc-le-zero}
 use native.Mathlib.Omega.{arith}
 use lib.ListN.{length, getD, take, drop}
-use lib.Seq.{getD-set-other, take-at}
+use lib.Seq.{take-at}
 use lib.Dec.{eqb}
-use borrow.Author.Tests.{not-true}
 use Rattle.model.specs.declared.Order.{Order}
 use Rattle.model.specs.declared.Asked.{Asked}
 use Rattle.model.specs.declared.Trade.{Trade}
 use Rattle.model.specs.declared.Day.{Day}
 use Rattle.model.specs.Lists.{total}
 use Rattle.model.specs.Clock.{passes}
-use Rattle.model.specs.Book.{free, isLive}
-use Rattle.model.specs.Matching.{filled, isIn, filledOf, lessBy, settle, rest}
+use Rattle.model.specs.Book.{free, queue, arranged}
+use Rattle.model.specs.Matching.{filled, isIn, filledOf, lessBy, settle}
 use Rattle.model.specs.Figures.{nextNumber}
 use Rattle.model.specs.Entry.{entryTrades, restPrice}
-use Rattle.model.specs.Calls.{written, placed, entered, orderCall}
+use Rattle.model.specs.Calls.{written, joined, entered, orderCall}
 use Rattle.model.specs.ClockCall.{auctionTrades, hold, start, moved, clockCall}
-use Rattle.model.proofs.Bools.{not-both}
 use Rattle.book.specs.Standing.{Each, Fair, Standing}
-use Rattle.book.specs.Places.{lowestFree}
 use Rattle.book.proofs.Lists.{keep-none, each-at}
-use Rattle.book.proofs.Queues.{number-live}
+use Rattle.book.proofs.Kept.{standing-settle}
 use Rattle.book.proofs.Settlements.{less-nothing}
-use Rattle.book.proofs.Finding.{rest-set}
+use Rattle.matching.proofs.Trades.{Some}
+use Rattle.matching.proofs.EntryLaws.{remainder, ordersThen}
+use Rattle.pairing.proofs.Auctions.{settled-fit}
 use Rattle.pairing.proofs.Moves.{both, moved-by}
+use Rattle.demands.specs.Pricing.{Sound}
 use Rattle.demands.specs.Owning.{Stays}
+use Rattle.demands.proofs.Elements.{some-map, some-at}
+use Rattle.demands.proofs.Places.{stands-once}
+use Rattle.demands.proofs.Arranged.{stands-there}
 use Rattle.demands.proofs.Cases.{order-cases, clock-cases}
+use Rattle.demands.proofs.Pricings.{sound-stands}
 use Rattle.demands.proofs.Settled.{settle-length}
+use Rattle.demands.proofs.Entered.{Allowed, allowed, orders-stand, orders-fit}
 use Rattle.demands.proofs.Moved.{not-reached}
-use Rattle.demands.proofs.Owns.{first-passes}
 
 -- ---- trades that do not name it
 
@@ -42,7 +47,7 @@ filled-none : (n : ℕ) (ts : List Trade) → Each (λ (t : Trade). isIn n t ≡
 unfolding filledOf filled total
 filled-none n ts h = rw (keep-none (isIn n) ts h)
 
-pub settle-at :
+settle-at :
     (ts : List Trade) (book : List Order) (i : ℕ)
     → i < length book
     → getD (settle ts book) i free ≡ lessBy (filledOf (getD book i free .number) ts) (getD book i free)
@@ -51,73 +56,94 @@ settle-at ts [] i l = absurd (not-suc-le-zero l)
 settle-at ts (o ∷ os) zero l = refl
 settle-at ts (o ∷ os) (suc i) l = settle-at ts os i (le-of-suc-le-suc l)
 
--- a new rest goes to a free place, so not to one with an order
-pub rest-elsewhere :
-    (x : Order) (os : List Order) (i : ℕ)
-    → i < length os
-    → isLive (getD os i free) ≡ true
-    → getD (rest x os) i free ≡ getD os i free
-unfolding lowestFree
-rest-elsewhere x os i l live =
-    ap (λ (ps : List Order). getD ps i free) (rest-set x os) ∙ getD-set-other os (lowestFree os) i x free elsewhere
-  where
-    elsewhere : i ≡ lowestFree os → ⊥
-    elsewhere e =
-        let inside : lowestFree os < length os = omega arith in
-        let idle : isLive (getD os (lowestFree os) free) ≡ false = not-true _ (first-passes (λ o. not (isLive o)) os inside) in
-        not-both live (ap (λ (k : ℕ). isLive (getD os k free)) e ∙ idle)
+-- what the trades leave of an order is among what they leave
+pub settle-has :
+    (ts : List Trade) (book : List Order) (i : ℕ) (x : Order)
+    → i < length book
+    → lessBy (filledOf (getD book i free .number) ts) (getD book i free) ≡ x
+    → Some (λ (p : Order). p ≡ x) (settle ts book)
+settle-has ts book i x l e =
+    some-map (λ p h. h ∙ settle-at ts book i l ∙ e) (settle ts book)
+    (some-at (settle ts book) free i (omega (arith, l, settle-length ts book)))
 
-module _ (book : List Order) (s : Standing book) where
-  settle-stays : (ts : List Trade) → Stays ts book (settle ts book)
-  settle-stays ts i l n h =
+module _ (ts : List Trade) (book : List Order) where
+  -- an order that no trade names is one of these
+  abbrev StillAmong : List Order → Type 0
+  StillAmong os =
+      (i : ℕ)
+      → i < length book
+      → (getD book i free .number ≡ 0 → ⊥)
+      → Each (λ (t : Trade). isIn (getD book i free .number) t ≡ false) ts
+      → Some (λ (p : Order). p ≡ getD book i free) os
+
+  none-moves : Standing book → Stays ts book book
+  none-moves s i l n h = stands-once book (s .apart) (getD book i free) n (some-at book free i l)
+
+  settle-stays : Standing book → StillAmong (settle ts book)
+  settle-stays s i l n h =
       let o = getD book i free in
-      settle-at ts book i l
-      ∙ ap (λ (q : ℕ). lessBy q o) (filled-none (o .number) ts h)
-      ∙ less-nothing o (each-at Fair book free (s .fair) i l)
+      settle-has ts book i o l
+      (ap (λ (q : ℕ). lessBy q o) (filled-none (o .number) ts h) ∙ less-nothing o (each-at Fair book free (s .fair) i l))
 
-  rest-stays : (ts : List Trade) (x : Order) → Stays ts book (rest x (settle ts book))
-  rest-stays ts x i l n h =
-      let same = settle-stays ts i l n h in
-      rest-elsewhere x (settle ts book) i (omega (arith, l, settle-length ts book))
-      (ap isLive same ∙ number-live (getD book i free) n)
-      ∙ same
+  arranged-stays :
+      (n : ℕ) (os : List Order)
+      → Standing os
+      → length (queue 0 os) + length (queue 1 os) ≤ n
+      → StillAmong os
+      → Stays ts book (arranged n os)
+  arranged-stays n os s fit k i l live h = stands-there n os s fit (getD book i free) live (k i l live h)
 
-  placed-stays : (a : Asked) (ts : List Trade) (n q p : ℕ) → Stays ts book (placed a n q p (settle ts book))
-  unfolding placed
-  placed-stays a ts n q p = go (eqb q 0 || eqb p 0)
+-- ---- an order
+
+module _ (d : Day) (a : Asked) (book : List Order) (s : Sound d book) where
+  abbrev ts : List Trade
+  ts = entryTrades d a book
+
+  orders-stay : StillAmong ts book (ordersThen d a book (nextNumber d))
+  unfolding joined
+  orders-stay i l n h = go (eqb (a .quantity - filled ts) 0 || eqb (restPrice a ts book) 0)
     where
-      go :
-          (b : Bool)
-          → Stays ts book
-          (cond b (settle ts book) (rest (record { side = a .side; account = a .account; left = q; price = p; number = n }) (settle ts book)))
-      go true = settle-stays ts
-      go false = rest-stays ts (record { side = a .side; account = a .account; left = q; price = p; number = n })
+      still : Some (λ (p : Order). p ≡ getD book i free) (settle ts book)
+      still = settle-stays ts book (sound-stands d book s) i l n h
+
+      go : (b : Bool) → Some (λ (p : Order). p ≡ getD book i free) (cond b (settle ts book) (remainder d a book (nextNumber d) ∷ settle ts book))
+      go true = still
+      go false = inr still
+
+  entered-stays : Allowed d a book → Stays ts book (arranged (length book) (ordersThen d a book (nextNumber d)))
+  entered-stays k =
+      arranged-stays ts book (length book) (ordersThen d a book (nextNumber d)) (orders-stand d a book s k) (orders-fit d a book s k)
+      orders-stay
 
   pub order-stays :
-      (d : Day) (a : Asked) (lent : List Trade)
+      (lent : List Trade)
       → Stays (take (orderCall d a book lent .answer .made) (orderCall d a book lent .trades)) book (orderCall d a book lent .book)
   unfolding entered written
-  order-stays d a lent =
+  order-stays lent =
       order-cases d a book lent (λ o. Stays (take (o .answer .made) (o .trades)) book (o .book))
-      (λ _.
-      rw (take-at (entryTrades d a book) (drop (length (entryTrades d a book)) lent) (length (entryTrades d a book)) refl)
-      (placed-stays a (entryTrades d a book) (nextNumber d) (a .quantity - filled (entryTrades d a book)) (restPrice a (entryTrades d a book) book)))
-      (λ _ i l n h. refl)
+      (λ z. rw (take-at ts (drop (length ts) lent) (length ts) refl) (entered-stays (allowed d a book lent z)))
+      (λ _. none-moves [] book (sound-stands d book s))
 
-  -- before the close a move holds the opening auction, or none
+-- ---- a move of the clock: before the close it holds the opening auction, or none
+
+module _ (d : Day) (t : ℕ) (book : List Order) (s : Standing book) where
+  moved-stays : (p : Bool) → Stays (both d t book p false .trades) book (both d t book p false .book)
+  unfolding hold start
+  moved-stays true =
+      arranged-stays (auctionTrades d book) book (length book) (settle (auctionTrades d book) book)
+      (standing-settle (auctionTrades d book) book s) (settled-fit book s d)
+      (settle-stays (auctionTrades d book) book s)
+  moved-stays false = none-moves [] book s
+
   pub clock-stays :
-      (d : Day) (t : ℕ) (lent : List Trade)
+      (lent : List Trade)
       → t < 54_000
       → Stays (take (clockCall d t book lent .answer .made) (clockCall d t book lent .trades)) book (clockCall d t book lent .book)
   unfolding written
-  clock-stays d t lent l =
+  clock-stays lent l =
       clock-cases d t book lent (λ o. Stays (take (o .answer .made) (o .trades)) book (o .book))
       (λ _.
       rw (take-at (moved d t book .trades) (drop (length (moved d t book .trades)) lent) (length (moved d t book .trades)) refl)
       (rw (moved-by d t book (passes 33_900 (d .time) t) false refl (not-reached 54_000 (d .time) t l))
-      (go (passes 33_900 (d .time) t))))
-      (λ _ i l n h. refl)
-    where
-      go : (p : Bool) → Stays (both d t book p false .trades) book (both d t book p false .book)
-      go true = unfold hold start in settle-stays (auctionTrades d book)
-      go false = unfold start in λ i l n h. refl
+      (moved-stays (passes 33_900 (d .time) t))))
+      (λ _. none-moves [] book s)

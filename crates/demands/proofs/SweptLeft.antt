@@ -2,30 +2,27 @@
 use Prim.Native.Nat.{ℕ, _+_, _-_, min}
 use mathlib.Core.Path.{_≡_, refl, sym, ap, _∙_}
 use mathlib.Core.Bool.{Bool, true, false, cond, _||_}
-use mathlib.Core.List.{List, [], _∷_, map}
+use mathlib.Core.List.{List, [], _∷_}
 use native.Mathlib.Omega.{arith}
-use lib.ListN.{take}
-use lib.Dec.{eqb}
+use lib.Dec.{leb, eqb}
 use borrow.Author.Tests.{eq-eqb, ne-eqb, eqb-true}
 use Rattle.model.specs.declared.Order.{Order}
 use Rattle.model.specs.declared.Asked.{Asked}
 use Rattle.model.specs.declared.Taker.{Taker}
 use Rattle.model.specs.declared.Day.{Day}
-use Rattle.model.specs.Lists.{among, once}
+use Rattle.model.specs.Lists.{keep, among}
 use Rattle.model.specs.Book.{queue, other}
-use Rattle.model.specs.Matching.{tradeWith, sweep, filled, isIn, filledOf}
+use Rattle.model.specs.Matching.{fiveBest, atFiveBest, tradeWith, sweep, filled, isIn, filledOf}
 use Rattle.model.specs.Figures.{nextNumber}
 use Rattle.model.specs.Entry.{opposite, entryTrades}
 use Rattle.model.proofs.Bools.{not-both}
-use Rattle.book.specs.Standing.{Each, Standing}
+use Rattle.book.specs.Standing.{Each}
 use Rattle.book.proofs.Lists.{each}
 use Rattle.book.proofs.Kept.{New}
 use Rattle.book.proofs.Settlements.{filled-nil, filled-more, filled-none, part, filled-cons}
-use Rattle.matching.specs.Sweeping.{wants, atBest}
-use Rattle.matching.specs.Entering.{mostPrices}
+use Rattle.matching.specs.Sweeping.{wants}
 use Rattle.matching.proofs.Partners.{sweep-nil, sweep-cons}
 use Rattle.matching.proofs.Fills.{is-with}
-use Rattle.matching.proofs.Entries.{opposite-best}
 use Rattle.matching.proofs.EntryLaws.{taker, entry-cases, of-opposite}
 use Rattle.demands.specs.Leaving.{leftIn, Falls}
 use Rattle.demands.proofs.Once.{Once, once-behind, once-first, once-keep, once-queue}
@@ -164,9 +161,9 @@ entry-own-filled d a book =
     entry-cases d a book (λ ts. filledOf (nextNumber d) ts ≡ filled ts) (filled-none (nextNumber d) ∙ sym filled-nil)
     (λ _. own-filled (taker d a book) (a .quantity) (opposite a book))
 
-module _ (d : Day) (a : Asked) (book : List Order) (s : Standing book) (new : New (nextNumber d) book) where
-  pub entry-own-falls : Falls (nextNumber d) (a .quantity) (entryTrades d a book)
-  entry-own-falls =
+module _ (d : Day) (a : Asked) (book : List Order) where
+  pub entry-own-falls : New (nextNumber d) book → Falls (nextNumber d) (a .quantity) (entryTrades d a book)
+  entry-own-falls new =
       entry-cases d a book (λ ts. Falls (nextNumber d) (a .quantity) ts) tt
       (λ _.
       own-falls (taker d a book) (a .quantity) (opposite a book)
@@ -174,12 +171,15 @@ module _ (d : Day) (a : Asked) (book : List Order) (s : Standing book) (new : Ne
       (each (λ (o : Order). o .number ≡ nextNumber d → ⊥) _ book (λ o h _. h) (new .fresh))))
 
   once-opposite : (n had : ℕ) → Once n had book → Once n had (opposite a book)
-  unfolding atBest
-  once-opposite n had k =
-      let os = queue (other (a .side)) book in
-      rw (opposite-best a book s)
-      (once-keep (λ (o : Order). among (take (mostPrices (a .kind)) (once (map (λ (x : Order). x .price) os))) (o .price)) os
-      (once-queue (other (a .side)) book k))
+  unfolding opposite atFiveBest
+  once-opposite n had k = go (leb 3 (a .kind)) (once-queue (other (a .side)) book k)
+    where
+      os : List Order
+      os = queue (other (a .side)) book
+
+      go : (b : Bool) → Once n had os → Once n had (cond b (keep (λ (o : Order). among (fiveBest os) (o .price)) os) os)
+      go true h = once-keep (λ (o : Order). among (fiveBest os) (o .price)) os h
+      go false h = h
 
   pub entry-falls : (n had : ℕ) → (n ≡ nextNumber d → ⊥) → Once n had book → Falls n had (entryTrades d a book)
   entry-falls n had apart k =

@@ -4,7 +4,6 @@ use mathlib.Core.Path.{_≡_}
 use mathlib.Core.Bool.{false}
 use mathlib.Core.List.{List}
 use native.Mathlib.Nat.{lt-of-not-le, not-le-of-lt}
-use lib.ListN.{length}
 use Rattle.model.specs.declared.Order.{Order}
 use Rattle.model.specs.declared.Day.{Day}
 use Rattle.model.specs.Lists.{total}
@@ -81,5 +80,5 @@ module _ (d : Day) (book : List Order) where
         most = w .figures .most;
       }
 
-  pub whole-stands : length book ≤ 4_096 → Whole d book → Standing book
-  whole-stands few w = standing d book few (w .issued) (w .places) (w .apart)
+  pub whole-stands : Whole d book → Standing book
+  whole-stands w = standing d book (w .issued) (w .places) (w .apart)

@@ -13,11 +13,11 @@ use Rattle.model.specs.declared.Day.{Day}
 use Rattle.model.specs.declared.OrderReply as OrderReply
 use Rattle.model.specs.declared.OrderAnswer.{OrderAnswer}
 use Rattle.model.specs.Choice.{if_then_else_}
-use Rattle.model.specs.Book.{standsOn, other}
+use Rattle.model.specs.Book.{standsOn, other, arranged}
 use Rattle.model.specs.Matching.{meets, filled, levels, settle}
 use Rattle.model.specs.Entry.{opposite, entryTrades, restPrice}
 use Rattle.model.specs.Replies.{restingOf, withdrawnOf}
-use Rattle.model.specs.Calls.{Outcome, written, placed, orderCall}
+use Rattle.model.specs.Calls.{Outcome, written, joined, orderCall}
 use Rattle.book.specs.Standing.{Each}
 use Rattle.soundness.specs.Sized.{Sized}
 use Rattle.matching.proofs.Trades.{Some}
@@ -38,12 +38,16 @@ pub record With (a : Asked) (number : ℕ) (t : Trade) (o : Order) : Type 0 wher
   pub buyer : t .buyer ≡ (if eqb (a .side) 0 then number else o .number)
   pub seller : t .seller ≡ (if eqb (a .side) 0 then o .number else number)
 
--- no buy trades or rests above its limit, no sell below; what rests does so at the price of `restPrice`
+-- no buy trades or rests above its limit, no sell below; what rests does so at the price of `restPrice`, among what the trades
+-- leave of the others, in priority
 pub record WithinLimit (a : Asked) (e : Entry) (ts : List Trade) (book after : List Order) : Type 0 where
   pub partners : Each (λ (t : Trade). Some (With a (e .number) t) book) ts
   pub trades : Each (λ (t : Trade). meets (a .side) (a .price) (t .price) ≡ true) ts
   pub rests : (restingOf (e .remainder) ≡ 0 → ⊥) → meets (a .side) (a .price) (restPrice a ts book) ≡ true
-  pub book-after : after ≡ placed a (e .number) (restingOf (e .remainder)) (restPrice a ts book) (settle ts book)
+  pub book-after :
+      after
+      ≡ arranged (length book)
+      (joined a (e .number) (restingOf (e .remainder)) (restPrice a ts book) (settle ts book))
 
 -- the fills follow priority: it trades with the first of those that it may trade with, one after the other
 abbrev pub InPriority : Asked → List Order → List Trade → Type 0

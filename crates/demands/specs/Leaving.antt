@@ -1,6 +1,6 @@
 -- Demand 2, what is left after each fill: the left numbers that an event's trades give for an order fall from what it had by what
 -- each trade fills, and the last of them is what stands in the book afterwards.
-use Prim.Native.Nat.{ℕ, _+_, _<_}
+use Prim.Native.Nat.{ℕ, _+_, _≤_, _<_}
 use mathlib.Core.Path.{_≡_}
 use mathlib.Core.Bool.{true, false}
 use mathlib.Core.List.{List, [], _∷_}
@@ -16,14 +16,14 @@ use Rattle.model.specs.declared.OrderAnswer.{OrderAnswer}
 use Rattle.model.specs.declared.ClockAnswer.{ClockAnswer}
 use Rattle.model.specs.Choice.{if_then_else_}
 use Rattle.model.specs.Book.{free}
-use Rattle.model.specs.Matching.{isIn, settle}
+use Rattle.model.specs.Matching.{isIn}
 use Rattle.model.specs.Entry.{restPrice}
 use Rattle.model.specs.Replies.{restingOf, withdrawnOf}
 use Rattle.model.specs.Calls.{Outcome, orderCall}
 use Rattle.model.specs.ClockCall.{clockCall}
 use Rattle.book.specs.Standing.{Each}
-use Rattle.book.specs.Places.{lowestFree}
 use Rattle.demands.specs.Pricing.{Sound}
+use Rattle.demands.specs.Owning.{StandsOnce}
 
 -- what a trade leaves of the order with this number, which has part in it
 unfoldable pub leftIn : ℕ → Trade → ℕ
@@ -41,12 +41,11 @@ unfoldable pub lastLeft : ℕ → ℕ → List Trade → ℕ
 lastLeft n had [] = had
 lastLeft n had (t ∷ ts) = lastLeft n (if isIn n t then leftIn n t else had) ts
 
--- an order of which q are left stands at its place with q shares, or, where nothing is left, at no place
-pub record Stands (place q : ℕ) (o : Order) (after : List Order) : Type 0 where
+-- an order of which q are left stands once, with q shares, or, where nothing is left, at no place
+pub record Stands (q : ℕ) (o : Order) (after : List Order) : Type 0 where
   pub some :
       (q ≡ 0 → ⊥)
-      → getD after place free
-      ≡ record { side = o .side; account = o .account; left = q; price = o .price; number = o .number }
+      → StandsOnce (record { side = o .side; account = o .account; left = q; price = o .price; number = o .number }) after
   pub none : q ≡ 0 → Each (λ (p : Order). p .number ≡ o .number → ⊥) after
 
 -- of every resting order
@@ -58,17 +57,24 @@ EachStands ts book after =
     (i : ℕ)
     → i < length book
     → (getD book i free .number ≡ 0 → ⊥)
-    → Stands i (lastLeft (getD book i free .number) (getD book i free .left) ts) (getD book i free) after
+    → Stands (lastLeft (getD book i free .number) (getD book i free .left) ts) (getD book i free) after
 
--- of the order that comes in: the last number is what rests of it or is withdrawn; what rests stands at the lowest place that is
--- free after its trades, and where nothing rests it stands at no place
+-- of the order that comes in: the last number is what rests of it or is withdrawn; what rests stands behind all others of its
+-- side at its price, and where nothing rests it stands at no place
 pub record Incoming (a : Asked) (e : Entry) (ts : List Trade) (book after : List Order) : Type 0 where
   pub falls : Falls (e .number) (a .quantity) ts
   pub last : lastLeft (e .number) (a .quantity) ts ≡ restingOf (e .remainder) + withdrawnOf (e .remainder)
   pub stands :
-      Stands (lowestFree (settle ts book)) (restingOf (e .remainder))
+      Stands (restingOf (e .remainder))
       (record { side = a .side; account = a .account; left = a .quantity; price = restPrice a ts book; number = e .number })
       after
+  pub behind :
+      (n : restingOf (e .remainder) ≡ 0 → ⊥) (i : ℕ)
+      → i < length after
+      → (getD after i free .number ≡ 0 → ⊥)
+      → getD after i free .side ≡ a .side
+      → getD after i free .price ≡ restPrice a ts book
+      → i ≤ stands .some n .place
 
 pub record Leaving : Type 0 where
   pub order :

@@ -8,4 +8,6 @@ pub mod Entering
 pub mod Totalling
 pub mod Owning
 pub mod Leaving
+pub mod Ordering
+pub mod Older
 pub mod Starred

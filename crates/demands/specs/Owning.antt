@@ -1,10 +1,10 @@
 -- Demand 2: a cancel takes out only the live order with that number and account, and no event touches an order that its
 -- trades do not name.
-use Prim.Native.Nat.{ℕ, _≤_, _<_}
+use Prim.Native.Nat.{ℕ, suc, _≤_, _<_}
 use mathlib.Core.Path.{_≡_}
 use mathlib.Core.Bool.{false}
-use mathlib.Core.List.{List}
-use lib.ListN.{length, getD, take, set}
+use mathlib.Core.List.{List, [], _∷_, _++_}
+use lib.ListN.{length, getD, take, drop}
 use Rattle.model.specs.declared.Order.{Order}
 use Rattle.model.specs.declared.Asked.{Asked}
 use Rattle.model.specs.declared.Trade.{Trade}
@@ -19,7 +19,8 @@ use Rattle.model.specs.ClockCall.{clockCall}
 use Rattle.book.specs.Standing.{Each}
 use Rattle.demands.specs.Pricing.{Sound}
 
--- one place has the number and the account, and no other has the number; that one is set free and every other stays
+-- one place has the number and the account, and no other has the number; that one is taken out, those behind it move up by one
+-- place, and the last place becomes free
 pub record TakesOut (account number shares : ℕ) (book after : List Order) : Type 0 where
   pub place : ℕ
   pub inside : place < length book
@@ -29,16 +30,23 @@ pub record TakesOut (account number shares : ℕ) (book after : List Order) : Ty
   pub its-shares : getD book place free .left ≡ shares
   pub some : 1 ≤ shares
   pub only : (i : ℕ) → i < length book → getD book i free .number ≡ number → i ≡ place
-  pub set-free : after ≡ set book place free
+  pub taken-out : after ≡ take place book ++ (drop (suc place) book ++ (free ∷ []))
 
--- where an order rests and none of these trades names its number, its place stays as it was
+-- an order stands at one place of a book, and no other place has its number
+pub record StandsOnce (o : Order) (book : List Order) : Type 0 where
+  pub place : ℕ
+  pub inside : place < length book
+  pub there : getD book place free ≡ o
+  pub only : (i : ℕ) → i < length book → getD book i free .number ≡ o .number → i ≡ place
+
+-- where an order rests and none of these trades names its number, it stands afterwards once, as it was
 abbrev pub Stays : List Trade → List Order → List Order → Type 0
 Stays ts book after =
     (i : ℕ)
     → i < length book
     → (getD book i free .number ≡ 0 → ⊥)
     → Each (λ (t : Trade). isIn (getD book i free .number) t ≡ false) ts
-    → getD after i free ≡ getD book i free
+    → StandsOnce (getD book i free) after
 
 pub record OwnOnly : Type 0 where
   pub cancel :

@@ -12,7 +12,7 @@ use Rattle.model.specs.declared.ListReply as ListReply
 use Rattle.model.specs.declared.Boundary.{Boundary}
 use Rattle.model.specs.Lists.{among}
 use Rattle.model.specs.Clock.{passes, boundaries}
-use Rattle.model.specs.Book.{standsOn, queue}
+use Rattle.model.specs.Book.{standsOn, queue, arranged}
 use Rattle.model.specs.Matching.{filled, filledOf, settle}
 use Rattle.model.specs.Figures.{reference}
 use Rattle.model.specs.Auction.{volume, qualifying, leftBy}
@@ -66,7 +66,7 @@ pub record TradesThere (d : Day) (book : List Order) (ts : List Trade) : Type 0 
       Each (λ (o : Order). filledOf (o .number) ts ≡ granted (o .number) (cut (volume book (auctionPrice d book)) (queue 1 book)))
       (queue 1 book)
   pub none : qualifying book ≡ [] → ts ≡ []
-  pub after : NoneReach (settle ts book)
+  pub after : NoneReach (arranged (length book) (settle ts book))
 
 -- each auction that a move of the clock holds trades there, with the day and the book as they stand then
 abbrev pub EachAuction : ℕ → ℕ → List Boundary → Held → Type 0

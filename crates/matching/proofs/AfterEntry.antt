@@ -3,7 +3,7 @@
 use Prim.Native.Nat.{ℕ, _-_, _≤_, _<_}
 use mathlib.Core.Path.{_≡_, refl, sym, ap, _∙_, subst}
 use mathlib.Core.Bool.{Bool, true, false, cond, _||_}
-use mathlib.Core.List.{List}
+use mathlib.Core.List.{List, _∷_}
 use mathlib.Core.Logic.{_⊎_, inl, inr}
 use native.Mathlib.Omega.{arith}
 use lib.Dec.{leb, eqb}
@@ -15,10 +15,10 @@ use Rattle.model.specs.declared.Taker.{Taker}
 use Rattle.model.specs.declared.Day.{Day}
 use Rattle.model.specs.Clock.{phaseAt, continuous}
 use Rattle.model.specs.Book.{queue, best, other}
-use Rattle.model.specs.Matching.{meets, within, sweep, filled, filledOf, lastPrice, settle, rest}
+use Rattle.model.specs.Matching.{meets, within, sweep, filled, filledOf, lastPrice, settle}
 use Rattle.model.specs.Entry.{bestWithin, entryPrice, opposite, entryTrades, restPrice}
 use Rattle.model.specs.Sound.{crosses}
-use Rattle.model.specs.Calls.{placed}
+use Rattle.model.specs.Calls.{joined}
 use Rattle.book.specs.Standing.{Each, Standing}
 use Rattle.book.specs.Priority.{rank}
 use Rattle.book.proofs.Lists.{each, each-append}
@@ -29,7 +29,7 @@ use Rattle.book.proofs.Crossing.{
   not-crossed,
   uncrossed-settle,
   Unmet,
-  uncrossed-rest,
+  uncrossed-with,
   best-unmet,
   unmet-within,
   unmet-settle,
@@ -41,7 +41,7 @@ use Rattle.matching.proofs.Tallies.{worsens-levels}
 use Rattle.matching.proofs.Trades.{Deal, each-trade}
 use Rattle.matching.proofs.Leftovers.{Gone, left-over, Front, cut-front}
 use Rattle.matching.proofs.Entries.{as-sweep, no-price}
-use Rattle.matching.proofs.EntryLaws.{meets-through, last-has, entry-allowed, only-five, taker, remainder}
+use Rattle.matching.proofs.EntryLaws.{meets-through, last-has, entry-allowed, only-five, taker, remainder, ordersThen}
 
 -- ---- prices that do not meet
 
@@ -243,8 +243,8 @@ module _ (d : Day) (a : Asked) (book : List Order) (standing : Standing book) (n
       → a .side ≤ 1
       → a .kind ≤ 4
       → crosses book ≡ false
-      → crosses (placed a number (a .quantity - filled ts) (restPrice a ts book) (settle ts book)) ≡ false
-  unfolding placed
+      → crosses (ordersThen d a book number) ≡ false
+  unfolding joined
   entered-uncrossed number side kind c =
       go (eqb (a .quantity - filled ts) 0) refl (eqb (restPrice a ts book) 0) refl
     where
@@ -256,22 +256,12 @@ module _ (d : Day) (a : Asked) (book : List Order) (standing : Standing book) (n
           → eqb (a .quantity - filled ts) 0 ≡ b
           → (e : Bool)
           → eqb (restPrice a ts book) 0 ≡ e
-          → crosses
-          (cond (b || e) (settle ts book)
-          (rest
-          (remainder d a book number)
-          (settle ts book)))
-          ≡ false
+          → crosses (cond (b || e) (settle ts book) (remainder d a book number ∷ settle ts book)) ≡ false
       go true x e y = not-crossed (settle ts book) (uncrossed-settle ts book u)
       go false x true y = not-crossed (settle ts book) (uncrossed-settle ts book u)
       go false x false y =
           let some : a .quantity - filled ts ≡ 0 → ⊥ = eqb-false (a .quantity - filled ts) 0 x in
-          not-crossed
-          (rest
-          (remainder d a book number)
-          (settle ts book))
-          (uncrossed-rest
-          (remainder d a book number)
-          (settle ts book)
+          not-crossed (remainder d a book number ∷ settle ts book)
+          (uncrossed-with (remainder d a book number) (settle ts book)
           (rest-unmet side kind u (omega arith) (eqb-false (restPrice a ts book) 0 y))
           (uncrossed-settle ts book u))

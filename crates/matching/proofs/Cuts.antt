@@ -14,11 +14,11 @@ use Rattle.model.specs.Book.{standsOn, queue}
 use Rattle.model.specs.Matching.{fiveBest, atFiveBest}
 use Rattle.book.specs.Standing.{Each, Standing}
 use Rattle.book.specs.Priority.{rank, key}
-use Rattle.book.proofs.Lists.{keep-true, keep-none, every, length-keep}
+use Rattle.book.proofs.Lists.{keep-true, keep-none, keep-same, every, length-keep}
 use Rattle.book.proofs.Sorting.{Rising}
 use Rattle.book.proofs.Queues.{Stands, key-on, rank-apart, queue-rising, queue-stands, queue-length}
 use Rattle.matching.specs.Sweeping.{atBest}
-use Rattle.matching.proofs.Prices.{once-again, once-new, among-here, among-later, among-none, keep-same}
+use Rattle.matching.proofs.Prices.{once-again, once-new, among-here, among-later, among-none}
 
 -- ---- the cut
 
@@ -65,42 +65,6 @@ pub cut-away :
 unfolding cutSame cutLevels
 cut-away zero p o os e = rw (ne-eqb (o .price) p e)
 cut-away (suc n) p o os e = rw (ne-eqb (o .price) p e)
-
--- the next order is taken, or cut off where its price would be one too many
-module _ (most levels last : ℕ) (o : Order) (os : List Order) where
-  -- how many prices there are with its own
-  abbrev with-it : Bool → ℕ
-  with-it b = cond b levels (levels + 1)
-
-  pub cut-next :
-      with-it (eqb (o .price) last) ≤ most
-      → cutSame (most - levels) last (o ∷ os) ≡ o ∷ cutSame (most - with-it (eqb (o .price) last)) (o .price) os
-  cut-next = go (eqb (o .price) last) refl
-    where
-      go :
-          (b : Bool)
-          → eqb (o .price) last ≡ b
-          → with-it b ≤ most
-          → cutSame (most - levels) last (o ∷ os) ≡ o ∷ cutSame (most - with-it b) (o .price) os
-      go true f h =
-          let same : o .price ≡ last = eqb-true (o .price) last f in
-          cut-here (most - levels) last o os same ∙ ap (λ (p : ℕ). o ∷ cutSame (most - levels) p os) (sym same)
-      go false f h =
-          let one : most - levels ≡ suc (most - (levels + 1)) = omega arith in
-          ap (λ (n : ℕ). cutSame n last (o ∷ os)) one
-          ∙ cut-away (suc (most - (levels + 1))) last o os (eqb-false (o .price) last f)
-          ∙ levels-cons (most - (levels + 1)) o os
-
-  pub cut-end : levels ≤ most → most < with-it (eqb (o .price) last) → cutSame (most - levels) last (o ∷ os) ≡ []
-  cut-end few = go (eqb (o .price) last) refl
-    where
-      go : (b : Bool) → eqb (o .price) last ≡ b → most < with-it b → cutSame (most - levels) last (o ∷ os) ≡ []
-      go true f h = absurd (omega arith)
-      go false f h =
-          let none : most - levels ≡ 0 = omega arith in
-          ap (λ (n : ℕ). cutSame n last (o ∷ os)) none
-          ∙ cut-away 0 last o os (eqb-false (o .price) last f)
-          ∙ levels-none (o ∷ os)
 
 -- before the first price no order goes on at one
 pub cut-from :
@@ -271,10 +235,9 @@ cut-all zero (o ∷ os) h = absurd (not-suc-le-zero h)
 cut-all (suc n) [] h = refl
 cut-all (suc n) (o ∷ os) h = ap (λ (l : List Order). o ∷ l) (cut-same-all n (o .price) os (le-of-suc-le-suc h))
 
--- a bound that no book reaches cuts nothing
-pub unbounded : (side : ℕ) (book : List Order) → Standing book → atBest 4_096 (queue side book) ≡ queue side book
-unbounded side book s =
-    let short : length (queue side book) ≤ 4_096 =
-    omega (arith, queue-length side book, length-keep (standsOn side) book, s .few)
-    in
-    sym (cut-best side 0 4_096 (queue side book) (queue-worsens side book s)) ∙ cut-all 4_096 (queue side book) short
+-- a bound that the book does not reach cuts nothing
+pub unbounded :
+    (side n : ℕ) (book : List Order) → Standing book → length book ≤ n → atBest n (queue side book) ≡ queue side book
+unbounded side n book s h =
+    let short : length (queue side book) ≤ n = omega (arith, queue-length side book, length-keep (standsOn side) book) in
+    sym (cut-best side 0 n (queue side book) (queue-worsens side book s)) ∙ cut-all n (queue side book) short

@@ -1,9 +1,10 @@
 -- An order on entry: its prices through the best prices as numbers, and its trades as one sweep.
-use Prim.Native.Nat.{ℕ, _+_}
+use Prim.Native.Nat.{ℕ, _+_, _≤_}
 use mathlib.Core.Path.{_≡_, refl, sym, ap, _∙_}
 use mathlib.Core.Bool.{Bool, true, false, cond, and-false}
 use mathlib.Core.List.{List, []}
 use native.Mathlib.Numerals.{add-one}
+use lib.ListN.{length}
 use lib.Dec.{leb, eqb}
 use borrow.Author.Tests.{eq-eqb, ne-eqb}
 use Rattle.model.specs.declared.Order.{Order}
@@ -11,15 +12,16 @@ use Rattle.model.specs.declared.Asked.{Asked}
 use Rattle.model.specs.declared.Trade.{Trade}
 use Rattle.model.specs.declared.Taker.{Taker}
 use Rattle.model.specs.declared.Day.{Day}
+use Rattle.model.specs.Choice.{if_then_else_}
 use Rattle.model.specs.Clock.{phaseAt, continuous}
 use Rattle.model.specs.Book.{queue, best, other}
 use Rattle.model.specs.Matching.{sweep, atFiveBest, filled, lastPrice}
 use Rattle.model.specs.Figures.{nextNumber}
 use Rattle.model.specs.Entry.{bestWithin, entryPrice, opposite, entryTrades, restPrice}
 use Rattle.book.specs.Rows.{tradeRows}
-use Rattle.book.specs.Standing.{Standing}
-use Rattle.book.specs.Writing.{front}
-use Rattle.book.proofs.Written.{front-nil}
+use Rattle.book.specs.Standing.{Standing, Ranked}
+use Rattle.book.specs.Writing.{fitted}
+use Rattle.book.proofs.Written.{fitted-nil}
 use Rattle.matching.specs.declared.Swept.{Swept}
 use Rattle.matching.specs.Sweeping.{atBest, comesTo}
 use Rattle.matching.specs.Entering.{bestFor, entryAt, restAt, mostPrices}
@@ -79,17 +81,21 @@ module _ (a : Asked) (book : List Order) where
 
   -- ---- the orders that it may trade with
 
+  -- those at five prices, or at as many as the book can have
   pub opposite-best :
-      Standing book → opposite a book ≡ atBest (mostPrices (a .kind)) (queue (other (a .side)) book)
-  unfolding opposite mostPrices
-  opposite-best s = go (leb 3 (a .kind))
+      (most : ℕ)
+      → Standing book
+      → length book ≤ most
+      → opposite a book ≡ atBest (if leb 3 (a .kind) then 5 else most) (queue (other (a .side)) book)
+  unfolding opposite
+  opposite-best most s h = go (leb 3 (a .kind))
     where
       go :
           (b : Bool)
           → cond b (atFiveBest (queue (other (a .side)) book)) (queue (other (a .side)) book)
-          ≡ atBest (cond b 5 4_096) (queue (other (a .side)) book)
+          ≡ atBest (cond b 5 most) (queue (other (a .side)) book)
       go true = sym (five-best (queue (other (a .side)) book))
-      go false = sym (unbounded (other (a .side)) book s)
+      go false = sym (unbounded (other (a .side)) most book s h)
 
 -- ---- the trades
 
@@ -114,39 +120,38 @@ module _ (d : Day) (a : Asked) (book : List Order) (phase : ℕ) (now : phase �
   -- ---- what `enter_trades` gives
 
   -- the tally, and the trade list
-  abbrev Entered : ℕ → Swept → List (List ℕ) → List (List ℕ) → Type 0
-  Entered room s l₀ l = (s ≡ comesTo (entryTrades d a book)) × (l ≡ front room (tradeRows (entryTrades d a book)) l₀)
+  abbrev Entered : Swept → List (List ℕ) → List (List ℕ) → Type 0
+  Entered s l₀ l = (s ≡ comesTo (entryTrades d a book)) × (l ≡ fitted (tradeRows (entryTrades d a book)) l₀)
 
-  none-entered :
-      (room : ℕ) (s : Swept) (l : List (List ℕ)) → entryTrades d a book ≡ [] → s ≡ comesTo [] → Entered room s l l
-  none-entered room s l z e =
-      (e ∙ ap comesTo (sym z), sym (ap (λ (ts : List Trade). front room (tradeRows ts) l) z ∙ front-nil room l))
+  none-entered : (s : Swept) (l : List (List ℕ)) → entryTrades d a book ≡ [] → s ≡ comesTo [] → Entered s l l
+  none-entered s l z e =
+      (e ∙ ap comesTo (sym z), sym (ap (λ (ts : List Trade). fitted (tradeRows ts) l) z ∙ fitted-nil l))
 
-  pub outside : (room : ℕ) (s : Swept) (l : List (List ℕ)) → (phase ≡ 4 → ⊥) → s ≡ comesTo [] → Entered room s l l
-  outside room s l n = none-entered room s l (other-phase n)
+  pub outside : (s : Swept) (l : List (List ℕ)) → (phase ≡ 4 → ⊥) → s ≡ comesTo [] → Entered s l l
+  outside s l n = none-entered s l (other-phase n)
 
   module _ (price : ℕ) (p : price ≡ entryAt a (best (a .side) book) (best (other (a .side)) book)) where
     priced : price ≡ entryPrice a book
     priced = p ∙ sym (entry-price a book)
 
-    pub unpriced : (room : ℕ) (s : Swept) (l : List (List ℕ)) → price ≡ 0 → s ≡ comesTo [] → Entered room s l l
-    unpriced room s l z = none-entered room s l (no-price (sym priced ∙ z))
+    pub unpriced : (s : Swept) (l : List (List ℕ)) → price ≡ 0 → s ≡ comesTo [] → Entered s l l
+    unpriced s l z = none-entered s l (no-price (sym priced ∙ z))
 
     pub entered :
-        (room most : ℕ) (s : Swept) (l₀ l : List (List ℕ)) (t : Taker)
-        → Standing book
+        (most : ℕ) (s : Swept) (l₀ l : List (List ℕ)) (t : Taker)
+        → Ranked book
         → phase ≡ 4
         → (price ≡ 0 → ⊥)
         → t ≡ record { side = a .side; number = d .issued + 1; limit = price }
         → most ≡ mostPrices (a .kind)
         → (s ≡ comesTo (sweep t (a .quantity) (atBest most (queue (other (a .side)) book))))
-        × (l ≡ front room (tradeRows (sweep t (a .quantity) (atBest most (queue (other (a .side)) book)))) l₀)
-        → Entered room s l₀ l
-    unfolding nextNumber
-    entered room most s l₀ l t standing f n e m r =
+        × (l ≡ fitted (tradeRows (sweep t (a .quantity) (atBest most (queue (other (a .side)) book)))) l₀)
+        → Entered s l₀ l
+    unfolding nextNumber mostPrices
+    entered most s l₀ l t ranked f n e m r =
         let all : sweep t (a .quantity) (atBest most (queue (other (a .side)) book)) ≡ entryTrades d a book =
         ap (λ (k : ℕ). sweep t (a .quantity) (atBest k (queue (other (a .side)) book))) m
-        ∙ ap (sweep t (a .quantity)) (sym (opposite-best a book standing))
+        ∙ ap (sweep t (a .quantity)) (sym (opposite-best a book 4_096 (ranked .stands) (ranked .few)))
         ∙ ap (λ (x : Taker). sweep x (a .quantity) (opposite a book))
         (e
         ∙ ap
@@ -157,4 +162,4 @@ module _ (d : Day) (a : Asked) (book : List Order) (phase : ℕ) (now : phase �
         (add-one (d .issued)))
         ∙ sym (as-sweep f (λ z. n (priced ∙ z)))
         in
-        (r .0 ∙ ap comesTo all, r .1 ∙ ap (λ (ts : List Trade). front room (tradeRows ts) l₀) all)
+        (r .0 ∙ ap comesTo all, r .1 ∙ ap (λ (ts : List Trade). fitted (tradeRows ts) l₀) all)

@@ -13,12 +13,14 @@ use Rattle.model.specs.declared.Asked.{Asked}
 use Rattle.model.specs.declared.Trade.{Trade}
 use Rattle.model.specs.declared.Taker.{Taker}
 use Rattle.model.specs.declared.Day.{Day}
+use Rattle.model.specs.Choice.{if_then_else_}
 use Rattle.model.specs.Lists.{keep, total, among, once, different}
 use Rattle.model.specs.Clock.{phaseAt, continuous}
 use Rattle.model.specs.Book.{standsOn, queue, best, other}
 use Rattle.model.specs.Matching.{meets, within, fiveBest, atFiveBest, sweep, filled, filledOf, levels, lastPrice, settle}
 use Rattle.model.specs.Figures.{nextNumber}
 use Rattle.model.specs.Entry.{bestWithin, entryPrice, opposite, entryTrades, restPrice}
+use Rattle.model.specs.Calls.{joined}
 use Rattle.book.specs.Standing.{Each, Standing}
 use Rattle.book.proofs.Lists.{each, every, each-keep, length-keep, total-zero}
 use Rattle.book.proofs.Queues.{queue-length}
@@ -27,8 +29,7 @@ use Rattle.book.proofs.Kept.{New}
 use Rattle.book.proofs.Settlements.{filled-nil, filled-none}
 use Rattle.book.proofs.Shares.{settle-total}
 use Rattle.matching.specs.Sweeping.{atBest}
-use Rattle.matching.specs.Entering.{mostPrices}
-use Rattle.matching.specs.Marks.{SweptBy}
+use Rattle.matching.specs.Settling.{SweptBy}
 use Rattle.matching.proofs.Cuts.{five-best}
 use Rattle.matching.proofs.Partners.{sweep-spent}
 use Rattle.matching.proofs.Trades.{Some, some-each, Deal, each-trade, filled-within, count-within, levels-within}
@@ -172,6 +173,12 @@ module _ (d : Day) (a : Asked) (book : List Order) where
         number = number;
       }
 
+  -- the orders afterwards, what rests of it among them
+  abbrev pub ordersThen : ℕ → List Order
+  ordersThen number =
+      joined a number (a .quantity - filled (entryTrades d a book)) (restPrice a (entryTrades d a book) book)
+      (settle (entryTrades d a book) book)
+
   -- there are none, or they are those of a sweep
   pub entry-cases :
       (P : List Trade → Type 0)
@@ -284,6 +291,10 @@ module _ (d : Day) (a : Asked) (book : List Order) where
   -- ---- what they fill, in a book that stands
 
   module _ (standing : Standing book) (new : New (nextNumber d) book) where
+    -- at how many prices it may trade
+    abbrev most : ℕ
+    most = if leb 3 (a .kind) then 5 else length book
+
     -- what rests afterwards and what was traded are what rested before
     pub entry-shares :
         total (λ o. o .left) (settle (entryTrades d a book) book) + filled (entryTrades d a book)
@@ -292,8 +303,8 @@ module _ (d : Day) (a : Asked) (book : List Order) where
         entry-cases (λ ts. total (λ o. o .left) (settle ts book) + filled ts ≡ total (λ o. o .left) book)
         none
         (λ n.
-        rw (opposite-best a book standing)
-        (shares-kept taker (a .quantity) (mostPrices (a .kind)) (other (a .side)) book standing new))
+        rw (opposite-best a book (length book) standing (omega arith))
+        (shares-kept taker (a .quantity) most (other (a .side)) book standing new))
       where
         none : total (λ o. o .left) (settle [] book) + filled [] ≡ total (λ o. o .left) book
         none =
@@ -323,8 +334,8 @@ module _ (d : Day) (a : Asked) (book : List Order) where
         record {
           taker = taker;
           quantity = a .quantity;
-          prices = mostPrices (a .kind);
+          prices = most;
           its-side = refl;
           fresh = new .fresh;
-          trades = ap (sweep taker (a .quantity)) (opposite-best a book standing);
+          trades = ap (sweep taker (a .quantity)) (opposite-best a book (length book) standing (omega arith));
         })

@@ -4,15 +4,12 @@ pub mod Cuts
 pub mod Partners
 pub mod Tallies
 pub mod Sweeps
-pub mod Outcome
 pub mod Entries
 pub mod Situations
 pub mod Trades
 pub mod Fills
 pub mod Leftovers
+pub mod Fronts
 pub mod EntryLaws
 pub mod AfterEntry
-pub mod Marks
-pub mod MarkedBook
-pub mod LastTrade
 pub mod EntryKept

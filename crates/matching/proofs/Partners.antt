@@ -1,19 +1,27 @@
--- Whom a taker trades with next, and the trade with it.
+-- Which side a taker meets, whether it trades with an order, and the trade with it.
 use Prim.Native.Nat.{ℕ, _-_, _≤_, _<_, min}
 use mathlib.Core.Path.{_≡_, refl, ap, _∙_}
 use mathlib.Core.Bool.{Bool, true, false, cond, _&&_}
 use mathlib.Core.List.{List, [], _∷_}
 use native.Mathlib.Omega.{arith}
-use lib.Dec.{ltb}
-use borrow.Author.Tests.{eq-eqb, ne-eqb, lt-ltb, le-ltb, ltb-true}
+use lib.Dec.{ltb, eqb}
+use borrow.Author.Tests.{eq-eqb, ne-eqb, lt-ltb, le-ltb}
 use Rattle.model.specs.declared.Order.{Order}
 use Rattle.model.specs.declared.Trade.{Trade}
 use Rattle.model.specs.declared.Taker.{Taker}
+use Rattle.model.specs.Book.{other}
 use Rattle.model.specs.Matching.{meets, tradeWith, sweep}
-use Rattle.book.specs.declared.Next.{Next}
-use Rattle.book.specs.declared.Next.the-variants.{At, Nothing}
-use Rattle.book.specs.Priority.{nextOf}
-use Rattle.matching.specs.Sweeping.{wants, ifWanted, partnerOf}
+use Rattle.matching.specs.Sweeping.{wants}
+
+-- ---- the other side
+
+pub other-small : (side : ℕ) {r : ℕ} → r ≡ other side → r ≤ 1
+unfolding other
+other-small side e = rw e (go (eqb side 0))
+  where
+    go : (b : Bool) → cond b 1 0 ≤ 1
+    go true = omega arith
+    go false = omega arith
 
 -- ---- whether it trades
 
@@ -42,14 +50,6 @@ wants-allows t q p e = go (ltb 0 q) (allows t p) e
     go true b e = e
     go false b e = let z : _≡_ {A = ℕ} 0 1 = cc in absurd (omega arith)
 
-pub wants-some : (t : Taker) (q p : ℕ) → wants t q p ≡ true → 0 < q
-unfolding wants
-wants-some t q p e = go (ltb 0 q) refl e
-  where
-    go : (b : Bool) → ltb 0 q ≡ b → b && allows t p ≡ true → 0 < q
-    go true f e = ltb-true 0 q f
-    go false f e = let z : _≡_ {A = ℕ} 0 1 = cc in absurd (omega arith)
-
 -- ---- the sweep, one order at a time
 
 pub sweep-nil : (t : Taker) (q : ℕ) → sweep t q [] ≡ []
@@ -76,27 +76,6 @@ sweep-one t q o os e = sweep-cons t q o os ∙ rw e
 pub sweep-spent : (t : Taker) (os : List Order) → sweep t 0 os ≡ []
 sweep-spent t [] = sweep-nil t 0
 sweep-spent t (o ∷ os) = sweep-none t 0 o os (wants-nothing t 0 (o .price) refl)
-
--- ---- with whom
-
-module _ (t : Taker) (q : ℕ) {n : Next} where
-  pub nobody : n ≡ Nothing → Nothing ≡ ifWanted t q n
-  unfolding ifWanted
-  nobody e = rw e
-
-  module _ {o : Order} {k : ℕ} (e : n ≡ At o k) where
-    pub wanted : wants t q (o .price) ≡ true → At o k ≡ ifWanted t q n
-    unfolding ifWanted
-    wanted w = rw (e, w)
-
-    pub unwanted : wants t q (o .price) ≡ false → Nothing ≡ ifWanted t q n
-    unfolding ifWanted
-    unwanted w = rw (e, w)
-
--- the first of a queue is asked
-pub first-asked : (t : Taker) (q : ℕ) (rest : List Order) {n r : Next} → n ≡ nextOf rest → r ≡ ifWanted t q n → r ≡ partnerOf t q rest
-unfolding partnerOf
-first-asked t q rest e f = f ∙ ap (ifWanted t q) e
 
 -- ---- the trade
 

@@ -9,7 +9,7 @@ use lib.Dec.{eqb}
 use borrow.Author.Tests.{eq-eqb, ne-eqb, eqb-true, not-false}
 use Rattle.model.specs.Lists.{keep, any, among, once, different}
 use Rattle.book.specs.Standing.{Each}
-use Rattle.book.proofs.Lists.{keep-false, keep-keep, keep-all, both, each, each-keep, kept}
+use Rattle.book.proofs.Lists.{keep-false, keep-keep, keep-all, keep-same, both, each, each-keep, kept}
 use Rattle.book.proofs.Sorting.{Distinct}
 
 -- not this price
@@ -49,14 +49,6 @@ each-once P (p ∷ ps) e = (e .0, each-keep P (λ y. not (eqb p y)) (once ps) (e
 and-same : (a : Bool) → a && a ≡ a
 and-same true = refl
 and-same false = refl
-
--- two tests that agree keep the same
-pub keep-same : {A : Type 0} (p q : A → Bool) (xs : List A) → Each (λ x. p x ≡ q x) xs → keep p xs ≡ keep q xs
-unfolding keep
-keep-same p q [] e = refl
-keep-same {A} p q (x ∷ xs) e =
-    ap (λ (b : Bool). cond b (x ∷ keep p xs) (keep p xs)) (e .0)
-    ∙ ap (λ (l : List A). cond (q x) (x ∷ l) l) (keep-same p q xs (e .1))
 
 -- a price that comes again adds none
 pub once-again : (p r : ℕ) (ps : List ℕ) → r ≡ p → once (p ∷ r ∷ ps) ≡ once (p ∷ ps)

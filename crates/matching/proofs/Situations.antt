@@ -11,7 +11,7 @@ use Rattle.model.specs.declared.Remainder.the-variants.{Rests, Withdrawn}
 use Rattle.model.specs.declared.OrderReply.the-variants.{Accepted}
 use Rattle.model.specs.Lists.{keep, all, any, total, among, once, different}
 use Rattle.model.specs.Clock.{closed, laterRows, holding, rowAt, phaseAt, takesOrders, continuous, isTime}
-use Rattle.model.specs.Book.{free, isLive, standsOn, better, ahead, insert, inPriority, queue, other, headPrice, best}
+use Rattle.model.specs.Book.{free, isLive, standsOn, better, ahead, insert, inPriority, queue, other, headPrice, best, arranged, mayFollow, inOrder}
 use Rattle.model.specs.Matching.{
   meets,
   within,
@@ -27,7 +27,6 @@ use Rattle.model.specs.Matching.{
   filledOf,
   lessBy,
   settle,
-  rest,
 }
 use Rattle.model.specs.Limits.{isPrice, isQuantity, inBand}
 use Rattle.model.specs.Figures.{nextNumber, issue, tally, money}
@@ -46,18 +45,19 @@ use Rattle.model.specs.Sound.{
   sharesFit,
   pricesFit,
   turnoverFits,
+  soundAnywhere,
   sound,
 }
 use Rattle.model.specs.Refusals.{_when_, firstOf, unsound}
-use Rattle.model.specs.Calls.{orderRules, ended, placed, entered, orderCall}
+use Rattle.model.specs.Calls.{orderRules, ended, joined, entered, orderCall}
 use Rattle.book.specs.Standing.{Each}
 
--- sells of 100 at 1001 to 1006, not in order, and two free places
+-- sells of 100 at 1001 to 1006, and two free places
 abbrev sell : ℕ → ℕ → Order
 sell price number = record { side = 1; account = 8; left = 100; price = price; number = number }
 
 abbrev book : List Order
-book = sell 1003 3 ∷ sell 1001 1 ∷ free ∷ sell 1002 2 ∷ sell 1006 6 ∷ sell 1005 5 ∷ sell 1004 4 ∷ free ∷ []
+book = sell 1001 1 ∷ sell 1002 2 ∷ sell 1003 3 ∷ sell 1004 4 ∷ sell 1005 5 ∷ sell 1006 6 ∷ free ∷ free ∷ []
 
 abbrev day : Day
 day = record { close = 1000; limited = 1; time = 34_200; issued = 6; shares = 0; turnover = 0; first = 0; last = 0 }
@@ -93,5 +93,5 @@ Holds s =
     × (best 0 (orderCall day (buy (s .kind) (s .limit)) book lent .book) ≡ s .at)
 
 pub situations : Each Holds table
-unfolding keep all any total among once different closed laterRows holding rowAt phaseAt takesOrders continuous isTime free isLive standsOn better ahead insert inPriority queue other headPrice best meets within fiveBest atFiveBest tradeWith sweep filled levels lastPrice firstPrice isIn filledOf lessBy settle rest isPrice isQuantity inBand nextNumber issue tally money bestWithin entryPrice opposite entryTrades restPrice hasPlaces isMark mayStand soundFigures isFree isOrder ownNumbers isEmpty crosses between sharesFit pricesFit turnoverFits sound _when_ firstOf unsound orderRules ended placed entered orderCall
+unfolding keep all any total among once different closed laterRows holding rowAt phaseAt takesOrders continuous isTime free isLive standsOn better ahead insert inPriority queue other headPrice best arranged mayFollow inOrder meets within fiveBest atFiveBest tradeWith sweep filled levels lastPrice firstPrice isIn filledOf lessBy settle isPrice isQuantity inBand nextNumber issue tally money bestWithin entryPrice opposite entryTrades restPrice hasPlaces isMark mayStand soundFigures isFree isOrder ownNumbers isEmpty crosses between sharesFit pricesFit turnoverFits soundAnywhere sound _when_ firstOf unsound orderRules ended joined entered orderCall
 situations = ((refl, refl), ((refl, refl), ((refl, refl), tt)))

@@ -17,12 +17,22 @@ use Rattle.model.specs.Matching.{tradeWith, sweep, filled, levels, lastPrice}
 use Rattle.book.specs.Standing.{Each, Standing}
 use Rattle.book.specs.Priority.{rank}
 use Rattle.matching.specs.declared.Swept.{Swept}
-use Rattle.matching.specs.Sweeping.{wants, comesTo, pricesWith, withTrade}
+use Rattle.matching.specs.Sweeping.{wants, comesTo}
 use Rattle.matching.proofs.Prices.{once-again, once-new}
 use Rattle.matching.proofs.Cuts.{cutSame, cutLevels, Worsens, pricesOf, queue-worsens, no-return, worse}
 use Rattle.matching.proofs.Partners.{sweep-cons, sweep-nil}
 
 -- ---- counted one at a time
+
+-- one trade more: its price is the last one, or one more
+unfoldable pub withTrade : Swept → Trade → Swept
+withTrade s t =
+    record {
+      trades = s .trades + 1;
+      filled = s .filled + t .quantity;
+      levels = cond (eqb (t .price) (s .last)) (s .levels) (s .levels + 1);
+      last = t .price;
+    }
 
 unfoldable pub counted : Swept → List Trade → Swept
 counted s [] = s
@@ -65,7 +75,7 @@ in-one-go :
       levels = s .levels + changes (s .last) (paid ts);
       last = lastPrice (s .last) ts;
     }
-unfolding counted changes filled total lastPrice pricesWith withTrade
+unfolding counted changes filled total lastPrice withTrade
 in-one-go s [] = swept-path _ _ _ _ _ _ _ _ (omega arith) (omega arith) (omega arith) refl
 in-one-go s (t ∷ ts) =
     in-one-go (withTrade s t) ts

@@ -1,5 +1,5 @@
--- What the functions of continuous trading say: an order on its way through the other side, its prices by its kind, and how far
--- the other side has traded.
+-- What the functions of continuous trading say: an order on its way through the other side, its prices by its kind, and the trades
+-- that the book is settled by.
 pub mod Sweeping
 pub mod Entering
-pub mod Marks
+pub mod Settling

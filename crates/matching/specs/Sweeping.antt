@@ -3,18 +3,14 @@ use Prim.Native.Nat.{ℕ, _+_}
 use mathlib.Core.Bool.{Bool, _&&_}
 use mathlib.Core.List.{List, map}
 use lib.ListN.{length, take}
-use lib.Dec.{ltb, eqb}
+use lib.Dec.{ltb}
 use Rattle.model.specs.declared.Order.{Order}
 use Rattle.model.specs.declared.Trade.{Trade}
 use Rattle.model.specs.declared.Taker.{Taker}
-use Rattle.model.specs.Choice.{if_then_else_}
 use Rattle.model.specs.Lists.{keep, among, once}
 use Rattle.model.specs.Book.{other, queue}
 use Rattle.model.specs.Matching.{meets, sweep, filled, levels, lastPrice}
-use Rattle.book.specs.declared.Next.{Next}
-use Rattle.book.specs.declared.Next.the-variants.{At, Nothing}
 use Rattle.book.specs.Rows.{bookOf}
-use Rattle.book.specs.Priority.{nextOf}
 use Rattle.matching.specs.declared.Swept.{Swept}
 
 -- the n best prices of a queue, and its orders that stand at them
@@ -35,19 +31,10 @@ comesTo ts = record { trades = length ts; filled = filled ts; levels = levels ts
 unfoldable pub wants : Taker → ℕ → ℕ → Bool
 wants t q p = ltb 0 q && meets (t .side) (t .limit) p
 
--- whom it trades with next: the first of the queue, if it wants to
-unfoldable pub ifWanted : Taker → ℕ → Next → Next
-ifWanted t q Nothing = Nothing
-ifWanted t q (At o k) = if wants t q (o .price) then At o k else Nothing
+-- one price more
+unfoldable pub onePrice : Swept → ℕ → Swept
+onePrice s p = record { trades = s .trades; filled = s .filled; levels = s .levels + 1; last = p }
 
-unfoldable pub partnerOf : Taker → ℕ → List Order → Next
-partnerOf t q os = ifWanted t q (nextOf os)
-
--- how many prices there are with this one, which is the last one or one more
-unfoldable pub pricesWith : Swept → ℕ → ℕ
-pricesWith s p = if eqb p (s .last) then s .levels else s .levels + 1
-
--- one trade more
-unfoldable pub withTrade : Swept → Trade → Swept
-withTrade s t =
-    record { trades = s .trades + 1; filled = s .filled + t .quantity; levels = pricesWith s (t .price); last = t .price }
+-- one trade more, at the last price
+unfoldable pub oneTrade : Swept → Trade → Swept
+oneTrade s t = record { trades = s .trades + 1; filled = s .filled + t .quantity; levels = s .levels; last = s .last }

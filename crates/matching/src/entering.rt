@@ -1,27 +1,22 @@
 // What an order does on entry, by its kind: its price, its trades, and where what is left rests.
 ghost use mathlib.Core.Path.{_≡_};
 ghost use Prim.Native.Nat.{_≤_};
-ghost use lib.ListN.{length, set};
 ghost use Rattle.model.specs.Clock.{phaseAt};
 ghost use Rattle.model.specs.Book.{best, other};
 ghost use Rattle.model.specs.Matching as matching;
 ghost use Rattle.model.specs.Entry.{entryTrades};
-ghost use Rattle.book.specs.Rows.{bookOf, rowOf, tradeRows};
-ghost use Rattle.book.specs.Standing.{Standing};
-ghost use Rattle.book.specs.Places.{lowestFree};
-ghost use Rattle.book.specs.Writing.{front};
+ghost use Rattle.book.specs.Rows.{bookOf, tradeRows};
+ghost use Rattle.book.specs.Standing.{Ranked};
+ghost use Rattle.book.specs.Writing.{fitted};
 ghost use Rattle.matching.specs.Sweeping.{comesTo};
 ghost use Rattle.matching.specs.Entering.{bestFor, entryAt, restAt, mostPrices};
 use crate::Swept;
 use crate::sweeping::nothing_yet;
 use crate::sweeping::other_side;
 use crate::sweeping::sweep;
-use book::places::lowest_free;
-use book::priority::best_price;
-use book::put_order;
+use book::seats::best_price;
 use model::Asked;
 use model::Day;
-use model::Order;
 use model::Taker;
 
 // The price itself, or the limit where the price is beyond it.
@@ -83,7 +78,8 @@ fn most_prices(kind: u64) -> u64
 
 // That price in the book: no best price is looked for that the kind does not take.
 fn price_on_entry(rows: &[[u64; 5]], a: Asked) -> u64
-    requires { ⌜ Standing (bookOf (now rows)) ⌝ }
+    requires { ⌜ Ranked (bookOf (now rows)) ⌝ }
+    requires { ⌜ a .side ≤ 1 ⌝ }
     ensures { λ r. ⌜ r ≡ entryAt a (best (a .side) (bookOf (now (rows .entry)))) (best (other (a .side)) (bookOf (now (rows .entry)))) ⌝ }
 {
     if a.kind == 1 {
@@ -99,7 +95,8 @@ fn price_on_entry(rows: &[[u64; 5]], a: Asked) -> u64
 
 // And the price of the rest, from the book on entry.
 pub fn price_of_rest(rows: &[[u64; 5]], a: Asked, s: Swept) -> u64
-    requires { ⌜ Standing (bookOf (now rows)) ⌝ }
+    requires { ⌜ Ranked (bookOf (now rows)) ⌝ }
+    requires { ⌜ a .side ≤ 1 ⌝ }
     ensures { λ r. ⌜ r ≡ restAt a (best (a .side) (bookOf (now (rows .entry)))) (best (other (a .side)) (bookOf (now (rows .entry)))) (s .filled) (s .last) ⌝ }
 {
     if a.kind == 1 {
@@ -117,22 +114,21 @@ pub fn price_of_rest(rows: &[[u64; 5]], a: Asked, s: Swept) -> u64
     rest_price(a, 0, 0, s)
 }
 
-// The trades of an order on entry: none outside continuous trading, none without a price. All are counted, and written
-// while there is room.
+// The trades of an order on entry: none outside continuous trading, none without a price. All are counted; a list that is too short
+// gets the first.
 pub fn enter_trades(
     rows: &[[u64; 5]],
     trades: &mut [[u64; 6]],
-    room: usize,
     d: Day,
     phase: u64,
     a: Asked,
 ) -> Swept
-    requires { ⌜ Standing (bookOf (now rows)) ⌝ }
-    requires { ⌜ room ≤ length (now trades) ⌝ }
+    requires { ⌜ Ranked (bookOf (now rows)) ⌝ }
+    requires { ⌜ a .side ≤ 1 ⌝ }
     requires { ⌜ phase ≡ phaseAt (d .time) ⌝ }
     requires { ⌜ d .issued ≤ 999_999 ⌝ }
     ensures { λ r. ⌜ r ≡ comesTo (entryTrades d a (bookOf (now (rows .entry)))) ⌝ }
-    ensures { λ r. ⌜ now (trades .exit) ≡ front room (tradeRows (entryTrades d a (bookOf (now (rows .entry))))) (now (trades .entry)) ⌝ }
+    ensures { λ r. ⌜ now (trades .exit) ≡ fitted (tradeRows (entryTrades d a (bookOf (now (rows .entry))))) (now (trades .entry)) ⌝ }
 {
     if phase != 4 {
         return nothing_yet();
@@ -146,16 +142,5 @@ pub fn enter_trades(
         number: d.issued + 1,
         limit: price,
     };
-    sweep(rows, &mut *trades, room, t, a.quantity, most_prices(a.kind))
-}
-
-// A new rest goes to the lowest free place; a full book stays as it is.
-pub fn rest_order(rows: &mut [[u64; 5]], o: Order)
-    ensures { λ _. ⌜ now (rows .exit) ≡ set (now (rows .entry)) (lowestFree (bookOf (now (rows .entry)))) (rowOf o) ⌝ }
-    ensures { λ _. ⌜ bookOf (now (rows .exit)) ≡ matching.rest o (bookOf (now (rows .entry))) ⌝ }
-{
-    let place = lowest_free(rows);
-    if place < rows.len() {
-        put_order(&mut *rows, place, o);
-    }
+    sweep(rows, &mut *trades, t, a.quantity, most_prices(a.kind))
 }

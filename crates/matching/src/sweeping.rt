@@ -1,24 +1,19 @@
-// An order on its way through the other side, one resting order after the other. The book stays as it is.
+// An order on its way through the other side: price after price, and at each price order after order. The book stays as it is.
 ghost use mathlib.Core.Path.{_≡_};
-ghost use Prim.Native.Nat.{_+_, _*_, _≤_, _<_, _^_};
+ghost use Prim.Native.Nat.{_+_, _<_, _^_};
 ghost use mathlib.Core.List.{[]};
-ghost use lib.ListN.{length};
-ghost use Rattle.model.specs.Book.{other, queue};
+ghost use Rattle.model.specs.Book.{other};
 ghost use Rattle.model.specs.Matching as matching;
 ghost use Rattle.book.specs.Rows.{bookOf, tradeRows};
-ghost use Rattle.book.specs.Standing.{Standing};
-ghost use Rattle.book.specs.Priority.{beyond};
-ghost use Rattle.book.specs.Tickets.{LineOf};
-ghost use Rattle.book.specs.Writing.{front};
+ghost use Rattle.book.specs.Standing.{Ranked};
+ghost use Rattle.book.specs.Writing.{fitted};
 ghost use Rattle.matching.specs.Sweeping as sweeping;
-ghost use Rattle.matching.specs.Sweeping.{swept, comesTo, ifWanted, partnerOf, pricesWith, withTrade};
+ghost use Rattle.matching.specs.Sweeping.{swept, comesTo, onePrice, oneTrade};
 use crate::Swept;
-use book::Next;
-use book::priority::next_after;
-use book::settling::put_trade_below;
+use book::order_at;
+use book::put_trade;
+use book::seats::places_of;
 use book::smaller;
-use book::tickets::hand_out;
-use book::tickets::next_by_ticket;
 use model::Order;
 use model::Taker;
 use model::Trade;
@@ -48,42 +43,6 @@ fn wants(t: Taker, left: u64, price: u64) -> bool
         return false;
     }
     meets(t.side, t.limit, price)
-}
-
-// The next order, if a taker that wants `left` more trades with it.
-fn if_wanted(t: Taker, left: u64, next: Next) -> Next
-    ensures { λ r. ⌜ r ≡ ifWanted t left next ⌝ }
-{
-    match next {
-        Next::Nothing => Next::Nothing,
-        Next::At { order, key } => {
-            if wants(t, left, order.price) {
-                Next::At { order, key }
-            } else {
-                Next::Nothing
-            }
-        }
-    }
-}
-
-// Whom a taker trades with first, by a walk through the book.
-fn first_partner(rows: &[[u64; 5]], t: Taker, quantity: u64) -> Next
-    requires { ⌜ Standing (bookOf (now rows)) ⌝ }
-    ensures { λ r. ⌜ r ≡ partnerOf t quantity (beyond 0 (queue (other (t .side)) (bookOf (now (rows .entry))))) ⌝ }
-{
-    let next = next_after(rows, other_side(t.side), 0);
-    if_wanted(t, quantity, next)
-}
-
-// Whom it trades with next, behind a key, by tickets.
-fn partner(rows: &[[u64; 5]], tree: &mut [u64], t: Taker, left: u64, after: u64) -> Next
-    requires { ⌜ Standing (bookOf (now rows)) ⌝ }
-    requires { ⌜ LineOf (other (t .side)) (now rows) after (now tree) ⌝ }
-    ensures { λ r. ⌜ r ≡ partnerOf t left (beyond after (queue (other (t .side)) (bookOf (now (rows .entry))))) ⌝ }
-    ensures { λ r. ⌜ LineOf (other (t .side)) (now (rows .entry)) after (now (tree .exit)) ⌝ }
-{
-    let next = next_by_ticket(rows, &mut *tree, after);
-    if_wanted(t, left, next)
 }
 
 // The trade with a partner, at the partner's price, and what it leaves of both.
@@ -126,129 +85,74 @@ pub fn nothing_yet() -> Swept
     }
 }
 
-// How many prices there are with this one. No price is 0, so that of the first trade is one more.
-fn prices_with(s: Swept, price: u64) -> u64
+// One price more.
+fn with_price(s: Swept, price: u64) -> Swept
     requires { ⌜ s .levels + 1 < 2 ^ 64 ⌝ }
-    ensures { λ r. ⌜ r ≡ pricesWith s price ⌝ }
+    ensures { λ r. ⌜ r ≡ onePrice s price ⌝ }
 {
-    if price == s.last {
-        s.levels
-    } else {
-        s.levels + 1
+    Swept {
+        trades: s.trades,
+        filled: s.filled,
+        levels: s.levels + 1,
+        last: price,
     }
 }
 
+// One trade more, at the last price.
 fn with_trade(s: Swept, t: Trade) -> Swept
     requires { ⌜ s .trades + 1 < 2 ^ 64 ⌝ }
     requires { ⌜ s .filled + t .quantity < 2 ^ 64 ⌝ }
-    requires { ⌜ s .levels + 1 < 2 ^ 64 ⌝ }
-    ensures { λ r. ⌜ r ≡ withTrade s t ⌝ }
+    ensures { λ r. ⌜ r ≡ oneTrade s t ⌝ }
 {
     Swept {
         trades: s.trades + 1,
         filled: s.filled + t.quantity,
-        levels: prices_with(s, t.price),
-        last: t.price,
+        levels: s.levels,
+        last: s.last,
     }
 }
 
-// The trades of a taker with the `most` best prices of the other side: all are counted, and written while there is room. The tree is
-// for the other side's tickets.
-fn sweep_line(
-    rows: &[[u64; 5]],
-    tree: &mut [u64],
-    trades: &mut [[u64; 6]],
-    room: usize,
-    t: Taker,
-    quantity: u64,
-    most: u64,
-) -> Swept
-    requires { ⌜ Standing (bookOf (now rows)) ⌝ }
-    requires { ⌜ length (now tree) ≡ 2 * length (now rows) ⌝ }
-    requires { ⌜ room ≤ length (now trades) ⌝ }
-    ensures { λ r. ⌜ r ≡ comesTo (swept t most quantity (now (rows .entry))) ⌝ }
-    ensures { λ r. ⌜ now (trades .exit) ≡ front room (tradeRows (swept t most quantity (now (rows .entry)))) (now (trades .entry)) ⌝ }
-{
-    hand_out(rows, other_side(t.side), &mut *tree);
-    let mut s = nothing_yet();
-    let mut left = quantity;
-    let mut after: u64 = 0;
-    loop {
-        let next = partner(rows, &mut *tree, t, left, after);
-        let Next::At { order, key } = next else {
-            break;
-        };
-        if most < prices_with(s, order.price) {
-            break;
-        }
-        let trade = trade_with(t, left, order);
-        put_trade_below(&mut *trades, room, s.trades, trade);
-        s = with_trade(s, trade);
-        left -= trade.quantity;
-        after = key;
-    }
-    s
-}
-
-// The same with a tree as large as the book needs: to set it to zero takes time.
-fn sweep_tickets(
-    rows: &[[u64; 5]],
-    trades: &mut [[u64; 6]],
-    room: usize,
-    t: Taker,
-    quantity: u64,
-    most: u64,
-) -> Swept
-    requires { ⌜ Standing (bookOf (now rows)) ⌝ }
-    requires { ⌜ room ≤ length (now trades) ⌝ }
-    ensures { λ r. ⌜ r ≡ comesTo (swept t most quantity (now (rows .entry))) ⌝ }
-    ensures { λ r. ⌜ now (trades .exit) ≡ front room (tradeRows (swept t most quantity (now (rows .entry)))) (now (trades .entry)) ⌝ }
-{
-    let size = 2 * rows.len();
-    if size <= 2_048 {
-        let mut small = [0; 2_048];
-        sweep_line(
-            rows,
-            &mut small[..size],
-            &mut *trades,
-            room,
-            t,
-            quantity,
-            most,
-        )
-    } else {
-        let mut large = [0; 8_192];
-        sweep_line(
-            rows,
-            &mut large[..size],
-            &mut *trades,
-            room,
-            t,
-            quantity,
-            most,
-        )
-    }
-}
-
-// The same for every taker: one that trades with nobody needs no tickets.
+// The trades of a taker with the `most` best prices of the other side. All are counted; a list that is too short gets the first.
 pub fn sweep(
     rows: &[[u64; 5]],
     trades: &mut [[u64; 6]],
-    room: usize,
     t: Taker,
     quantity: u64,
     most: u64,
 ) -> Swept
-    requires { ⌜ Standing (bookOf (now rows)) ⌝ }
-    requires { ⌜ room ≤ length (now trades) ⌝ }
+    requires { ⌜ Ranked (bookOf (now rows)) ⌝ }
     ensures { λ r. ⌜ r ≡ comesTo (swept t most quantity (now (rows .entry))) ⌝ }
-    ensures { λ r. ⌜ now (trades .exit) ≡ front room (tradeRows (swept t most quantity (now (rows .entry)))) (now (trades .entry)) ⌝ }
+    ensures { λ r. ⌜ now (trades .exit) ≡ fitted (tradeRows (swept t most quantity (now (rows .entry)))) (now (trades .entry)) ⌝ }
 {
-    let first = first_partner(rows, t, quantity);
-    match first {
-        Next::Nothing => nothing_yet(),
-        Next::At { order: _, key: _ } => {
-            sweep_tickets(rows, &mut *trades, room, t, quantity, most)
+    let line = places_of(rows, other_side(t.side));
+    let end = line.to;
+    let mut at = line.from;
+    let mut left = quantity;
+    let mut s = nothing_yet();
+    'prices: while at < end {
+        let best = order_at(rows, at);
+        let price = best.price;
+        if most <= s.levels {
+            break 'prices;
+        }
+        if !wants(t, left, price) {
+            break 'prices;
+        }
+        s = with_price(s, price);
+        'orders: while at < end {
+            let order = order_at(rows, at);
+            if order.price != price {
+                break 'orders;
+            }
+            if !wants(t, left, price) {
+                break 'prices;
+            }
+            let trade = trade_with(t, left, order);
+            put_trade(&mut *trades, s.trades, trade);
+            s = with_trade(s, trade);
+            left -= trade.quantity;
+            at += 1;
         }
     }
+    s
 }

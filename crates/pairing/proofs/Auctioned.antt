@@ -2,13 +2,11 @@
 use Prim.Native.Nat.{ℕ, _+_, _-_, _*_, _≤_, min}
 use mathlib.Core.Path.{_≡_, refl, sym, ap, ap₂, _∙_}
 use mathlib.Core.Logic.{inl, inr, ⊎-elim}
-use mathlib.Core.Bool.{Bool, true, false}
+use mathlib.Core.Bool.{true}
 use mathlib.Core.List.{List, [], _∷_}
 use native.Mathlib.Nat.{mul-add}
 use native.Mathlib.Omega.{arith}
-use borrow.Author.Tests.{eqb-true}
 use lib.ListN.{length}
-use lib.Dec.{eqb}
 use Rattle.model.specs.declared.Order.{Order}
 use Rattle.model.specs.declared.Trade.{Trade}
 use Rattle.model.specs.Choice.{if_then_else_}
@@ -16,18 +14,21 @@ use Rattle.model.specs.Lists.{keep, total}
 use Rattle.model.specs.Book.{isLive, standsOn, queue}
 use Rattle.model.specs.Matching.{filled, filledOf, firstPrice, lastPrice, settle}
 use Rattle.model.specs.Figures.{money}
-use Rattle.model.specs.Auction.{volume}
+use Rattle.model.specs.Auction.{sharesOf, demand, supply, volume}
 use Rattle.model.specs.Pairing.{cut, tradesAt}
 use Rattle.book.specs.Standing.{Each, Fair, Standing}
 use Rattle.book.proofs.Lists.{both, each, total-same, total-kept}
 use Rattle.book.proofs.Sorting.{Distinct}
-use Rattle.book.proofs.Queues.{Stands, Place, place-of, on-live, queue-stands, queue-length, total-queue}
+use Rattle.book.proofs.Queues.{Stands, Place, place-of, on-live, queue-stands, total-queue}
+use Rattle.book.proofs.Counting.{queues-orders}
 use Rattle.book.proofs.Best.{each-on}
 use Rattle.book.proofs.Shares.{settle-total}
+use Rattle.model.proofs.Bools.{and-left}
+use Rattle.auction.proofs.Sums.{shares-le}
+use Rattle.auction.proofs.Conditions.{volume-is}
 use Rattle.pairing.specs.Granted.{held, granted}
 use Rattle.pairing.proofs.Turns.{pairs, cut-short, fewer-trades}
 use Rattle.pairing.proofs.Waiting.{shares}
-use Rattle.pairing.proofs.Dealing.{volume-buys, volume-sells}
 use Rattle.pairing.proofs.Grants.{Filled, pairs-fill, pairs-at, cut-held, in-both}
 use Rattle.pairing.proofs.Filling.{no-grant, first-grant, later-grants, grants-within}
 use Rattle.book.proofs.Numbers.{times, times-other, none-bears, queue-own}
@@ -79,24 +80,23 @@ module _ (f : Order → ℕ) (none : (o : Order) → o .number ≡ 0 → f o ≡
       ∙ ap₂ _+_ (sym (total-queue f 0 book ∙ total-kept f (standsOn 0) book))
       (sym (total-queue f 1 book ∙ total-kept f (standsOn 1) book))
 
--- a live order stands on one side at most
-live-count : (os : List Order) → length (keep (standsOn 0) os) + length (keep (standsOn 1) os) ≤ length (keep isLive os)
-unfolding keep standsOn
-live-count [] = omega arith
-live-count (o ∷ os) = go (isLive o) (eqb (o .side) 0) (eqb (o .side) 1) refl refl refl (live-count os)
-  where
-    go :
-        (l b c : Bool)
-        → isLive o ≡ l
-        → eqb (o .side) 0 ≡ b
-        → eqb (o .side) 1 ≡ c
-        → length (keep (standsOn 0) os) + length (keep (standsOn 1) os) ≤ length (keep isLive os)
-        → length (if standsOn 0 o then o ∷ keep (standsOn 0) os else keep (standsOn 0) os) + length (if standsOn 1 o then o ∷ keep (standsOn 1) os else keep (standsOn 1) os) ≤ length (if isLive o then o ∷ keep isLive os else keep isLive os)
-    go true true true x y z h = absurd (omega (arith, eqb-true (o .side) 0 y, eqb-true (o .side) 1 z))
-    go true true false x y z h = rw (x, y, z) (omega arith)
-    go true false true x y z h = rw (x, y, z) (omega arith)
-    go true false false x y z h = rw (x, y, z) (omega arith)
-    go false b c x y z h = rw x (omega arith)
+-- neither side has less than the volume
+module _ (book : List Order) where
+  side-shares : (side : ℕ) → sharesOf (standsOn side) book ≡ shares (queue side book)
+  unfolding sharesOf shares
+  side-shares side = sym (total-queue (λ o. o .left) side book)
+
+  pub volume-buys : (p : ℕ) → volume book p ≤ shares (queue 0 book)
+  unfolding demand
+  volume-buys p =
+      let l : demand book p ≤ sharesOf (standsOn 0) book = shares-le _ (standsOn 0) (λ o e. and-left (standsOn 0 o) _ e) book in
+      omega (arith, volume-is book p, side-shares 0)
+
+  pub volume-sells : (p : ℕ) → volume book p ≤ shares (queue 1 book)
+  unfolding supply
+  volume-sells p =
+      let l : supply book p ≤ sharesOf (standsOn 1) book = shares-le _ (standsOn 1) (λ o e. and-left (standsOn 1 o) _ e) book in
+      omega (arith, volume-is book p, side-shares 1)
 
 -- what a queue cut to a volume grants, over the queue
 grants-total :
@@ -117,10 +117,10 @@ grants-total v (o ∷ os) d =
 module _ (p : ℕ) (book : List Order) (s : Standing book) where
   -- each side, cut to the volume, holds it
   buys-hold : held (cut (volume book p) (queue 0 book)) ≡ volume book p
-  buys-hold = omega (arith, cut-held (volume book p) (queue 0 book), volume-buys book s p)
+  buys-hold = omega (arith, cut-held (volume book p) (queue 0 book), volume-buys book p)
 
   sells-hold : held (cut (volume book p) (queue 1 book)) ≡ volume book p
-  sells-hold = omega (arith, cut-held (volume book p) (queue 1 book), volume-sells book s p)
+  sells-hold = omega (arith, cut-held (volume book p) (queue 1 book), volume-sells book p)
 
   trades-fill : (n : ℕ) → Filled n (cut (volume book p) (queue 0 book)) (cut (volume book p) (queue 1 book)) (tradesAt p book)
   unfolding tradesAt pairs
@@ -201,7 +201,7 @@ module _ (p : ℕ) (book : List Order) (s : Standing book) where
   pub both-filled : total (λ o. filledOf (o .number) (tradesAt p book)) book ≡ volume book p + volume book p
   both-filled =
       two-sides (λ o. filledOf (o .number) (tradesAt p book)) (λ o z. rw z nobody-filled) book (s .fair)
-      ∙ ap₂ _+_ (whole 0 buys-filled (volume-buys book s p)) (whole 1 sells-filled (volume-sells book s p))
+      ∙ ap₂ _+_ (whole 0 buys-filled (volume-buys book p)) (whole 1 sells-filled (volume-sells book p))
     where
       whole :
           (side : ℕ)
@@ -226,8 +226,5 @@ module _ (p : ℕ) (book : List Order) (s : Standing book) where
         fewer-trades p (cut (volume book p) (queue 0 book)) (cut (volume book p) (queue 1 book)),
         cut-short (volume book p) (queue 0 book),
         cut-short (volume book p) (queue 1 book),
-        live-orders,
+        queues-orders book (s .fair),
       )
-    where
-      live-orders : length (queue 0 book) + length (queue 1 book) ≤ length (keep isLive book)
-      live-orders = omega (arith, queue-length 0 book, queue-length 1 book, live-count book)

@@ -1,4 +1,5 @@
--- The trades of an auction as the clock call has them: what they come to, and that no buy reaches a sell after them.
+-- The trades of an auction as the clock call has them: what they come to, that no buy reaches a sell after them, and the book then,
+-- in its order again.
 use Prim.Native.Nat.{ℕ, _+_, _-_, _*_, _≤_}
 use mathlib.Core.Path.{_≡_, refl, sym, ap, _∙_}
 use mathlib.Core.Logic.{_⊎_, inl, inr, ⊎-elim}
@@ -13,7 +14,7 @@ use Rattle.model.specs.declared.Order.{Order}
 use Rattle.model.specs.declared.Day.{Day}
 use Rattle.model.specs.Choice.{if_then_else_}
 use Rattle.model.specs.Lists.{keep, total}
-use Rattle.model.specs.Book.{isLive, queue, best}
+use Rattle.model.specs.Book.{isLive, queue, best, arranged}
 use Rattle.model.specs.Matching.{filled, firstPrice, lastPrice, settle}
 use Rattle.model.specs.Figures.{money, reference}
 use Rattle.model.specs.Auction.{volume}
@@ -21,7 +22,10 @@ use Rattle.model.specs.Pairing.{cut, tradesAt}
 use Rattle.model.specs.Sound.{crosses}
 use Rattle.model.specs.ClockCall.{auctionPrice, auctionTrades}
 use Rattle.book.specs.Standing.{Each, Standing}
+use Rattle.book.proofs.Lists.{length-keep}
 use Rattle.book.proofs.Kept.{standing-settle}
+use Rattle.book.proofs.Counting.{queues-orders, fewer-orders}
+use Rattle.book.proofs.Arranging.{arranged-stands, arranged-crosses}
 use Rattle.auction.specs.Rule.{Qualifies}
 use Rattle.model.proofs.Bools.{not-both, not-true-false}
 use Rattle.auction.proofs.Sides.{supply-bottom}
@@ -121,3 +125,28 @@ module _ (book : List Order) (s : Standing book) where
     auction-uncrosses =
         rw auction-trades-are
         (⊎-elim (λ k. uncrossed-after (auctionPrice d book) book s (k .0)) (λ k. still-uncrossed (k .0) (k .1)) (auction-price-cases book s d))
+
+    -- ---- the book afterwards
+    abbrev pub afterwards : List Order
+    afterwards = arranged (length book) (settle (auctionTrades d book) book)
+
+    settled-stands : Standing (settle (auctionTrades d book) book)
+    settled-stands = standing-settle (auctionTrades d book) book s
+
+    -- what is left has its places
+    pub settled-fit :
+        length (queue 0 (settle (auctionTrades d book) book)) + length (queue 1 (settle (auctionTrades d book) book)) ≤ length book
+    settled-fit =
+        omega (
+          arith,
+          queues-orders (settle (auctionTrades d book) book) (settled-stands .fair),
+          fewer-orders (auctionTrades d book) book,
+          length-keep isLive book,
+        )
+
+    pub afterwards-stands : Standing afterwards
+    afterwards-stands = arranged-stands (length book) (settle (auctionTrades d book) book) settled-stands settled-fit
+
+    pub afterwards-uncrossed : crosses afterwards ≡ false
+    afterwards-uncrossed =
+        arranged-crosses (length book) (settle (auctionTrades d book) book) settled-stands settled-fit ∙ auction-uncrosses

@@ -9,13 +9,11 @@ use Rattle.model.specs.declared.Order.{Order}
 use Rattle.model.specs.declared.Day.{Day}
 use Rattle.model.specs.Clock.{passes, boundaries}
 use Rattle.model.specs.Book.{isLive}
-use Rattle.model.specs.Matching.{settle}
 use Rattle.model.specs.Figures.{tally}
 use Rattle.model.specs.ClockCall.{Held, auctionTrades, hold, pass, through, start, moved}
 use Rattle.book.specs.Standing.{Standing}
 use Rattle.book.proofs.Lists.{length-keep}
-use Rattle.book.proofs.Kept.{standing-settle}
-use Rattle.pairing.proofs.Auctions.{uncrossed-none, auction-fewer, auction-uncrosses}
+use Rattle.pairing.proofs.Auctions.{uncrossed-none, auction-fewer, afterwards, afterwards-stands, afterwards-uncrossed}
 
 module _ (d : Day) (t : ℕ) (book : List Order) where
   abbrev pub opened : Bool → Held
@@ -42,7 +40,7 @@ module _ (book : List Order) (s : Standing book) (d : Day) where
   both-few t true false = auction-few
   both-few t false true = auction-few
   both-few t true true =
-      rw (uncrossed-none (settle (auctionTrades d book) book) (standing-settle (auctionTrades d book) book s) (tally (auctionTrades d book) d) (auction-uncrosses book s d), append-nil (auctionTrades d book))
+      rw (uncrossed-none (afterwards book s d) (afterwards-stands book s d) (tally (auctionTrades d book) d) (afterwards-uncrossed book s d), append-nil (auctionTrades d book))
       auction-few
 
   pub moved-few : (t : ℕ) → length (moved d t book .trades) ≤ length book

@@ -13,20 +13,22 @@ use Rattle.model.specs.Choice.{if_then_else_}
 use Rattle.model.specs.Lists.{total}
 use Rattle.model.specs.Book.{free, isLive, standsOn, ahead, queue, best}
 use Rattle.model.specs.Matching.{meets, filledOf, lessBy, settle}
-use Rattle.model.specs.Auction.{sharesOf, demand, supply, volume}
+use Rattle.model.specs.Auction.{demand, supply, volume}
 use Rattle.model.specs.Pairing.{cut, tradesAt}
 use Rattle.model.specs.Sound.{crosses}
 use Rattle.book.specs.Standing.{Each, Standing}
 use Rattle.book.proofs.Lists.{each, every, total-same, total-zero, total-kept}
 use Rattle.book.proofs.Sorting.{Distinct}
 use Rattle.book.proofs.Queues.{total-queue}
-use Rattle.book.proofs.Best.{Ordered, queue-ordered}
+use Rattle.book.proofs.Best.{InTurn, queue-in-turn}
 use Rattle.book.proofs.Kept.{standing-settle}
 use Rattle.auction.specs.Interest.{tradesFor, brings, interest}
 use Rattle.auction.specs.Rule.{Qualifies}
+use Rattle.auction.specs.Walks.{reach}
 use Rattle.model.proofs.Bools.{not-both, not-true-false}
 use Rattle.auction.proofs.Sides.{interest-next, interest-end, interest-buys, interest-sells, demand-falls, supply-rises}
 use Rattle.auction.proofs.Conditions.{volume-is, qualifies-clears}
+use Rattle.auction.proofs.Walks.{interest-reach}
 use Rattle.auction.proofs.Crossing.{ahead-meets, crosses-told, best-demand, best-supply}
 use Rattle.pairing.specs.Granted.{granted}
 use Rattle.pairing.proofs.Filling.{first-grant, later-grants}
@@ -50,12 +52,6 @@ module _ (side x : ℕ) where
       ∙ sym
       (total-queue (λ o. if meets side (o .price) x then h o else 0) side book
       ∙ total-kept (λ o. if meets side (o .price) x then h o else 0) (standsOn side) book)
-
-  interest-queue :
-      (book : List Order)
-      → interest book side x ≡ total (λ o. if meets side (o .price) x then o .left else 0) (queue side book)
-  unfolding interest sharesOf
-  interest-queue book = total-kept (λ o. o .left) (tradesFor side x) book ∙ in-queue (λ o. o .left) book
 
   -- ---- what an order brings when q of it have traded
   free-brings : brings side x free ≡ 0
@@ -111,7 +107,7 @@ module _ (side x : ℕ) where
   left-over :
       (v : ℕ) (os : List Order)
       → Distinct (λ o. o .number) os
-      → Ordered side os
+      → InTurn side os
       → total (λ o. if meets side (o .price) x then o .left - granted (o .number) (cut v os) else 0) os ≡ total (λ o. if meets side (o .price) x then o .left else 0) os - v
   unfolding total
   left-over v [] d r = omega arith
@@ -156,8 +152,8 @@ module _ (side x : ℕ) where
       (λ o. if meets side (o .price) x then o .left - granted (o .number) (cut v (queue side book)) else 0) (queue side book)
       (each (λ o. filledOf (o .number) ts ≡ granted (o .number) (cut v (queue side book))) _ (queue side book)
       (λ o z. ap (λ n. if meets side (o .price) x then o .left - n else 0) z) e)
-      ∙ left-over v (queue side book) (queue-own book s side) (queue-ordered side book s)
-      ∙ ap (λ n. n - v) (sym (interest-queue book))
+      ∙ left-over v (queue side book) (queue-own book s side) (queue-in-turn side book s)
+      ∙ ap (λ n. n - v) (sym (unfold reach in interest-reach book side x))
 
 -- ---- nothing reaches any more
 module _ (p : ℕ) (book : List Order) (s : Standing book) where

@@ -1,4 +1,2 @@
--- What the pairing's functions say beside the definitions of the model.
-pub mod Heads
+-- What the pairing's laws say beside the definitions of the model.
 pub mod Granted
-pub mod Marks

@@ -1,4 +1,4 @@
--- A sound day: the test and the record of its facts say the same, and its book stands. Assumes nothing.
+-- A sound day: the test and the record of its facts say the same, and its book stands in order. Assumes nothing.
 use Prim.Native.Nat.{ℕ, suc, _≤_, _<_}
 use mathlib.Core.Path.{_≡_, refl, ap, _∙_}
 use mathlib.Core.Logic.{⊎-elim}
@@ -11,13 +11,14 @@ use lib.Dec.{ltb, leb}
 use borrow.Author.Tests.{ltb-true, ltb-false, leb-true}
 use Rattle.model.specs.declared.Order.{Order}
 use Rattle.model.specs.declared.Day.{Day}
-use Rattle.model.specs.Book.{free}
+use Rattle.model.specs.Book.{free, inOrder}
 use Rattle.model.specs.Figures.{nextNumber}
-use Rattle.model.specs.Sound.{hasPlaces, isFree, isOrder, sound}
-use Rattle.model.proofs.Bools.{and-left, and-right}
-use Rattle.book.specs.Standing.{Each, Fair, Apart, Standing}
+use Rattle.model.specs.Sound.{hasPlaces, isFree, isOrder, soundAnywhere, sound}
+use Rattle.model.proofs.Bools.{and-left, and-right, and-both}
+use Rattle.book.specs.Standing.{Each, Fair, Apart, Standing, Ordered, Ranked}
 use Rattle.book.proofs.Lists.{each, both}
 use Rattle.book.proofs.Kept.{New, fair-free, free-number}
+use Rattle.book.proofs.Orderly.{told-ordered, ordered-told}
 use Rattle.soundness.specs.SoundDay.{Rests, Place, Empty, SoundDay}
 use Rattle.soundness.proofs.Says.{Says, says-and, says-unless, says-too, says-not, says-all}
 use Rattle.soundness.proofs.Clauses.{says-place, says-between, says-empty, says-apart, says-crosses, says-figures, says-fit, says-traded, says-turnover}
@@ -46,9 +47,9 @@ module _ (book : List Order) (t : ℕ) where
 
 -- ---- the test and the record
 
-pub says-sound : (d : Day) (book : List Order) → Says (sound d book) (SoundDay d book)
-unfolding sound
-says-sound d book =
+pub says-anywhere : (d : Day) (book : List Order) → Says (soundAnywhere d book) (SoundDay d book)
+unfolding soundAnywhere
+says-anywhere d book =
     says-too
     (λ h.
     let figures = h .0 .0 .0 .0 .0 .0 .0 in
@@ -101,12 +102,6 @@ says-sound d book =
     (says-traded d))
     (says-turnover d))
 
-pub sound-day : (d : Day) (book : List Order) → sound d book ≡ true → SoundDay d book
-sound-day d book = says-sound d book .0
-
-pub day-sound : (d : Day) (book : List Order) → SoundDay d book → sound d book ≡ true
-day-sound d book = says-sound d book .1
-
 -- ---- what stands
 
 pub fair-place : (d : Day) (o : Order) → d .issued ≤ 999_999 → Place d o → Fair o
@@ -127,24 +122,40 @@ fair-place d o l p =
     })
     p
 
-pub standing :
-    (d : Day) (book : List Order)
-    → length book ≤ 4_096
-    → d .issued ≤ 999_999
-    → Each (Place d) book
-    → Apart book
-    → Standing book
-standing d book few l p a =
-    record { fair = each (Place d) Fair book (λ o h. fair-place d o l h) p; apart = a; few = few }
+pub standing : (d : Day) (book : List Order) → d .issued ≤ 999_999 → Each (Place d) book → Apart book → Standing book
+standing d book l p a = record { fair = each (Place d) Fair book (λ o h. fair-place d o l h) p; apart = a }
+
+pub day-stands : (d : Day) (book : List Order) → SoundDay d book → Standing book
+day-stands d book s = standing d book (s .issued) (s .places) (s .apart)
+
+-- ---- the whole test: the facts, and the order of the places
+
+module _ (d : Day) (book : List Order) where
+  pub sound-day : sound d book ≡ true → SoundDay d book
+  unfolding sound
+  sound-day e = says-anywhere d book .0 (and-left (soundAnywhere d book) (inOrder book) e)
+
+  pub sound-ordered : sound d book ≡ true → Ordered book
+  unfolding sound
+  sound-ordered e =
+      told-ordered book (day-stands d book (sound-day e)) (and-right (soundAnywhere d book) (inOrder book) e)
+
+  pub day-sound : SoundDay d book → Ordered book → sound d book ≡ true
+  unfolding sound
+  day-sound s o = and-both (says-anywhere d book .1 s) (ordered-told book (day-stands d book s) o)
 
 pub few-places : (book : List Order) → hasPlaces book ≡ true → length book ≤ 4_096
 unfolding hasPlaces
 few-places book e = leb-true (length book) 4_096 (and-right (leb 1 (length book)) (leb (length book) 4_096) e)
 
-pub stands : (d : Day) (book : List Order) → (hasPlaces book && sound d book) ≡ true → Standing book
-stands d book e =
-    let s = sound-day d book (and-right (hasPlaces book) (sound d book) e) in
-    standing d book (few-places book (and-left (hasPlaces book) (sound d book) e)) (s .issued) (s .places) (s .apart)
+pub ranked : (d : Day) (book : List Order) → (hasPlaces book && sound d book) ≡ true → Ranked book
+ranked d book e =
+    let h : sound d book ≡ true = and-right (hasPlaces book) (sound d book) e in
+    record {
+      stands = day-stands d book (sound-day d book h);
+      few = few-places book (and-left (hasPlaces book) (sound d book) e);
+      ordered = sound-ordered d book h;
+    }
 
 -- ---- the next number is new
 

@@ -1,34 +1,52 @@
--- The test of a day in its stages: once its places are sound the book stands, and the sum of its shares serves for the tests
--- behind. Assumes nothing.
+-- The test of a day in its stages: once its places are sound and in order the book stands so, and the sum of its shares serves for
+-- the tests behind. Assumes nothing.
 use Prim.Native.Nat.{ℕ, _+_, _*_, _≤_}
-use mathlib.Core.Path.{_≡_}
-use mathlib.Core.Bool.{Bool, true, not, _&&_, _||_}
+use mathlib.Core.Path.{_≡_, sym, ap, _∙_}
+use mathlib.Core.Bool.{Bool, true, false, not, _&&_, _||_, and-true, and-false}
 use mathlib.Core.List.{List}
 use native.Mathlib.Omega.{arith}
 use lib.Dec.{leb, eqb}
 use Rattle.model.specs.declared.Order.{Order}
 use Rattle.model.specs.declared.Day.{Day}
 use Rattle.model.specs.Lists.{total}
-use Rattle.model.specs.Sound.{hasPlaces, soundFigures, isEmpty, crosses, between, sharesFit, pricesFit, turnoverFits, sound}
-use Rattle.book.specs.Standing.{Standing}
+use Rattle.model.specs.Sound.{hasPlaces, soundFigures, isEmpty, crosses, between, sharesFit, pricesFit, turnoverFits, soundAnywhere, sound}
+use Rattle.model.specs.Book.{inOrder}
+use Rattle.book.specs.Standing.{Standing, Ranked}
+use Rattle.book.proofs.Orderly.{told-ordered}
 use Rattle.soundness.proofs.Clauses.{whole, says-whole, says-figures, says-fit}
 use Rattle.soundness.proofs.SoundDays.{standing, few-places}
 use Rattle.soundness.proofs.Totals.{empty-is, shares-within}
 
--- the tests on the day's figures and on each place have passed
+-- a book out of order is not sound
+pub disordered : (d : Day) (book : List Order) → inOrder book ≡ false → false ≡ (hasPlaces book && sound d book)
+unfolding sound
+disordered d book e =
+    sym
+    (ap (λ (b : Bool). hasPlaces book && (soundAnywhere d book && b)) e
+    ∙ ap (λ (b : Bool). hasPlaces book && b) (and-false (soundAnywhere d book))
+    ∙ and-false (hasPlaces book))
+
+-- the tests on the day's figures, on each place and on their order have passed
 pub record Seated (d : Day) (book : List Order) : Type 0 where
   pub counted : hasPlaces book ≡ true
   pub figures : soundFigures d ≡ true
   pub places : whole d book ≡ true
+  pub order : inOrder book ≡ true
 
 module _ (d : Day) (book : List Order) (s : Seated d book) where
   pub seated-issued : d .issued ≤ 999_999
   seated-issued = says-figures d .0 (s .figures) .3
 
-  pub seated-stands : Standing book
-  seated-stands =
-      let h = says-whole d book .0 (s .places) in
-      standing d book (few-places book (s .counted)) seated-issued (h .0) (h .1)
+  seated-stands : Standing book
+  seated-stands = let h = says-whole d book .0 (s .places) in standing d book seated-issued (h .0) (h .1)
+
+  pub seated-ranked : Ranked book
+  seated-ranked =
+      record {
+        stands = seated-stands;
+        few = few-places book (s .counted);
+        ordered = told-ordered book seated-stands (s .order);
+      }
 
   -- what is left of the test
   pub still-to-pass :
@@ -38,8 +56,8 @@ module _ (d : Day) (book : List Order) (s : Seated d book) where
       && sharesFit d book
       && pricesFit d
       && turnoverFits d)
-  unfolding sound
-  still-to-pass = rw (s .counted, s .figures, s .places)
+  unfolding sound soundAnywhere
+  still-to-pass = rw (s .counted, s .figures, s .places, s .order) (and-true _)
 
   -- half the bound is all that can have traded
   pub few-traded : sharesFit d book ≡ true → d .shares ≤ 500_000_000_000
@@ -47,7 +65,7 @@ module _ (d : Day) (book : List Order) (s : Seated d book) where
 
   module _ (resting : ℕ) (r : resting ≡ total (λ (o : Order). o .left) book) where
     pub resting-small : resting ≤ 4_096_000_000
-    resting-small = omega (arith, shares-within book (seated-stands .fair) (seated-stands .few))
+    resting-small = omega (arith, shares-within book (seated-stands .fair) (few-places book (s .counted)))
 
     pub hours-by :
         (t : Bool)

@@ -1,6 +1,7 @@
 // When a day is sound: what every call tests first, on any memory that it is lent. Nothing is assumed of the numbers, and
-// the tests stand in the order of the definition, so that each one keeps the products of the later ones small.
+// each test keeps the products of the later ones small. The order of the places is tested before the best prices are looked for.
 pub mod figures;
+pub mod order;
 pub mod places;
 
 ghost use mathlib.Core.Path.{_≡_};
@@ -12,6 +13,7 @@ use crate::figures::prices_fit;
 use crate::figures::shares_fit;
 use crate::figures::sound_figures;
 use crate::figures::turnover_fits;
+use crate::order::is_in_order;
 use crate::places::crosses_in_hours;
 use crate::places::has_places;
 use crate::places::shares_left;
@@ -29,6 +31,9 @@ pub fn is_sound(day: Day, rows: &[[u64; 5]]) -> bool
         return false;
     }
     if !sound_places(day, rows) {
+        return false;
+    }
+    if !is_in_order(rows) {
         return false;
     }
     let resting = shares_left(rows);

@@ -7,13 +7,13 @@ ghost use Rattle.model.specs.Book.{isLive};
 ghost use Rattle.model.specs.Sound.{hasPlaces, mayStand, soundFigures, isFree, isOrder, ownNumbers, crosses, between};
 ghost use Rattle.bits.specs.Maps.{hasBit};
 ghost use Rattle.book.specs.Rows.{bookOf};
-ghost use Rattle.book.specs.Standing.{Each, Fair, Standing};
+ghost use Rattle.book.specs.Standing.{Ranked};
 ghost use Rattle.soundness.specs.Numbers.{noNumbers, FreshMap};
 use crate::figures::is_between;
 use bits::has;
 use bits::mark;
 use book::order_at;
-use book::priority::best_price;
+use book::seats::best_price;
 use limits::in_band;
 use limits::is_price;
 use model::Day;
@@ -151,7 +151,7 @@ pub fn sound_places(day: Day, rows: &[[u64; 5]]) -> bool
 
 // The shares left of all orders.
 pub fn shares_left(rows: &[[u64; 5]]) -> u64
-    requires { ⌜ Standing (bookOf (now rows)) ⌝ }
+    requires { ⌜ Ranked (bookOf (now rows)) ⌝ }
     ensures { λ r. ⌜ r ≡ total (λ o. o .left) (bookOf (now (rows .entry))) ⌝ }
 {
     let mut sum: u64 = 0;
@@ -166,7 +166,7 @@ pub fn shares_left(rows: &[[u64; 5]]) -> u64
 
 // Buys reach sells: both sides have an order, and the best buy is not below the best sell.
 pub fn buys_reach_sells(rows: &[[u64; 5]]) -> bool
-    requires { ⌜ Each Fair (bookOf (now rows)) ⌝ }
+    requires { ⌜ Ranked (bookOf (now rows)) ⌝ }
     ensures { λ r. ⌜ r ≡ crosses (bookOf (now (rows .entry))) ⌝ }
 {
     let buy = best_price(rows, 0);
@@ -182,7 +182,7 @@ pub fn buys_reach_sells(rows: &[[u64; 5]]) -> bool
 
 // From 33,900 to 53,819 they may not.
 pub fn crosses_in_hours(time: u64, rows: &[[u64; 5]]) -> bool
-    requires { ⌜ Each Fair (bookOf (now rows)) ⌝ }
+    requires { ⌜ Ranked (bookOf (now rows)) ⌝ }
     ensures { λ r. ⌜ r ≡ (between 33_900 53_819 time && crosses (bookOf (now (rows .entry)))) ⌝ }
 {
     if is_between(33_900, 53_819, time) {

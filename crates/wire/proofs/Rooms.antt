@@ -177,7 +177,7 @@ module _ (t : ℕ) where
   clock-few : (d : Day) (book : List Order) → clock-others d book ≡ 0 → length (moved d t book .trades) ≤ length book
   unfolding clockRules _when_
   clock-few d book z =
-      moved-few book (ready-if d book (none-holds (take 2 (clockRules d t book 0)) (clock-front d book) z .0) .stands) d t
+      moved-few book (ready-if d book (none-holds (take 2 (clockRules d t book 0)) (clock-front d book) z .0) .ranked .stands) d t
 
   pub clock-roomy : Roomy (λ (r : ClockAnswer). r .made) (λ d. clockRefused d 13) (λ d book list. clockCall d t book list)
   unfolding clockCall

@@ -23,8 +23,9 @@ use Rattle.model.specs.Calls.{Outcome, orderCall, OpenOutcome, openCall, Cancel
 use Rattle.model.specs.ClockCall.{clockCall}
 use Rattle.model.specs.AuctionCalls.{reportCall, ListOutcome, listCall}
 use Rattle.model.specs.Replies.{openNumbers, orderNumbers, cancelNumbers, clockNumbers, reportNumbers, listNumbers}
+use Rattle.book.specs.Writing.{fitted}
 use Rattle.auction.specs.declared.Listed.{Listed}
-use Rattle.auction.specs.Fitting.{fitted, listed}
+use Rattle.auction.specs.Fitting.{listed}
 use Rattle.wire.specs.Layout.{bytes, dayIn, dayBytes, bookIn, bookBytes, tradesIn, tradesBytes, pricesIn, over}
 
 -- a reply in its buffer: as many whole numbers as it holds, the rest of it stays

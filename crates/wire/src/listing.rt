@@ -14,7 +14,7 @@ ghost use lib.ListN.{length};
 ghost use Rattle.model.specs.Lists.{from};
 ghost use Rattle.model.specs.AuctionCalls.{due, listCall};
 ghost use Rattle.book.specs.Rows.{bookOf};
-ghost use Rattle.book.specs.Standing.{Standing};
+ghost use Rattle.book.specs.Standing.{Ranked};
 ghost use Rattle.wire.specs.Layout.{dayIn, bookIn, pricesIn};
 ghost use Rattle.wire.specs.Exports.{Put, ListStored, listOn, listLeft, listLeaves};
 
@@ -42,7 +42,7 @@ fn put_run(first: u64, hi: u64, prices: &mut [u8]) -> Listed
 
 // The qualifying prices from the asked one on.
 fn put_due(rows: &[[u64; 5]], asked: u64, prices: &mut [u8]) -> Listed
-    requires { ⌜ Standing (bookOf (now rows)) ⌝ }
+    requires { ⌜ Ranked (bookOf (now rows)) ⌝ }
     ensures { λ r. ⌜ Put (due asked (bookOf (now (rows .entry)))) (now (prices .entry)) r (now (prices .exit)) ⌝ }
 {
     let span = span_of(rows);

@@ -1,96 +1,185 @@
--- Either pair of trees is as large as the tickets need.
-use Prim.Native.Nat.{_*_, _≤_}
-use mathlib.Core.Path.{sym}
+-- The trades made so far, with those still to come, are the auction's (`Underway`); the volume that is left falls with each.
 use native.Mathlib.Omega.{arith}
-use lib.ListN.{length}
-use lib.Seq.{length-take-le}
-use Rattle.book.proofs.Lines.{tree-fits}
+use Rattle.auction.proofs.Stretches.{Stretches, stretches-of}
+use Rattle.pairing.proofs.Dealing.{Underway, underway-start, buy-ready, sell-ready, quantity-some, count-fits, underway-next, underway-end}
 use borrow.Author.Needs.{needs}
 use Rattle.pairing.proofs.pair_at.Statement.{statement}
 use Rattle.pairing.proofs.pair_at.Tie as tie
 
-mul-size : tie.Need-mul-size
-mul-size c = omega (arith, tree-fits (c .args .rows .now) (c .pre .0))
+abbrev Inv-loop : tie.InvT-loop
+Inv-loop rows trades₀ price shares middle end left₀ buy₀ sell₀ made₀ trades left buy sell made = Underway rows middle end price trades₀ left buy sell made trades
 
-array-borrow-prefix-buys : tie.Need-array-borrow-prefix-buys
-array-borrow-prefix-buys c = search needs
+abbrev μ-loop : tie.MeasureT-loop
+μ-loop rows trades₀ price shares middle end left₀ buy₀ sell₀ made₀ trades left buy sell made = left
 
-slice-aggregate-pair-lines : tie.Need-slice-aggregate-pair-lines
-slice-aggregate-pair-lines c =
-    let n = length (c .before .before .args .rows .now) in
-    let fits : 2 * n ≤ 2_048 = c .before .if1 .taken in
-    sym (length-take-le (2 * n) _ fits)
+sides :
+    (f : tie.After-free-from Inv-loop μ-loop)
+    → Stretches (f .before .before .args .rows .now) (f .before .sells-from .result) (f .free-from .result)
+sides f =
+    let t = f .before .before in
+    stretches-of (t .args .rows .now) (t .pre .0) (f .before .sells-from .ensures) (f .free-from .ensures)
 
-array-borrow-prefix-sells : tie.Need-array-borrow-prefix-sells
-array-borrow-prefix-sells c = search needs
+sells-from-requires : tie.Need-sells-from-requires Inv-loop μ-loop
+sells-from-requires c κs = search needs
 
-slice-aggregate-pair-lines-2 : tie.Need-slice-aggregate-pair-lines-2
-slice-aggregate-pair-lines-2 c =
-    let n = length (c .before .before .before .args .rows .now) in
-    let fits : 2 * n ≤ 2_048 = c .before .before .if1 .taken in
-    sym (length-take-le (2 * n) _ fits)
+free-from-requires : tie.Need-free-from-requires Inv-loop μ-loop
+free-from-requires c κs = search needs
 
-pair-lines-requires : tie.Need-pair-lines-requires
-pair-lines-requires c κs =
-    let t = c .before .before .before in
-    let s = t .before in
-    let n = length (s .args .rows .now) in
-    let fits : 2 * n ≤ 2_048 = t .if1 .taken in
-    (s .pre .0, (length-take-le (2 * n) _ fits, (length-take-le (2 * n) _ fits, s .pre .1)))
+head-at-requires : tie.Need-head-at-requires Inv-loop μ-loop
+head-at-requires c κs = sides c .short-buys
 
-array-borrow-prefix-buys-2 : tie.Need-array-borrow-prefix-buys-2
-array-borrow-prefix-buys-2 c = let s = c .before in tree-fits (s .args .rows .now) (s .pre .0)
+head-at-requires-2 : tie.Need-head-at-requires-2 Inv-loop μ-loop
+head-at-requires-2 c κs =
+    let after-free-from = c .before in
+    sides after-free-from .short-sells
 
-slice-aggregate-pair-lines-3 : tie.Need-slice-aggregate-pair-lines-3
-slice-aggregate-pair-lines-3 c =
-    let s = c .before .before in
-    let rows = s .args .rows .now in
-    sym (length-take-le (2 * length rows) _ (tree-fits rows (s .pre .0)))
+loop-holds : tie.Need-loop-holds Inv-loop μ-loop
+loop-holds c =
+    let after-head-at = c .before in
+    let after-free-from = after-head-at .before in
+    let s = after-free-from .before .before in
+    let a = s .args in
+    let w = sides after-free-from in
+    underway-start (a .rows .now) (s .pre .0) w (a .price) (a .trades .now)
+    (s .pre .1) (after-head-at .head-at .ensures) (c .head-at2 .ensures)
 
-array-borrow-prefix-sells-2 : tie.Need-array-borrow-prefix-sells-2
-array-borrow-prefix-sells-2 c = let s = c .before .before in tree-fits (s .args .rows .now) (s .pre .0)
+smaller-requires : tie.Need-smaller-requires Inv-loop μ-loop
+smaller-requires c κs = search needs
 
-slice-aggregate-pair-lines-4 : tie.Need-slice-aggregate-pair-lines-4
-slice-aggregate-pair-lines-4 c =
-    let s = c .before .before .before in
-    let rows = s .args .rows .now in
-    sym (length-take-le (2 * length rows) _ (tree-fits rows (s .pre .0)))
+smaller-requires-2 : tie.Need-smaller-requires-2 Inv-loop μ-loop
+smaller-requires-2 c κs = search needs
 
-pair-lines-requires-2 : tie.Need-pair-lines-requires-2
-pair-lines-requires-2 c κs =
-    let s = c .before .before .before .before in
-    let rows = s .args .rows .now in
-    let fits = tree-fits rows (s .pre .0) in
-    (s .pre .0, (length-take-le (2 * length rows) _ fits, (length-take-le (2 * length rows) _ fits, s .pre .1)))
+sub-buyerleft : tie.Need-sub-buyerleft Inv-loop μ-loop
+sub-buyerleft c =
+    let after-smaller = c .before in
+    omega (arith, after-smaller .smaller .ensures, c .smaller2 .ensures)
 
-same-length : tie.Need-same-length
-same-length c = search needs
+sub-sellerleft : tie.Need-sub-sellerleft Inv-loop μ-loop
+sub-sellerleft c = omega (arith, c .smaller2 .ensures)
 
-returns : tie.Need-returns
-returns c = search needs
+put-trade-requires : tie.Need-put-trade-requires Inv-loop μ-loop
+put-trade-requires c κs = search needs
 
-same-length-2 : tie.Need-same-length-2
-same-length-2 c = search needs
+add-made : tie.Need-add-made Inv-loop μ-loop
+add-made c =
+    let after-smaller2 = c .before .before .before in
+    let after-smaller = after-smaller2 .before in
+    let in-loop = after-smaller .before in
+    let at-loop = in-loop .before in
+    let after-free-from = at-loop .before .before .before in
+    let s = after-free-from .before .before in
+    let a = s .args in
+    let w = sides after-free-from in
+    record {
+      fits = omega (
+        arith,
+        count-fits (a .rows .now) (s .pre .0) w (a .price) (a .trades .now) (at-loop .loop .inv) (in-loop .loop-test .taken) (after-smaller .smaller .ensures)
+            (after-smaller2 .smaller2 .ensures),
+      );
+    }
 
-returns-2 : tie.Need-returns-2
-returns-2 c = search needs
+sub-left : tie.Need-sub-left Inv-loop μ-loop
+sub-left c =
+    let after-smaller2 = c .before .before .before in
+    let after-smaller = after-smaller2 .before in
+    omega (arith, after-smaller .smaller .ensures, after-smaller2 .smaller2 .ensures)
+
+head-past-requires : tie.Need-head-past-requires Inv-loop μ-loop
+head-past-requires c κs =
+    let in-loop = c .before .before .before .before .before in
+    let at-loop = in-loop .before in
+    let after-free-from = at-loop .before .before .before in
+    let s = after-free-from .before .before in
+    let a = s .args in
+    let w = sides after-free-from in (
+      w .short-buys,
+      buy-ready (a .rows .now) (s .pre .0) w (a .price) (a .trades .now)
+          (at-loop .loop .inv) (in-loop .loop-test .taken) .1,
+    )
+
+head-past-requires-2 : tie.Need-head-past-requires-2 Inv-loop μ-loop
+head-past-requires-2 c κs =
+    let in-loop = c .before .before .before .before .before .before in
+    let at-loop = in-loop .before in
+    let after-free-from = at-loop .before .before .before in
+    let s = after-free-from .before .before in
+    let a = s .args in
+    let w = sides after-free-from in (
+      w .short-sells,
+      sell-ready (a .rows .now) (s .pre .0) w (a .price) (a .trades .now)
+          (at-loop .loop .inv) (in-loop .loop-test .taken) .1,
+    )
+
+loop-less : tie.Need-loop-less Inv-loop μ-loop
+loop-less c =
+    let after-smaller2 = c .before .before .before .before .before in
+    let after-smaller = after-smaller2 .before in
+    let in-loop = after-smaller .before in
+    let at-loop = in-loop .before in
+    let after-free-from = at-loop .before .before .before in
+    let s = after-free-from .before .before in
+    let a = s .args in
+    let w = sides after-free-from in
+    omega (
+      arith,
+      quantity-some (a .rows .now) (s .pre .0) w (a .price) (a .trades .now)
+          (at-loop .loop .inv) (in-loop .loop-test .taken) (after-smaller .smaller .ensures)
+          (after-smaller2 .smaller2 .ensures),
+    )
+
+loop-again : tie.Need-loop-again Inv-loop μ-loop
+loop-again c =
+    let after-head-past = c .before in
+    let after-put-trade = after-head-past .before .before in
+    let after-smaller2 = after-put-trade .before .before in
+    let after-smaller = after-smaller2 .before in
+    let in-loop = after-smaller .before in
+    let at-loop = in-loop .before in
+    let after-free-from = at-loop .before .before .before in
+    let s = after-free-from .before .before in
+    let a = s .args in
+    let w = sides after-free-from in
+    underway-next (a .rows .now) (s .pre .0) w (a .price) (a .trades .now)
+    (at-loop .loop .inv) (in-loop .loop-test .taken) (after-smaller .smaller .ensures)
+    (after-smaller2 .smaller2 .ensures)
+    (after-put-trade .put-trade .ensures) (after-head-past .head-past .ensures) (c .head-past2 .ensures)
+
+same-length : tie.Need-same-length Inv-loop μ-loop
+same-length c =
+    let at-loop = c .before in
+    at-loop .loop .inv .long
+
+returns : tie.Need-returns Inv-loop μ-loop
+returns c =
+    let at-loop = c .before in
+    let after-free-from = at-loop .before .before .before in
+    let s = after-free-from .before .before in
+    let a = s .args in
+    let w = sides after-free-from in
+    underway-end (a .rows .now) (s .pre .0) w (a .price) (a .trades .now)
+    (at-loop .loop .inv) (c .loop-test .left)
 
 pub pair-at-spec : {M : Type 1} → statement M
 pair-at-spec =
     tie.close
     (tie.spec
-    mul-size
-    array-borrow-prefix-buys
-    slice-aggregate-pair-lines
-    array-borrow-prefix-sells
-    slice-aggregate-pair-lines-2
-    pair-lines-requires
-    array-borrow-prefix-buys-2
-    slice-aggregate-pair-lines-3
-    array-borrow-prefix-sells-2
-    slice-aggregate-pair-lines-4
-    pair-lines-requires-2
+    Inv-loop
+    μ-loop
+    sells-from-requires
+    free-from-requires
+    head-at-requires
+    head-at-requires-2
+    loop-holds
+    smaller-requires
+    smaller-requires-2
+    sub-buyerleft
+    sub-sellerleft
+    put-trade-requires
+    add-made
+    sub-left
+    head-past-requires
+    head-past-requires-2
+    loop-less
+    loop-again
     same-length
-    returns
-    same-length-2
-    returns-2)
+    returns)

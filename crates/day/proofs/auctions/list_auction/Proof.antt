@@ -15,7 +15,7 @@ returns c = list-refused _ _ _ _ (is-unsound _ _ (c .before .is-sound .ensures) 
 list-prices-requires : tie.Need-list-prices-requires
 list-prices-requires c κs =
     let u = c .before in
-    ready _ _ (u .before .is-sound .ensures) (not-false _ (u .if1 .left)) .stands
+    ready _ _ (u .before .is-sound .ensures) (not-false _ (u .if1 .left)) .ranked
 
 same-length : tie.Need-same-length
 same-length c = search needs

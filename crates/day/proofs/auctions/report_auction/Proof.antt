@@ -22,10 +22,10 @@ reference-of-requires : tie.Need-reference-of-requires
 reference-of-requires c κs = search needs
 
 auction-price-requires : tie.Need-auction-price-requires
-auction-price-requires c κs = sound (c .before) .stands
+auction-price-requires c κs = sound (c .before) .ranked
 
 report-at-requires : tie.Need-report-at-requires
-report-at-requires c κs = sound (c .before .before) .stands
+report-at-requires c κs = sound (c .before .before) .ranked
 
 returns-2 : tie.Need-returns-2
 returns-2 c =

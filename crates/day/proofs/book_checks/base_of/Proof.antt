@@ -4,6 +4,7 @@ use Prim.Native.Nat.{ℕ}
 use borrow.Author.Needs.{needs}
 use Rattle.model.specs.Book.{best, other}
 use Rattle.book.specs.Rows.{bookOf}
+use Rattle.matching.proofs.Partners.{other-small}
 use Rattle.day.proofs.BookRules.{base-other, base-own, base-last}
 use Rattle.day.proofs.book_checks.base_of.Statement.{statement}
 use Rattle.day.proofs.book_checks.base_of.Tie as tie
@@ -12,7 +13,7 @@ other-side-requires : tie.Need-other-side-requires
 other-side-requires c κs = search needs
 
 best-price-requires : tie.Need-best-price-requires
-best-price-requires c κs = c .before .pre .fair
+best-price-requires c κs = (c .before .pre .0, other-small (c .before .args .side) (c .other-side .ensures))
 
 -- what was found on the other side
 found :
@@ -27,7 +28,7 @@ returns : tie.Need-returns
 returns c = base-other _ _ _ (found (c .before)) (c .if1 .taken)
 
 best-price-requires-2 : tie.Need-best-price-requires-2
-best-price-requires-2 c κs = c .before .before .before .pre .fair
+best-price-requires-2 c κs = c .before .before .before .pre
 
 returns-2 : tie.Need-returns-2
 returns-2 c =

@@ -10,10 +10,12 @@ returns c = market-order _ (c .before .before .args .a) _ (c .if1 .taken)
 
 returns-2 : tie.Need-returns-2
 returns-2 c =
-    other-phase _ (c .before .before .before .args .a) _ (c .before .if1 .left) (λ e. c .if2 .taken (c .before .before .before .pre .1 .0 ∙ e))
+    other-phase _ (c .before .before .before .args .a) _ (c .before .if1 .left) (λ e. c .if2 .taken (c .before .before .before .pre .1 .1 .0 ∙ e))
 
 base-of-requires : tie.Need-base-of-requires
-base-of-requires c κs = c .before .before .before .pre .0
+base-of-requires c κs =
+    let s = c .before .before .before in
+    (s .pre .0, s .pre .1 .0)
 
 in-range-requires : tie.Need-in-range-requires
 in-range-requires c κs = search needs
@@ -22,10 +24,10 @@ returns-3 : tie.Need-returns-3
 returns-3 c =
     let s = c .before .before .before .before .before in
     by-range (s .args .d) (s .args .a) _ (c .before .before .before .if1 .left)
-    (sym (s .pre .1 .0) ∙ c .before .before .if2 .left)
-    (s .pre .0)
-    (s .pre .1 .1 .0)
-    (s .pre .1 .1 .1)
+    (sym (s .pre .1 .1 .0) ∙ c .before .before .if2 .left)
+    (s .pre .0 .stands)
+    (s .pre .1 .1 .1 .0)
+    (s .pre .1 .1 .1 .1)
     (c .before .base-of .ensures)
     (c .in-range .ensures)
 

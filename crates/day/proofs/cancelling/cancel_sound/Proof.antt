@@ -1,11 +1,9 @@
--- `day::cancelling::cancel_sound` meets its contract: refused, or the one place is set free. Assumes nothing.
-use mathlib.Core.Path.{ap, _∙_}
+-- `day::cancelling::cancel_sound` meets its contract: refused, or the one order is taken out. Assumes nothing.
 use borrow.Author.Needs.{needs}
-use lib.ListN.{set}
-use Rattle.model.specs.declared.Order.{Order}
-use Rattle.book.specs.Rows.{rowOf, bookOf}
+use Rattle.book.specs.Rows.{bookOf}
+use Rattle.book.specs.Standing.{Ranked}
 use Rattle.day.proofs.Readiness.{ready-if}
-use Rattle.day.proofs.Cancels.{cancel-refused, cancel-sound, cancel-place, cancel-accepted}
+use Rattle.day.proofs.Cancels.{cancel-refused, cancel-place, cancel-live, cancel-accepted}
 use Rattle.day.proofs.cancelling.cancel_sound.Statement.{statement}
 use Rattle.day.proofs.cancelling.cancel_sound.Tie as tie
 
@@ -30,31 +28,36 @@ order-at-requires c κs =
     cancel-place (a .d) (a .account) (a .number) (a .rows .now) r (c .before .before .before .if1 .left)
     (c .before .place-of .ensures)
 
-free-place-requires : tie.Need-free-place-requires
-free-place-requires c κs = search needs
+-- the book stands in order
+in-order : (c : tie.Start) → Ranked (bookOf (c .args .rows .now))
+in-order c = ready-if (c .args .d) (bookOf (c .args .rows .now)) (c .pre) .ranked
 
-put-order-requires : tie.Need-put-order-requires
-put-order-requires c κs =
-    let a = c .before .before .before .before .before .before .before .before .before .args in
-    let r = c .before .before .before .before .before .before .before .cancel-refusal .ensures in
-    cancel-place (a .d) (a .account) (a .number) (a .rows .now) r (c .before .before .before .before .before .before .if1 .left)
-    (c .before .before .before .before .place-of .ensures)
+take-out-requires : tie.Need-take-out-requires
+take-out-requires c κs =
+    let s = c .before .before .before .before .before .before .before .before in
+    let a = s .args in
+    let r = c .before .before .before .before .before .before .cancel-refusal .ensures in (
+      in-order s,
+      cancel-live (a .d) (a .account) (a .number) (a .rows .now) r (c .before .before .before .before .before .if1 .left)
+          (c .before .before .before .place-of .ensures) (in-order s),
+    )
 
 same-length-2 : tie.Need-same-length-2
 same-length-2 c = search needs
 
 returns-2 : tie.Need-returns-2
 returns-2 c =
-    let a = c .before .before .before .before .before .before .before .before .before .before .before .args in
-    let r = c .before .before .before .before .before .before .before .before .before .cancel-refusal .ensures in
-    let z = c .before .before .before .before .before .before .before .before .if1 .left in
-    let s = ready-if (a .d) (bookOf (a .rows .now)) (cancel-sound (a .d) (a .account) (a .number) (a .rows .now) r z) in
-    cancel-accepted (a .d) (a .account) (a .number) (a .rows .now) r z
-    (c .before .before .before .before .before .before .place-of .ensures)
-    (s .stands .apart)
-    (c .before .before .before .before .order-at .ensures)
-    (c .before .put-order .ensures
-    ∙ ap (λ (o : Order). set (a .rows .now) (c .before .before .before .before .before .before .place-of .result) (rowOf o)) (c .before .before .free-place .ensures))
+    let o = c .before in
+    let f = o .before .before .before .before in
+    let r = f .before .before .before in
+    let s = r .before .before in
+    let a = s .args in
+    cancel-accepted (a .d) (a .account) (a .number) (a .rows .now) (r .cancel-refusal .ensures) (f .before .before .if1 .left)
+    (f .place-of .ensures)
+    (o .take-out .last .0)
+    (in-order s)
+    (o .before .before .order-at .ensures)
+    (o .take-out .ensures)
 
 pub cancel-sound-spec : {M : Type 1} → statement M
 cancel-sound-spec =
@@ -65,7 +68,6 @@ cancel-sound-spec =
     returns
     place-of-requires
     order-at-requires
-    free-place-requires
-    put-order-requires
+    take-out-requires
     same-length-2
     returns-2)

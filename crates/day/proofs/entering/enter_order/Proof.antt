@@ -26,7 +26,7 @@ returns c =
     let s = i .before .before .args in
     let u = is-unsound _ _ (i .is-sound .ensures) (not-true _ (c .before .if1 .taken)) in
     ap (λ (r : OrderAnswer). left r (s .rows .now) (s .trades .now)) (c .refused .ensures)
-    ∙ order-refused (s .d) (s .a) (s .rows .now) (s .trades .now) (order-unsound (s .d) (s .a) (bookOf (s .rows .now)) (length (s .trades .now)) u) refl
+    ∙ order-refused (s .d) (s .a) (s .rows .now) (s .trades .now) (order-unsound (s .d) (s .a) (bookOf (s .rows .now)) (length (s .trades .now)) u)
     (eqb-false 15 0 refl)
 
 enter-sound-requires : tie.Need-enter-sound-requires

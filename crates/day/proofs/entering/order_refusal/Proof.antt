@@ -1,13 +1,13 @@
--- `day::entering::order_refusal` meets its contract: the day, then what is asked, then the book. Assumes nothing.
-use mathlib.Core.Path.{refl}
+-- `day::entering::order_refusal` meets its contract: what is asked, then the book. Assumes nothing.
 use borrow.Author.Needs.{needs}
 use Rattle.book.specs.Rows.{bookOf}
 use Rattle.day.proofs.Readiness.{ready-if}
 use Rattle.day.proofs.OrderLaws.{
   close-is-price,
   reference-is-price,
-  order-asked,
-  order-book,
+  earlier-asked,
+  earlier-book,
+  asked-side,
   asked-price,
 }
 use Rattle.day.proofs.entering.order_refusal.Statement.{statement}
@@ -18,39 +18,37 @@ asked-refusal-requires c κs = close-is-price _ _ (ready-if _ _ (c .pre))
 
 returns : tie.Need-returns
 returns c =
-    let s = c .before .before in
-    let book = bookOf (s .args .rows .now) in
-    (order-asked (s .args .d) (s .args .a) book _ (s .pre) (c .before .asked-refusal .ensures) (c .if1 .taken), refl)
+    let a = c .before .before .args in
+    earlier-asked (a .d) (a .a) (bookOf (a .rows .now)) (c .before .asked-refusal .ensures) (c .if1 .taken)
 
 phase-at-requires : tie.Need-phase-at-requires
 phase-at-requires c κs = search needs
 
 book-refusal-requires : tie.Need-book-refusal-requires
 book-refusal-requires c κs =
-    let r = ready-if _ _ (c .before .before .before .before .pre) in (
-      r .stands,
+    let f = c .before .before in
+    let s = f .before in
+    let a = s .args in
+    let r = ready-if _ _ (s .pre) in (
+      r .ranked,
       (
-        c .before .phase-at .ensures,
+        asked-side (a .d) (a .a) (bookOf (a .rows .now)) (f .asked-refusal .ensures) (c .before .if1 .left),
         (
-          reference-is-price _ _ r,
-          (asked-price _ _ (c .before .before .before .asked-refusal .ensures) (c .before .before .if1 .left), r .sound .issued),
+          c .phase-at .ensures,
+          (
+            reference-is-price _ _ r,
+            asked-price (a .d) (a .a) (bookOf (a .rows .now)) (f .asked-refusal .ensures) (c .before .if1 .left),
+          ),
         ),
       ),
     )
 
-same-length : tie.Need-same-length
-same-length c = search needs
-
 returns-2 : tie.Need-returns-2
 returns-2 c =
-    let s = c .before .before .before .before .before .before in
-    let book = bookOf (s .args .rows .now) in
-    let e = c .before .book-refusal .ensures in (
-      order-book (s .args .d) (s .args .a) book _ (s .pre) (c .before .before .before .before .before .asked-refusal .ensures)
-          (c .before .before .before .before .if1 .left)
-          (e .0),
-      e .1,
-    )
+    let f = c .before .before .before in
+    let a = f .before .args in
+    earlier-book (a .d) (a .a) (bookOf (a .rows .now)) (f .asked-refusal .ensures) (c .before .before .if1 .left)
+    (c .book-refusal .ensures)
 
 pub order-refusal-spec : {M : Type 1} → statement M
 order-refusal-spec =
@@ -60,5 +58,4 @@ order-refusal-spec =
     returns
     phase-at-requires
     book-refusal-requires
-    same-length
     returns-2)

@@ -26,9 +26,8 @@ returns c =
     let s = i .before .before .args in
     let u = is-unsound _ _ (i .is-sound .ensures) (not-true _ (c .before .if1 .taken)) in
     ap (λ (r : ClockAnswer). left r (s .rows .now) (s .trades .now)) (c .refused .ensures)
-    ∙ clock-refused (s .d) (s .time) (s .rows .now) (s .trades .now) (clock-unsound (s .d) (s .time) (bookOf (s .rows .now)) (length (s .trades .now)) u) (s .trades .now)
+    ∙ clock-refused (s .d) (s .time) (s .rows .now) (s .trades .now) (clock-unsound (s .d) (s .time) (bookOf (s .rows .now)) (length (s .trades .now)) u)
     (eqb-false 15 0 refl)
-    refl
 
 move-sound-requires : tie.Need-move-sound-requires
 move-sound-requires c κs = not-unsound _ _ (c .before .before .before .is-sound .ensures) (not-false _ (c .before .before .if1 .left))

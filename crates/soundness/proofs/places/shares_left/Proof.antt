@@ -25,7 +25,7 @@ add-sum c =
     let l = c .before .before .before in
     let rows = l .before .args .rows .now in
     omega
-    (arith, sum-small rows (l .loop .sum) (l .loop .i) (l .loop .inv) (c .before .order-at .result) (c .before .before .loop-test .taken) (c .before .order-at .ensures), shares-within (bookOf rows) (l .before .pre .fair) (l .before .pre .few))
+    (arith, sum-small rows (l .loop .sum) (l .loop .i) (l .loop .inv) (c .before .order-at .result) (c .before .before .loop-test .taken) (c .before .order-at .ensures), shares-within (bookOf rows) (l .before .pre .stands .fair) (l .before .pre .few))
 
 add-i : tie.Need-add-i Inv-loop μ-loop
 add-i c = search needs

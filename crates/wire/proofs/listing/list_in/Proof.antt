@@ -28,7 +28,7 @@ returns c =
     (λ i. l .before .before .slice-known .given i .fits)
 
 put-due-requires : tie.Need-put-due-requires
-put-due-requires c κs = ready _ _ (c .before .before .before .is-sound .ensures) (not-false _ (c .before .before .if1 .left)) .stands
+put-due-requires c κs = ready _ _ (c .before .before .before .is-sound .ensures) (not-false _ (c .before .before .if1 .left)) .ranked
 
 same-length-2 : tie.Need-same-length-2
 same-length-2 c = search needs
