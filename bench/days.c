@@ -29,6 +29,13 @@ static uint64_t edge(void) {
     return once_in(4) ? chance(2000000) : edges[chance(sizeof edges / sizeof edges[0])];
 }
 
+/* One of so many numbers becomes an edge. C leaves open which side of an assignment comes first, and with it whose chance is whose: a
+ * seed gives the same day everywhere because no statement here leaves that open. */
+static void put_edge(uint64_t *numbers, size_t count) {
+    size_t i = chance(count);
+    numbers[i] = edge();
+}
+
 /* ---- calls on a random day */
 
 struct plan {
@@ -63,7 +70,8 @@ static void random_order(const struct plan *plan, uint64_t *a) {
     a[0] = chance(2);
     a[1] = once_in(2) ? 0 : chance(5);
     a[2] = 1 + chance(3);
-    a[3] = 100 * (1 + chance(once_in(4) ? 40 : 5)) + (once_in(5) ? chance(100) : 0);
+    a[3] = 100 * (1 + chance(once_in(4) ? 40 : 5));
+    a[3] += once_in(5) ? chance(100) : 0;
     a[4] = random_price(plan);
     if (once_in(15)) a[3] = 100 * (1 + chance(10000));
     if (once_in(a[0] ? 6 : 40)) a[3] = once_in(3) ? 1 : once_in(2) ? 99 : chance(102);
@@ -71,7 +79,7 @@ static void random_order(const struct plan *plan, uint64_t *a) {
         a[5] = once_in(4) ? any_balance(a[3]) : a[3];
     else
         a[5] = a[0] || once_in(20) ? any_balance(a[3]) : 0;
-    if (once_in(12)) a[chance(ASKED)] = edge();
+    if (once_in(12)) put_edge(a, ASKED);
 }
 
 static void random_cancel(uint64_t *a) {
@@ -84,7 +92,7 @@ static void random_cancel(uint64_t *a) {
         a[0] = number_at(m->book, 5 * p + 1);
         a[1] = number_at(m->book, 5 * p + 4);
     }
-    if (once_in(10)) a[chance(2)] = edge();
+    if (once_in(10)) put_edge(a, 2);
 }
 
 /* A day on which nothing can be entered is moved on, or opened anew. */
@@ -99,7 +107,10 @@ static uint64_t random_time(void) {
     if (once_in(12)) return edge();
     if (once_in(3) && !is_idle()) return now + chance(100);
     for (size_t i = 0; i < sizeof rows / sizeof rows[0]; i++)
-        if (rows[i] > now) return rows[i] - once_in(8) + (once_in(20) ? chance(30000) : 0);
+        if (rows[i] > now) {
+            uint64_t time = rows[i] - once_in(8);
+            return time + (once_in(20) ? chance(30000) : 0);
+        }
     return now;
 }
 
@@ -117,11 +128,14 @@ static void damage(void) {
         size_t p = chance(n), q = chance(n);
         (once_in(2) ? move_place : exchange_numbers)(p, q);
     } else if (once_in(2) || !n) {
-        put_number(m->day, chance(8), edge());
+        size_t at = chance(8);
+        put_number(m->day, at, edge());
     } else if (once_in(2)) {
-        put_number(m->book, 5 * chance(n) + chance(5), once_in(2) ? edge() : number_at(m->book, chance(5 * n)));
+        size_t at = chance(5 * n);
+        put_number(m->book, at, once_in(2) ? edge() : number_at(m->book, chance(5 * n)));
     } else {
-        m->book[chance(40 * n)] ^= (uint8_t)(1u << chance(8));
+        size_t at = chance(40 * n);
+        m->book[at] ^= (uint8_t)(1u << chance(8));
     }
 }
 
@@ -211,7 +225,8 @@ static void fill_book(const struct plan *plan) {
     for (uint64_t p = 0; p < n; p++) {
         uint64_t side = chance(2), price = random_price(plan);
         if (once_in(8) || (apart && (price == plan->close || (price > plan->close) != (side == 1)))) continue;
-        const uint64_t order[5] = {side, 1 + chance(3), 1 + chance(5000), price, first + n - p};
+        uint64_t account = 1 + chance(3), left = 1 + chance(5000);
+        const uint64_t order[5] = {side, account, left, price, first + n - p};
         for (size_t i = 0; i < 5; i++) put_number(m->book, 5 * p + i, order[i]);
     }
     arrange_book(m->book, n);

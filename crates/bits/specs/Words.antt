@@ -1,4 +1,4 @@
--- The bits of a word, counted from its lowest.
+-- The bits of a word, counted from the least one on.
 use Prim.Native.Nat.{ℕ, _/_, _%_, _^_}
 use mathlib.Core.Bool.{Bool}
 use lib.Dec.{eqb}

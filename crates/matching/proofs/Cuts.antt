@@ -235,7 +235,7 @@ cut-all zero (o ∷ os) h = absurd (not-suc-le-zero h)
 cut-all (suc n) [] h = refl
 cut-all (suc n) (o ∷ os) h = ap (λ (l : List Order). o ∷ l) (cut-same-all n (o .price) os (le-of-suc-le-suc h))
 
--- a bound that the book does not reach cuts nothing
+-- as many prices as the book has places: nothing is cut
 pub unbounded :
     (side n : ℕ) (book : List Order) → Standing book → length book ≤ n → atBest n (queue side book) ≡ queue side book
 unbounded side n book s h =

@@ -1,4 +1,4 @@
-// Continuous trading: an order meets the other side of the book, best price first, then lowest number.
+// Continuous trading: an order meets the other side of the book, best price first, then the earlier number.
 pub mod entering;
 pub mod remainders;
 pub mod settling;

@@ -3,6 +3,8 @@ use crate::numbers::put_number;
 use crate::records::day_in;
 use crate::records::load_book;
 use crate::records::room;
+use crate::records::small_room;
+use crate::records::tiny_room;
 use crate::replies::reply_list;
 use auction::Listed;
 use auction::ends::span_of;
@@ -79,6 +81,54 @@ fn list_in(
     }
 }
 
+// In a room for 4,096 places.
+fn list_on_many(day: &[u8], book: &[u8], prices: &mut [u8], asked: u64) -> ListReply
+    requires { ⌜ length (now day) ≡ 64 ⌝ }
+    requires { ⌜ length (now book) / 40 ≤ 4_096 ⌝ }
+    ensures { λ r. ⌜ ListStored r (now (prices .exit)) (listCall (dayIn (now (day .entry))) asked (bookIn (now (book .entry))) (pricesIn (now (prices .entry)))) (now (prices .entry)) ⌝ }
+{
+    let n = book.len() / 40;
+    let mut rows = room();
+    list_in(day, book, prices, &mut rows[..n], asked)
+}
+
+// In a room for 1,024.
+fn list_on_few(day: &[u8], book: &[u8], prices: &mut [u8], asked: u64) -> ListReply
+    requires { ⌜ length (now day) ≡ 64 ⌝ }
+    requires { ⌜ length (now book) / 40 ≤ 1_024 ⌝ }
+    ensures { λ r. ⌜ ListStored r (now (prices .exit)) (listCall (dayIn (now (day .entry))) asked (bookIn (now (book .entry))) (pricesIn (now (prices .entry)))) (now (prices .entry)) ⌝ }
+{
+    let n = book.len() / 40;
+    let mut rows = small_room();
+    list_in(day, book, prices, &mut rows[..n], asked)
+}
+
+// In a room for 64.
+fn list_on_fewest(day: &[u8], book: &[u8], prices: &mut [u8], asked: u64) -> ListReply
+    requires { ⌜ length (now day) ≡ 64 ⌝ }
+    requires { ⌜ length (now book) / 40 ≤ 64 ⌝ }
+    ensures { λ r. ⌜ ListStored r (now (prices .exit)) (listCall (dayIn (now (day .entry))) asked (bookIn (now (book .entry))) (pricesIn (now (prices .entry)))) (now (prices .entry)) ⌝ }
+{
+    let n = book.len() / 40;
+    let mut rows = tiny_room();
+    list_in(day, book, prices, &mut rows[..n], asked)
+}
+
+// In a room as small as the book allows.
+fn list_on_any(day: &[u8], book: &[u8], prices: &mut [u8], asked: u64) -> ListReply
+    requires { ⌜ length (now day) ≡ 64 ⌝ }
+    requires { ⌜ length (now book) / 40 ≤ 4_096 ⌝ }
+    ensures { λ r. ⌜ ListStored r (now (prices .exit)) (listCall (dayIn (now (day .entry))) asked (bookIn (now (book .entry))) (pricesIn (now (prices .entry)))) (now (prices .entry)) ⌝ }
+{
+    if book.len() / 40 <= 64 {
+        return list_on_fewest(day, book, prices, asked);
+    }
+    if book.len() / 40 <= 1024 {
+        return list_on_few(day, book, prices, asked);
+    }
+    list_on_many(day, book, prices, asked)
+}
+
 // A book of more than 4,096 places is never read.
 fn list_on(day: &[u8], book: &[u8], prices: &mut [u8], asked: u64) -> ListReply
     ensures { λ r. ⌜ ListStored r (now (prices .exit)) (listOn (now (day .entry)) asked (now (book .entry)) (now (prices .entry))) (now (prices .entry)) ⌝ }
@@ -86,12 +136,10 @@ fn list_on(day: &[u8], book: &[u8], prices: &mut [u8], asked: u64) -> ListReply
     if day.len() != 64 {
         return ListReply::Refused(15);
     }
-    let n = book.len() / 40;
-    if 4096 < n {
+    if 4096 < book.len() / 40 {
         return ListReply::Refused(15);
     }
-    let mut rows = room();
-    list_in(day, book, prices, &mut rows[..n], asked)
+    list_on_any(day, book, prices, asked)
 }
 
 #[no_mangle]

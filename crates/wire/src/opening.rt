@@ -2,7 +2,9 @@
 use crate::records::load_book;
 use crate::records::put_day;
 use crate::records::room;
+use crate::records::small_room;
 use crate::records::store_book;
+use crate::records::tiny_room;
 use crate::replies::reply_open;
 use day::opening::open_day;
 use model::OpenReply;
@@ -24,16 +26,58 @@ fn open_in(book: &mut [u8], rows: &mut [[u64; 5]], close: u64, mark: u64) -> Ope
     told
 }
 
+// In a room for 4,096 places.
+fn open_on_many(book: &mut [u8], close: u64, mark: u64) -> OpenReply
+    requires { ⌜ length (now book) / 40 ≤ 4_096 ⌝ }
+    ensures { λ r. ⌜ Stored r (now (book .exit)) (openCall close mark (bookIn (now (book .entry))) .reply) (openCall close mark (bookIn (now (book .entry))) .book) (now (book .entry)) ⌝ }
+{
+    let n = book.len() / 40;
+    let mut rows = room();
+    open_in(book, &mut rows[..n], close, mark)
+}
+
+// In a room for 1,024.
+fn open_on_few(book: &mut [u8], close: u64, mark: u64) -> OpenReply
+    requires { ⌜ length (now book) / 40 ≤ 1_024 ⌝ }
+    ensures { λ r. ⌜ Stored r (now (book .exit)) (openCall close mark (bookIn (now (book .entry))) .reply) (openCall close mark (bookIn (now (book .entry))) .book) (now (book .entry)) ⌝ }
+{
+    let n = book.len() / 40;
+    let mut rows = small_room();
+    open_in(book, &mut rows[..n], close, mark)
+}
+
+// In a room for 64.
+fn open_on_fewest(book: &mut [u8], close: u64, mark: u64) -> OpenReply
+    requires { ⌜ length (now book) / 40 ≤ 64 ⌝ }
+    ensures { λ r. ⌜ Stored r (now (book .exit)) (openCall close mark (bookIn (now (book .entry))) .reply) (openCall close mark (bookIn (now (book .entry))) .book) (now (book .entry)) ⌝ }
+{
+    let n = book.len() / 40;
+    let mut rows = tiny_room();
+    open_in(book, &mut rows[..n], close, mark)
+}
+
+// In a room as small as the book allows.
+fn open_on_any(book: &mut [u8], close: u64, mark: u64) -> OpenReply
+    requires { ⌜ length (now book) / 40 ≤ 4_096 ⌝ }
+    ensures { λ r. ⌜ Stored r (now (book .exit)) (openCall close mark (bookIn (now (book .entry))) .reply) (openCall close mark (bookIn (now (book .entry))) .book) (now (book .entry)) ⌝ }
+{
+    if book.len() / 40 <= 64 {
+        return open_on_fewest(book, close, mark);
+    }
+    if book.len() / 40 <= 1024 {
+        return open_on_few(book, close, mark);
+    }
+    open_on_many(book, close, mark)
+}
+
 // A book of more than 4,096 places is never read.
 fn open_on(book: &mut [u8], close: u64, mark: u64) -> OpenReply
     ensures { λ r. ⌜ Stored r (now (book .exit)) (openCall close mark (bookIn (now (book .entry))) .reply) (openCall close mark (bookIn (now (book .entry))) .book) (now (book .entry)) ⌝ }
 {
-    let n = book.len() / 40;
-    if 4096 < n {
+    if 4096 < book.len() / 40 {
         return OpenReply::Refused(14);
     }
-    let mut rows = room();
-    open_in(book, &mut rows[..n], close, mark)
+    open_on_any(book, close, mark)
 }
 
 // The new day, where there is one.

@@ -37,6 +37,17 @@ pub fn small_trade_room() -> [[u64; 6]; 1024] {
     [none; 1024]
 }
 
+// And for books of up to 64.
+pub fn tiny_room() -> [[u64; 5]; 64] {
+    let free = [0u64; 5];
+    [free; 64]
+}
+
+pub fn tiny_trade_room() -> [[u64; 6]; 64] {
+    let none = [0u64; 6];
+    [none; 64]
+}
+
 // The day that 64 bytes hold.
 pub fn day_in(b: &[u8]) -> Day
     requires { ⌜ 64 ≤ length (now b) ⌝ }

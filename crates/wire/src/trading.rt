@@ -7,6 +7,8 @@ use crate::records::small_room;
 use crate::records::small_trade_room;
 use crate::records::store_book;
 use crate::records::store_trades;
+use crate::records::tiny_room;
+use crate::records::tiny_trade_room;
 use crate::records::trade_room;
 use crate::replies::reply_clock;
 use crate::replies::reply_order;
@@ -80,12 +82,27 @@ fn order_on_few(day: &[u8], book: &mut [u8], trades: &mut [u8], a: Asked) -> Ord
     order_in(day, book, trades, &mut rows[..n], &mut list[..n], a)
 }
 
+// In rooms for 64.
+fn order_on_fewest(day: &[u8], book: &mut [u8], trades: &mut [u8], a: Asked) -> OrderAnswer
+    requires { ⌜ length (now day) ≡ 64 ⌝ }
+    requires { ⌜ length (now book) / 40 ≤ 64 ⌝ }
+    ensures { λ r. ⌜ Traded r (now (book .exit)) (now (trades .exit)) (orderCall (dayIn (now (day .entry))) a (bookIn (now (book .entry))) (tradesIn (now (trades .entry)))) (now (book .entry)) (now (trades .entry)) ⌝ }
+{
+    let n = book.len() / 40;
+    let mut rows = tiny_room();
+    let mut list = tiny_trade_room();
+    order_in(day, book, trades, &mut rows[..n], &mut list[..n], a)
+}
+
 // In rooms as small as the book allows.
 fn order_on(day: &[u8], book: &mut [u8], trades: &mut [u8], a: Asked) -> OrderAnswer
     requires { ⌜ length (now day) ≡ 64 ⌝ }
     requires { ⌜ length (now book) / 40 ≤ 4_096 ⌝ }
     ensures { λ r. ⌜ Traded r (now (book .exit)) (now (trades .exit)) (orderCall (dayIn (now (day .entry))) a (bookIn (now (book .entry))) (tradesIn (now (trades .entry)))) (now (book .entry)) (now (trades .entry)) ⌝ }
 {
+    if book.len() / 40 <= 64 {
+        return order_on_fewest(day, book, trades, a);
+    }
     if book.len() / 40 <= 1024 {
         return order_on_few(day, book, trades, a);
     }
@@ -183,12 +200,27 @@ fn clock_on_few(day: &[u8], book: &mut [u8], trades: &mut [u8], time: u64) -> Cl
     clock_in(day, book, trades, &mut rows[..n], &mut list[..n], time)
 }
 
+// In rooms for 64.
+fn clock_on_fewest(day: &[u8], book: &mut [u8], trades: &mut [u8], time: u64) -> ClockAnswer
+    requires { ⌜ length (now day) ≡ 64 ⌝ }
+    requires { ⌜ length (now book) / 40 ≤ 64 ⌝ }
+    ensures { λ r. ⌜ Traded r (now (book .exit)) (now (trades .exit)) (clockCall (dayIn (now (day .entry))) time (bookIn (now (book .entry))) (tradesIn (now (trades .entry)))) (now (book .entry)) (now (trades .entry)) ⌝ }
+{
+    let n = book.len() / 40;
+    let mut rows = tiny_room();
+    let mut list = tiny_trade_room();
+    clock_in(day, book, trades, &mut rows[..n], &mut list[..n], time)
+}
+
 // In rooms as small as the book allows.
 fn clock_on(day: &[u8], book: &mut [u8], trades: &mut [u8], time: u64) -> ClockAnswer
     requires { ⌜ length (now day) ≡ 64 ⌝ }
     requires { ⌜ length (now book) / 40 ≤ 4_096 ⌝ }
     ensures { λ r. ⌜ Traded r (now (book .exit)) (now (trades .exit)) (clockCall (dayIn (now (day .entry))) time (bookIn (now (book .entry))) (tradesIn (now (trades .entry)))) (now (book .entry)) (now (trades .entry)) ⌝ }
 {
+    if book.len() / 40 <= 64 {
+        return clock_on_fewest(day, book, trades, time);
+    }
     if book.len() / 40 <= 1024 {
         return clock_on_few(day, book, trades, time);
     }

@@ -1,7 +1,5 @@
 -- `wire::cancelling::cancel_on` meets its contract: refused by a length, or the call on the rows. Assumes nothing.
-use mathlib.Core.Path.{sym}
 use borrow.Author.Needs.{needs}
-use lib.Seq.{length-take-le}
 use Rattle.wire.proofs.Cancels.{cancel-no-day, cancel-too-many, cancel-with-day}
 use Rattle.wire.proofs.cancelling.cancel_on.Statement.{statement}
 use Rattle.wire.proofs.cancelling.cancel_on.Tie as tie
@@ -17,37 +15,19 @@ returns-2 c =
     cancel-too-many (a .day .now) (a .account) (a .number) (a .book .now) (c .before .if1 .left) (c .if2 .taken)
     (λ i. c .before .before .slice-known .given i .fits)
 
-room-requires : tie.Need-room-requires
-room-requires c κs = search needs
-
-array-borrow-prefix-rows : tie.Need-array-borrow-prefix-rows
-array-borrow-prefix-rows c = search needs
-
-slice-aggregate-cancel-in : tie.Need-slice-aggregate-cancel-in
-slice-aggregate-cancel-in c = sym (length-take-le _ (c .before .before .room .result) (search needs))
-
-cancel-in-requires : tie.Need-cancel-in-requires
-cancel-in-requires c κs = (c .before .before .before .before .if1 .left, length-take-le _ (c .before .before .room .result) (search needs))
+cancel-on-any-requires : tie.Need-cancel-on-any-requires
+cancel-on-any-requires c κs = search needs
 
 same-length : tie.Need-same-length
 same-length c = search needs
 
 returns-3 : tie.Need-returns-3
 returns-3 c =
-    let i = c .before .before .before in
-    let t = i .before .before .before .before .before in
+    let k = c .before .before in
+    let t = k .before .before .before in
     let a = t .before .before .before .args in
-    cancel-with-day (a .day .now) (a .account) (a .number) (a .book .now) (t .if1 .left) (i .cancel-in .ensures)
+    cancel-with-day (a .day .now) (a .account) (a .number) (a .book .now) (t .if1 .left) (k .cancel-on-any .ensures)
 
 pub cancel-on-spec : {M : Type 1} → statement M
 cancel-on-spec =
-    tie.close
-    (tie.spec
-    returns
-    returns-2
-    room-requires
-    array-borrow-prefix-rows
-    slice-aggregate-cancel-in
-    cancel-in-requires
-    same-length
-    returns-3)
+    tie.close (tie.spec returns returns-2 cancel-on-any-requires same-length returns-3)

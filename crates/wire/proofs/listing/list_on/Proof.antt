@@ -1,7 +1,5 @@
 -- `wire::listing::list_on` meets its contract: refused by a length, or the call on the rows. Assumes nothing.
-use mathlib.Core.Path.{sym}
 use borrow.Author.Needs.{needs}
-use lib.Seq.{length-take-le}
 use Rattle.wire.proofs.PriceList.{list-no-day, list-too-many, list-with-day}
 use Rattle.wire.proofs.listing.list_on.Statement.{statement}
 use Rattle.wire.proofs.listing.list_on.Tie as tie
@@ -17,37 +15,18 @@ returns-2 c =
     list-too-many (a .day .now) (a .asked) (a .book .now) (a .prices .now) (c .before .if1 .left) (c .if2 .taken)
     (λ i. c .before .before .slice-known .given i .fits)
 
-room-requires : tie.Need-room-requires
-room-requires c κs = search needs
-
-array-borrow-prefix-rows : tie.Need-array-borrow-prefix-rows
-array-borrow-prefix-rows c = search needs
-
-slice-aggregate-list-in : tie.Need-slice-aggregate-list-in
-slice-aggregate-list-in c = sym (length-take-le _ (c .before .before .room .result) (search needs))
-
-list-in-requires : tie.Need-list-in-requires
-list-in-requires c κs = (c .before .before .before .before .if1 .left, length-take-le _ (c .before .before .room .result) (search needs))
+list-on-any-requires : tie.Need-list-on-any-requires
+list-on-any-requires c κs = search needs
 
 same-length : tie.Need-same-length
 same-length c = search needs
 
 returns-3 : tie.Need-returns-3
 returns-3 c =
-    let i = c .before .before .before in
-    let t = i .before .before .before .before .before in
+    let k = c .before .before in
+    let t = k .before .before .before in
     let a = t .before .before .before .before .args in
-    list-with-day (a .day .now) (a .asked) (a .book .now) (a .prices .now) (t .if1 .left) (i .list-in .ensures)
+    list-with-day (a .day .now) (a .asked) (a .book .now) (a .prices .now) (t .if1 .left) (k .list-on-any .ensures)
 
 pub list-on-spec : {M : Type 1} → statement M
-list-on-spec =
-    tie.close
-    (tie.spec
-    returns
-    returns-2
-    room-requires
-    array-borrow-prefix-rows
-    slice-aggregate-list-in
-    list-in-requires
-    same-length
-    returns-3)
+list-on-spec = tie.close (tie.spec returns returns-2 list-on-any-requires same-length returns-3)
