@@ -33,7 +33,7 @@ module _ {n : ℕ} where
       in
       record {
         day = rw (same, m .day);
-        book = rw (same, twin-length (m .book)) (either (Twin n) (b .lapse) (λ e. cleared-twin (m .book)) (settled-twin ts (m .book)));
+        book = rw (same, twin-length (m .book)) (either (Twin n) (b .lapse) (λ e. cleared-twin ts (m .book)) (settled-twin ts (m .book)));
         trades = rw (same, m .trades);
       }
 
