@@ -5,7 +5,7 @@ use mathlib.Core.Bool.{Bool, true, false}
 use mathlib.Core.List.{List, [], _∷_, _++_}
 use mathlib.Core.Logic.{inl, inr}
 use native.Mathlib.Omega.{arith}
-use lib.ListN.{length, replicate, length-replicate}
+use lib.ListN.{length, replicate, length-take, length-append, length-replicate}
 use Rattle.model.specs.declared.Order.{Order}
 use Rattle.model.specs.Choice.{if_then_else_}
 use Rattle.model.specs.Lists.{keep, total}
@@ -18,7 +18,7 @@ use Rattle.book.proofs.Sorting.{Distinct}
 use Rattle.book.proofs.Queues.{Place, place-of, each-queue, total-queue}
 use Rattle.book.proofs.Kept.{free-number, standing-cleared}
 use Rattle.book.proofs.Numbers.{times, times-other, none-bears, queue-own}
-use Rattle.book.proofs.Parts.{Parts, each-same, spareIn, arranged-parts, parts-length, parts-fair, parts-ordered, queue-buys, queue-sells}
+use Rattle.book.proofs.Parts.{Parts, each-same, spareIn, arranged-parts, parts-fair, parts-ordered, queue-buys, queue-sells}
 
 -- ---- numbers that stay apart
 
@@ -56,6 +56,12 @@ each-arranged P n os f e =
     each-take P n (queue 0 os ++ (queue 1 os ++ replicate n free))
     (each-append P (queue 0 os) (queue 1 os ++ replicate n free) (each-queue P 0 os (each-keep P (standsOn 0) os e))
     (each-append P (queue 1 os) (replicate n free) (each-queue P 1 os (each-keep P (standsOn 1) os e)) (each-same P n free f)))
+
+-- ---- as many places as asked for
+
+pub arranged-length : (n : ℕ) (os : List Order) → length (arranged n os) ≡ n
+unfolding arranged
+arranged-length n os = simp (length-take, length-append, length-replicate) (omega arith)
 
 -- ---- sums
 
@@ -142,9 +148,6 @@ module _ (n : ℕ) (os : List Order) (s : Standing os) (fit : length (queue 0 os
   pub arranged-sells : queue 1 (arranged n os) ≡ queue 1 os
   arranged-sells = queue-sells parts
 
-  pub arranged-length : length (arranged n os) ≡ n
-  arranged-length = omega (arith, parts-length parts)
-
   pub arranged-stands : Standing (arranged n os)
   arranged-stands = record { fair = parts-fair parts; apart = rw (parts .made) apart }
     where
@@ -171,7 +174,7 @@ module _ (n : ℕ) (os : List Order) (s : Standing os) (fit : length (queue 0 os
 
   pub arranged-ranked : n ≤ 4_096 → Ranked (arranged n os)
   arranged-ranked few =
-      record { stands = arranged-stands; few = omega (arith, arranged-length); ordered = parts-ordered parts }
+      record { stands = arranged-stands; few = omega (arith, arranged-length n os); ordered = parts-ordered parts }
 
   -- ---- what is read off the queues is the same
 

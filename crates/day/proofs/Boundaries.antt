@@ -111,7 +111,7 @@ module _ (h : Held) (r : Ranked (h .book)) where
   -- the places of the book after the trades are those before
   pub same-cleared : cleared after ≡ cleared (h .book)
   same-cleared =
-      cleared-same after (h .book) (arranged-length (length (h .book)) (settle ts (h .book)) settled fit)
+      cleared-same after (h .book) (arranged-length (length (h .book)) (settle ts (h .book)))
 
   quiet-auctioned : (c : Bool) → Quiet (auctioned c h)
   unfolding auctioned

@@ -196,7 +196,7 @@ module _ (d : Day) (a : Asked) (rows lent : List (List ℕ)) where
         then-long =
             sym (length-map rows₁ orderOf)
             ∙ ap length settled
-            ∙ arranged-length (length rows) (settle ts book) settled-stands within
+            ∙ arranged-length (length rows) (settle ts book)
 
         -- what is left of the order may join it
         pub then-joins :

@@ -111,12 +111,10 @@ module _ (d : Day) (n : ℕ) (os : List Order) (w : Whole d os) (fit : length (q
 -- as many places as before
 pub arranged-many :
     (book os : List Order)
-    → Standing os
-    → length (queue 0 os) + length (queue 1 os) ≤ length book
     → hasPlaces book ≡ true
     → hasPlaces (arranged (length book) os) ≡ true
 unfolding hasPlaces
-arranged-many book os s fit e = rw (arranged-length (length book) os s fit) e
+arranged-many book os e = rw (arranged-length (length book) os) e
 
 pub arranged-sound :
     (d : Day) (book os : List Order)
@@ -127,7 +125,7 @@ pub arranged-sound :
     → Sound d (arranged (length book) os)
 arranged-sound d book os many w t fit =
     let n = length book in (
-      arranged-many book os (whole-stands d os w) fit many,
+      arranged-many book os many,
       day-sound d (arranged n os) (sound-of d (arranged n os) (arranged-whole d n os w fit) (arranged-timely d n os w fit (d .time) t))
           (arranged-ordered d n os w fit (few-places book many)),
     )

@@ -107,7 +107,7 @@ module _ (h : Held) (f : Fit h) where
       go false =
           let places = settled-fit (h .book) fit-stands (h .day) in
           record {
-            many = arranged-many (h .book) (settle ts (h .book)) (standing-settle ts (h .book) fit-stands) places (f .many);
+            many = arranged-many (h .book) (settle ts (h .book)) (f .many);
             whole = arranged-whole (tally ts (h .day)) (length (h .book)) (settle ts (h .book)) settled-whole places;
             ordered = arranged-ordered (tally ts (h .day)) (length (h .book)) (settle ts (h .book)) settled-whole places few;
           }

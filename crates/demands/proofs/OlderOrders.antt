@@ -5,8 +5,8 @@ use mathlib.Core.Bool.{Bool, true, false, cond, _||_}
 use mathlib.Core.List.{List, [], _∷_, _++_}
 use native.Mathlib.Omega.{arith}
 use lib.ListN.{length, replicate}
-use lib.Dec.{leb, eqb}
-use borrow.Author.Tests.{leb-true, eqb-true, eq-eqb, not-false}
+use lib.Dec.{eqb}
+use borrow.Author.Tests.{eqb-true, eq-eqb}
 use Rattle.model.specs.declared.Order.{Order}
 use Rattle.model.specs.declared.Asked.{Asked}
 use Rattle.model.specs.declared.Trade.{Trade}
@@ -17,10 +17,9 @@ use Rattle.model.specs.Book.{free, isLive, standsOn, insert, queue, arranged}
 use Rattle.model.specs.Matching.{settle, filled}
 use Rattle.model.specs.Figures.{nextNumber}
 use Rattle.model.specs.Entry.{entryTrades, restPrice}
-use Rattle.model.specs.Refusals.{_when_, firstOf}
+use Rattle.model.specs.Refusals.{firstOf}
 use Rattle.model.specs.Calls.{orderRules, joined, entered, orderCall}
-use Rattle.model.proofs.Bools.{and-left, and-both, not-both}
-use Rattle.model.proofs.Rules.{Numbered, NoneHolds, none-holds}
+use Rattle.model.proofs.Bools.{and-both, not-both}
 use Rattle.book.specs.Standing.{Each, Fair, Standing}
 use Rattle.book.proofs.Lists.{each, each-parts, keep-true, keep-false}
 use Rattle.book.proofs.Queues.{number-live, queue-length}
@@ -33,6 +32,7 @@ use Rattle.soundness.proofs.SoundDays.{sound-day, day-stands, next-new}
 use Rattle.demands.specs.Pricing.{Sound}
 use Rattle.demands.specs.Older.{rest, olderPlaced, olderRules, olderEntered, olderOrderCall}
 use Rattle.demands.proofs.Settled.{settle-length}
+use Rattle.demands.proofs.Entered.{Allowed, allowed}
 use Rattle.demands.proofs.SameQueues.{Alike, entry-alike, rest-alike, base-alike}
 use Rattle.demands.proofs.LowestPlace.{rest-length, rest-stands, rest-queue}
 use Rattle.demands.proofs.Twins.{either, Twin, Agree, twin-of, twin-stands, twin-length, twin-alike, twin-full, settled-alike, settled-twin}
@@ -145,22 +145,9 @@ module _ {n : ℕ} {o c : List Order} (d : Day) (a : Asked) (lent : List Trade) 
         entry-alike o c (twin-alike t) d a,
       )
 
-  numbered : Numbered (orderRules d a c (length lent))
-  unfolding orderRules _when_
-  numbered = omega arith
-
   module _ (z : refusal ≡ 0) (kept : Sound (entered d a c lent .answer .day) (entered d a c lent .book)) where
-    side-is : a .side ≤ 1
-    unfolding orderRules _when_
-    side-is =
-        let none : NoneHolds (orderRules d a c (length lent)) = none-holds (orderRules d a c (length lent)) numbered z in
-        leb-true (a .side) 1 (and-left (leb (a .side) 1) (leb (a .kind) 4) (not-false _ (none .1 .0)))
-
-    room : all isLive c ≡ false
-    unfolding orderRules _when_
-    room =
-        let none : NoneHolds (orderRules d a c (length lent)) = none-holds (orderRules d a c (length lent)) numbered z in
-        none .1 .1 .1 .1 .1 .1 .1 .1 .1 .0
+    may : Allowed d a c
+    may = allowed d a c lent z
 
     abbrev ts : List Trade
     ts = entryTrades d a c
@@ -185,10 +172,10 @@ module _ {n : ℕ} {o c : List Order} (d : Day) (a : Asked) (lent : List Trade) 
     new-fair : (eqb q 0 || eqb p 0) ≡ false → Fair new
     new-fair e =
         first-has n new (settle ts c) (standing-settle ts c (twin-stands t) .fair)
-        (omega (arith, still-room ts c room, twin-length t))
+        (omega (arith, still-room ts c (may .place), twin-length t))
         Fair
         (a .side)
-        side-is
+        (may .side)
         new-on
         (rw (rests e) at (day-stands _ _ (sound-day _ _ (kept .1)) .fair))
 
@@ -202,7 +189,7 @@ module _ {n : ℕ} {o c : List Order} (d : Day) (a : Asked) (lent : List Trade) 
             → (eqb q 0 || eqb p 0) ≡ b
             → Twin n (cond b (settle ts o) (rest new (settle ts o))) (arranged n (cond b (settle ts c) (new ∷ settle ts c)))
         go true e = settled-twin ts t
-        go false e = rested-twin ts new t (new-fair e) (next-new d o (older-day d t s)) (twin-full t ∙ room)
+        go false e = rested-twin ts new t (new-fair e) (next-new d o (older-day d t s)) (twin-full t ∙ may .place)
 
     entered-alike : Agree n (olderEntered d a o lent) (entered d a c lent)
     unfolding olderEntered entered

@@ -1,46 +1,33 @@
 -- A sound book is in priority order, and so is what every call leaves, in as many places. Assumes that the calls keep a sound day
 -- sound.
-use Prim.Native.Nat.{ℕ}
 use mathlib.Core.Path.{_≡_, refl}
-use mathlib.Core.Bool.{Bool, true, false, cond}
 use mathlib.Core.List.{List}
-use native.Mathlib.Omega.{arith}
-use lib.ListN.{length, length-take, length-append, length-replicate}
-use lib.Dec.{eqb}
+use lib.ListN.{length}
 use Rattle.model.specs.declared.Order.{Order}
 use Rattle.model.specs.declared.Asked.{Asked}
 use Rattle.model.specs.declared.Trade.{Trade}
 use Rattle.model.specs.declared.Day.{Day}
 use Rattle.model.specs.declared.OrderAnswer.{OrderAnswer}
-use Rattle.model.specs.Book.{arranged}
-use Rattle.model.specs.Refusals.{firstOf}
-use Rattle.model.specs.Calls.{Outcome, orderRules, entered, orderCall}
+use Rattle.model.specs.Calls.{Outcome, entered, orderCall}
 use Rattle.book.specs.Standing.{Ordered}
 use Rattle.soundness.proofs.SoundDays.{sound-ordered}
+use Rattle.book.proofs.Arranging.{arranged-length}
 use Rattle.demands.specs.Pricing.{Sound}
 use Rattle.demands.specs.Keeping.{Keeping}
 use Rattle.demands.specs.Ordering.{Ordering}
+use Rattle.demands.proofs.Cases.{order-cases}
 
 in-order : (d : Day) (book : List Order) → Sound d book → Ordered book
 in-order d book s = sound-ordered d book (s .1)
 
 -- ---- as many places
 
-arranged-long : (n : ℕ) (os : List Order) → length (arranged n os) ≡ n
-unfolding arranged
-arranged-long n os = simp (length-take, length-append, length-replicate) (omega arith)
-
-chosen : {A : Type 0} (P : A → Type 0) (b : Bool) {x y : A} → P x → P y → P (cond b x y)
-chosen P true h k = h
-chosen P false h k = k
-
 as-many : (d : Day) (a : Asked) (book : List Order) (lent : List Trade) → length (orderCall d a book lent .book) ≡ length book
-unfolding orderCall entered
+unfolding entered
 as-many d a book lent =
-    chosen (λ (x : Outcome OrderAnswer). length (x .book) ≡ length book)
-    (eqb (firstOf (orderRules d a book (length lent))) 0)
-    (arranged-long (length book) _)
-    refl
+    order-cases d a book lent (λ (x : Outcome OrderAnswer). length (x .book) ≡ length book)
+    (λ z. arranged-length (length book) _)
+    (λ n. refl)
 
 pub ordering : Keeping → Ordering
 ordering k =

@@ -93,7 +93,7 @@ module _ {n : ℕ} {o c : List Order} (t : Twin n o c) where
   twin-stands = rw (t .made) (arranged-stands n o (t .stands) fit)
 
   pub twin-length : length c ≡ n
-  twin-length = ap length (t .made) ∙ arranged-length n o (t .stands) fit
+  twin-length = ap length (t .made) ∙ arranged-length n o
 
   pub twin-alike : Alike o c
   twin-alike zero = sym (ap (queue 0) (t .made) ∙ arranged-buys n o (t .stands) fit)

@@ -7,13 +7,15 @@ ghost use Rattle.model.specs.Book.{arranged};
 ghost use Rattle.model.specs.Matching.{settle, filled};
 ghost use Rattle.book.specs.Rows.{bookOf};
 ghost use Rattle.book.specs.Standing.{Ranked};
-ghost use Rattle.matching.specs.Settling.{SweptBy};
+ghost use Rattle.book.specs.Settling.{placed};
+ghost use Rattle.matching.specs.Settling.{SweptBy, offOther};
 use book::settling::off_buys;
 use book::settling::off_sells;
 
-// The order was of this side, and its trades filled so many shares. Its own side has not traded.
+// So many shares off the front of the other side: settled by the trades of an order of this side that filled so many.
 pub fn settle_entry(rows: &mut [[u64; 5]], side: u64, shares: u64)
     requires { ⌜ Ranked (bookOf (now rows)) ⌝ }
+    ensures { λ _. ⌜ bookOf (now (rows .exit)) ≡ placed (length (now (rows .entry))) (offOther side shares (bookOf (now (rows .entry)))) ⌝ }
     ensures { λ _. ⌜ ((ts : List Trade) → SweptBy side ts (bookOf (now (rows .entry))) → filled ts ≡ shares → bookOf (now (rows .exit)) ≡ arranged (length (now (rows .entry))) (settle ts (bookOf (now (rows .entry))))) ⌝ }
 {
     if side == 0 {

@@ -49,9 +49,9 @@ join-rest-requires c κs =
     let s = began e in
     let a = s .args in (
       then-ranked (a .d) (a .a) (a .rows .now) (a .trades .now) (s .pre .fits) (e .enter-trades .ensures .0) (e .enter-trades .ensures .1) (s .pre)
-          (t .settle-entry .last .0) (t .settle-entry .ensures),
+          (t .settle-entry .last .0) (t .settle-entry .ensures .1),
       then-joins (a .d) (a .a) (a .rows .now) (a .trades .now) (s .pre .fits) (e .enter-trades .ensures .0) (e .enter-trades .ensures .1) (s .pre)
-          (t .settle-entry .last .0) (t .settle-entry .ensures) (p .price-of-rest .ensures),
+          (t .settle-entry .last .0) (t .settle-entry .ensures .1) (p .price-of-rest .ensures),
     )
 
 issued-one-requires : tie.Need-issued-one-requires
@@ -97,7 +97,7 @@ returns c =
     let s = began e in
     let a = s .args in
     entered-is (a .d) (a .a) (a .rows .now) (a .trades .now) (s .pre .fits) (e .enter-trades .ensures .0) (e .enter-trades .ensures .1) (s .pre)
-    (k .settle-entry .last .0) (k .settle-entry .ensures)
+    (k .settle-entry .last .0) (k .settle-entry .ensures .1)
     (j .join-rest .last .0)
     (p .price-of-rest .ensures)
     (j .join-rest .ensures)

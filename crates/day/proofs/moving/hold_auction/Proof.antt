@@ -45,7 +45,7 @@ returns c =
     let a = s .args in
     auction-held (a .d) (a .rows .now) (a .trades .now) (s .pre .1) (made e) (e .auction-trades .ensures .1)
     (k .settle-auction .last .0)
-    (auction-settled (a .d) (a .rows .now) (s .pre .0 .ranked .stands) (e .auction-trades .ensures .0) (k .settle-auction .ensures))
+    (auction-settled (a .d) (a .rows .now) (s .pre .0 .ranked .stands) (e .auction-trades .ensures .0) (k .settle-auction .ensures .1))
     (c .tally-trades .ensures)
 
 pub hold-auction-spec : {M : Type 1} → statement M

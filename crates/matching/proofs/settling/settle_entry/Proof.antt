@@ -2,6 +2,8 @@
 use Rattle.book.specs.Rows.{bookOf}
 use Rattle.matching.proofs.Fronts.{buy-entered, sell-entered}
 use borrow.Author.Needs.{needs}
+use borrow.Author.Tests.{eq-eqb, ne-eqb}
+use Rattle.matching.specs.Settling.{offOther}
 use Rattle.matching.proofs.settling.settle_entry.Statement.{statement}
 use Rattle.matching.proofs.settling.settle_entry.Tie as tie
 
@@ -15,21 +17,25 @@ same-length : tie.Need-same-length
 same-length c = search needs
 
 returns : tie.Need-returns
+unfolding offOther
 returns c =
     let after-off-sells = c .before in
     let then1 = after-off-sells .before .before in
     let s = then1 .before in
-    buy-entered _ (bookOf (s .args .rows .now)) (s .pre .stands) _ _ (then1 .if1 .taken) (after-off-sells .off-sells .ensures)
+    let e = after-off-sells .off-sells .ensures in
+    (rw (eq-eqb (s .args .side) 0 (then1 .if1 .taken)) e, buy-entered _ (bookOf (s .args .rows .now)) (s .pre .stands) _ _ (then1 .if1 .taken) e)
 
 same-length-2 : tie.Need-same-length-2
 same-length-2 c = search needs
 
 returns-2 : tie.Need-returns-2
+unfolding offOther
 returns-2 c =
     let after-off-buys = c .before in
     let else1 = after-off-buys .before .before in
     let s = else1 .before in
-    sell-entered _ (bookOf (s .args .rows .now)) (s .pre .stands) _ _ (else1 .if1 .left) (after-off-buys .off-buys .ensures)
+    let e = after-off-buys .off-buys .ensures in
+    (rw (ne-eqb (s .args .side) 0 (else1 .if1 .left)) e, sell-entered _ (bookOf (s .args .rows .now)) (s .pre .stands) _ _ (else1 .if1 .left) e)
 
 pub settle-entry-spec : {M : Type 1} → statement M
 settle-entry-spec =

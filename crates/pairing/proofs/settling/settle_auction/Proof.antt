@@ -15,7 +15,8 @@ returns : tie.Need-returns
 returns c =
     let after-off-both = c .before in
     let s = after-off-both .before .before in
-    auction-settles _ (s .args .shares) (bookOf (s .args .rows .now)) (s .pre .stands) (after-off-both .off-both .ensures)
+    let e = after-off-both .off-both .ensures in
+    (e, auction-settles _ (s .args .shares) (bookOf (s .args .rows .now)) (s .pre .stands) e)
 
 pub settle-auction-spec : {M : Type 1} → statement M
 settle-auction-spec = tie.close (tie.spec off-both-requires same-length returns)
