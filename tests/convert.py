@@ -8,7 +8,7 @@ behind each line that is an order of five numbers, and all else is copied.
 Old scripts are kept in tests/convert. Each is converted whole and cut in several ways; what comes out is the script that is
 stored under its name, which the program answers with the replies that are stored there too, and which a second conversion leaves
 as it is. Sessions that came later are converted too. Made inputs: an order with each byte changed, left out or put in; lines of
-many lengths; lines across the ends of the blocks that are read; tails; random lines and random bytes.
+many lengths; lines across the ends of the chunks that are read; tails; random lines and random bytes.
 """
 import itertools
 import random
@@ -20,7 +20,7 @@ from program import ROOT, X86, Counts, run
 
 SEED = 111_000
 PROGRAM = ROOT / "target" / "bin" / "convert_script"
-BLOCK = 65_536  # what the program reads at once
+CHUNK = 65_536  # what the program reads at once
 SMALL = b"O 0 0 7 100 1000"
 LARGE = b"O" + 5 * b" 4294967295"
 STRANGE = b" \t\r\n\0\xff09AOo-+."
@@ -105,9 +105,9 @@ def lines_of_all_lengths():
         yield length * b"O"
 
 
-def across_blocks():
-    """Orders whose bytes and newlines stand on both sides of a block's end."""
-    for before in range(BLOCK - len(LARGE) - 4, BLOCK + 3):
+def across_chunks():
+    """Orders whose bytes and newlines stand on both sides of a chunk's end."""
+    for before in range(CHUNK - len(LARGE) - 4, CHUNK + 3):
         yield before * b"x" + b"\n" + LARGE + b"\n" + SMALL + b"\n"
         yield (before // 2) * b"y\n" + LARGE + b"\n" + SMALL
 
@@ -133,8 +133,8 @@ def made_scripts(counts, seed):
     for line in lines_of_all_lengths():
         script = line + b"\n" + SMALL + b"\n" + line
         counts.converts("a line of %d bytes: %r.." % (len(line), line[:20]), script, converted(script))
-    for script in across_blocks():
-        counts.converts("%d bytes across a block's end" % len(script), script, converted(script))
+    for script in across_chunks():
+        counts.converts("%d bytes across a chunk's end" % len(script), script, converted(script))
     for size in [10, 100, 1000, 5000]:
         counts.cut("%d random lines" % size, b"\n".join(random_lines(source, size)), seed)
     for size in [1, 80, 1000, 65_535, 65_536, 65_537, 300_000]:

@@ -2,7 +2,7 @@
 """Made sessions through the program and through the desk of the tests (desk.py): the replies must be the same.
 
     tests/generated.py                 random days, long and short, a full book, the longest auctions and sweeps, every byte at
-                                       every position of a line, lines about as long as a block; ends with 'N passed, M failed'
+                                       every position of a line, lines about as long as a chunk; ends with 'N passed, M failed'
     tests/generated.py SEED COUNT      COUNT random sessions from SEED on
     tests/generated.py --last-number   all 999,999 numbers of a day: a million lines
 """
@@ -46,7 +46,7 @@ def bounds(counts):
         "the longest sweep of a buy": made.longest_sweep(desk.BUY),
         "the longest sweep of a sell": made.longest_sweep(desk.SELL),
         "every byte at every position": made.every_byte(),
-        "lines about as long as a block": made.long_lines(),
+        "lines about as long as a chunk": made.long_lines(),
     }
     for what, session in sessions.items():
         expected = desk.replies(session)

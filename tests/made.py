@@ -187,7 +187,7 @@ def every_byte():
 
 
 def long_lines():
-    """Lines about as long as any block that a program might read at once, each with a good line at its end."""
+    """Lines about as long as any chunk that a program might read at once, each with a good line at its end."""
     lines = [b"D 1000 1"]
     for power in range(6, 19):
         for length in range(2**power - 9, 2**power + 3):

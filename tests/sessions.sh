@@ -25,7 +25,7 @@ same() { # NAME EXPECTED ACTUAL: two files
 
 rehearse() { tests/x86 "$program"; }
 
-# A file in writes of one byte each, so that the program reads blocks that end anywhere.
+# A file in writes of one byte each, so that the program reads chunks that end anywhere.
 drip() { # FILE
     dd if="$1" bs=1 status=none
 }

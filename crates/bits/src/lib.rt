@@ -32,7 +32,7 @@ pub fn has(map: &[u64], n: u64) -> bool
 }
 
 // The map with n in it. A map that ends before n stays as it is.
-pub fn mark(map: &mut [u64], n: u64)
+pub fn set_bit(map: &mut [u64], n: u64)
     ensures { λ _. ⌜ now (map .exit) ≡ marked (now (map .entry)) n ⌝ }
 {
     let at = (n / 64) as usize;

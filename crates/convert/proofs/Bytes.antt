@@ -1,4 +1,4 @@
--- Byte by byte, and block by block, a conversion is that of the input's lines. Assumes nothing.
+-- Byte by byte, and chunk by chunk, a conversion is that of the input's lines. Assumes nothing.
 use Prim.Native.Nat.{ℕ, zero, suc, _<_}
 use mathlib.Core.Path.{_≡_, refl, sym, ap, _∙_}
 use mathlib.Core.Bool.{Bool, true, false, cond}
@@ -9,9 +9,9 @@ use lib.ListN.{length, take}
 use lib.Seq.{append-snoc, take-all, take-take, length-take-le}
 use borrow.Author.Tests.{ne-eqb, lt-leb, leb-true, leb-false}
 use Rattle.model.specs.Lines.{linesOf}
-use Rattle.text.proofs.Blocks.{Unended, Cut, cut, uncut, cut-up, grown-first, lines-ended, lines-open}
+use Rattle.text.proofs.Chunks.{Unended, Cut, cut, uncut, cut-up, grown-first, lines-ended, lines-open}
 use Rattle.convert.specs.Converting.{takenAsFive, convertedLine, converted}
-use Rattle.convert.specs.Blockwise.{added, convertedFrom, lineAfter, remembered, convertedBlocks}
+use Rattle.convert.specs.Chunkwise.{added, convertedFrom, lineAfter, remembered, convertedChunks}
 
 -- ---- one part behind the other
 
@@ -139,16 +139,16 @@ after-remembered (b ∷ bs) line =
     go true e = refl
     go false e = e
 
--- ---- block by block
+-- ---- chunk by chunk
 
-blocks-are : (bs : List (List ℕ)) (line : List ℕ) → convertedBlocks line bs ≡ convertedFrom line (flatten bs)
-unfolding convertedBlocks convertedFrom flatten
-blocks-are [] line = refl
-blocks-are (b ∷ bs) line =
+chunks-are : (bs : List (List ℕ)) (line : List ℕ) → convertedChunks line bs ≡ convertedFrom line (flatten bs)
+unfolding convertedChunks convertedFrom flatten
+chunks-are [] line = refl
+chunks-are (b ∷ bs) line =
     ap (λ (l : List ℕ). convertedFrom line b ++ l)
-    (blocks-are bs (remembered (lineAfter line b)) ∙ from-remembered (flatten bs) (lineAfter line b))
+    (chunks-are bs (remembered (lineAfter line b)) ∙ from-remembered (flatten bs) (lineAfter line b))
     ∙ sym (from-append b (flatten bs) line)
 
--- however the input is cut into blocks
-pub block-by-block : (bs : List (List ℕ)) → convertedBlocks [] bs ≡ converted (flatten bs)
-block-by-block bs = blocks-are bs [] ∙ from-start (flatten bs) (cut-up (flatten bs))
+-- however the input is cut into chunks
+pub chunk-by-chunk : (bs : List (List ℕ)) → convertedChunks [] bs ≡ converted (flatten bs)
+chunk-by-chunk bs = chunks-are bs [] ∙ from-start (flatten bs) (cut-up (flatten bs))

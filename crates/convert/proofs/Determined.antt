@@ -1,4 +1,4 @@
--- No two differing outcomes meet the promise of a block. Of the line that has not ended the promise says its bytes; what stands
+-- No two differing outcomes meet the promise of a chunk. Of the line that has not ended the promise says its bytes; what stands
 -- behind them in the array is nobody's. Assumes nothing.
 use Prim.Native.Nat.{ℕ}
 use mathlib.Core.Path.{_≡_, refl, sym, ap, _∙_}
@@ -15,14 +15,14 @@ pub record Same (out₁ out₂ : List ℕ) (r₁ r₂ : Converted) : Type 0 wher
   pub line : textOf (r₁ .line) ≡ textOf (r₂ .line)
 
 module _
-    {line : Pending} {block out out₁ out₂ : List ℕ} {r₁ r₂ : Converted}
-    (a : Answers line block out out₁ r₁)
-    (b : Answers line block out out₂ r₂) where
+    {line : Pending} {chunk out out₁ out₂ : List ℕ} {r₁ r₂ : Converted}
+    (a : Answers line chunk out out₁ r₁)
+    (b : Answers line chunk out out₂ r₂) where
   alike : r₁ .fits ≡ r₂ .fits
   alike = a .fits ∙ sym (b .fits)
 
-  pub block-determined : Same out₁ out₂ r₁ r₂
-  block-determined = go (r₁ .fits) refl
+  pub chunk-determined : Same out₁ out₂ r₁ r₂
+  chunk-determined = go (r₁ .fits) refl
     where
       go : (t : Bool) → r₁ .fits ≡ t → Same out₁ out₂ r₁ r₂
       go true e =

@@ -30,7 +30,7 @@ use Rattle.model.proofs.Bools.{and-left, and-right, not-both, not-true-false}
 use Rattle.text.specs.Words.{commandWith}
 use Rattle.convert.specs.Older.{olderOrder, olderOf, olderWords, olderCommand}
 use Rattle.convert.specs.Converting.{areFive, fiveWords, takenAsFive}
-use Rattle.convert.specs.Blockwise.{added}
+use Rattle.convert.specs.Chunkwise.{added}
 use Rattle.convert.specs.Promises.{isOrder}
 use Rattle.convert.proofs.Balances.{words-append, behind, numbers-more, five-short}
 

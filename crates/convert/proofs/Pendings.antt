@@ -10,7 +10,7 @@ use lib.Seq.{append-snoc, take-all, take-at, take-suc-set, length-take-le}
 use Rattle.model.specs.declared.Command.{Command}
 use Rattle.model.specs.Lines.{lineCommand}
 use Rattle.convert.specs.Converting.{takenAsFive}
-use Rattle.convert.specs.Blockwise.{remembered}
+use Rattle.convert.specs.Chunkwise.{remembered}
 use Rattle.convert.specs.Promises.{isOrder}
 use Rattle.convert.proofs.OneLine.{long-none, is-five}
 

@@ -9,11 +9,11 @@ use Rattle.model.specs.declared.Command.{Command}
 use Rattle.model.specs.Lines.{Line, linesOf, lineCommand}
 use Rattle.model.specs.Session.{Desk, answer, session}
 use Rattle.text.specs.Answers.{repliesTo}
-use Rattle.text.proofs.Blocks.{Unended, Cut, cut, uncut, cut-up, ontoAll, grown-first, lines-ended, lines-open}
+use Rattle.text.proofs.Chunks.{Unended, Cut, cut, uncut, cut-up, ontoAll, grown-first, lines-ended, lines-open}
 use Rattle.text.proofs.Sessions.{answers-are}
 use Rattle.convert.specs.Older.{olderCommand, olderAnswers, olderSession}
 use Rattle.convert.specs.Converting.{takenAsFive, converted}
-use Rattle.convert.specs.Blockwise.{added}
+use Rattle.convert.specs.Chunkwise.{added}
 use Rattle.convert.proofs.OneLine.{asks-same, added-once}
 use Rattle.convert.proofs.Bytes.{is-ended, is-open}
 

@@ -1,4 +1,4 @@
--- A block converted byte by byte: what each byte puts, how much room that takes, and the block as a whole. Assumes nothing.
+-- A chunk converted byte by byte: what each byte puts, how much room that takes, and the chunk as a whole. Assumes nothing.
 use Prim.Native.Nat.{ℕ, suc, _+_, _*_, _/_, _≤_, _<_}
 use mathlib.Core.Path.{_≡_, refl, sym, ap, _∙_}
 use mathlib.Core.Bool.{Bool, true, false, cond}
@@ -15,7 +15,7 @@ use Rattle.text.proofs.Printed.{nothing-put, and-then, put-as, put-long, put-sh
 use Rattle.convert.specs.declared.Pending.{Pending}
 use Rattle.convert.specs.declared.Converted.{Converted}
 use Rattle.convert.specs.Converting.{takenAsFive}
-use Rattle.convert.specs.Blockwise.{added, convertedFrom, lineAfter, remembered}
+use Rattle.convert.specs.Chunkwise.{added, convertedFrom, lineAfter, remembered}
 use Rattle.convert.specs.Promises.{textOf, Converts, Answers}
 use Rattle.convert.proofs.Bytes.{from-append, after-append, from-remembered, after-remembered}
 
@@ -99,77 +99,77 @@ pub converts-none :
 unfolding convertedFrom lineAfter
 converts-none line out r f n t = record { fits = f; text = rw n nothing-put; rest = t }
 
--- a block converted up to a place, and its next byte
+-- a chunk converted up to a place, and its next byte
 module _
-    (line block out₀ : List ℕ) (i : ℕ) (out : List ℕ) (r : Converted)
-    (w : Converts line (take i block) out₀ 0 out r)
-    (h : i < length block) where
-  pub next-room : 3 * length block ≤ length out₀ → r .next + 3 ≤ length out
+    (line chunk out₀ : List ℕ) (i : ℕ) (out : List ℕ) (r : Converted)
+    (w : Converts line (take i chunk) out₀ 0 out r)
+    (h : i < length chunk) where
+  pub next-room : 3 * length chunk ≤ length out₀ → r .next + 3 ≤ length out
   next-room room =
-      let l : length (take i block) ≡ i = length-take-le i block (omega arith) in
-      omega (arith, w .text .place, from-few line (take i block), put-long (w .text))
+      let l : length (take i chunk) ≡ i = length-take-le i chunk (omega arith) in
+      omega (arith, w .text .place, from-few line (take i chunk), put-long (w .text))
 
   pub converts-on :
       {out′ : List ℕ} {r′ : Converted}
-      → Converts (textOf (r .line)) (getD block i 0 ∷ []) out (r .next) out′ r′
-      → Converts line (take (i + 1) block) out₀ 0 out′ r′
+      → Converts (textOf (r .line)) (getD chunk i 0 ∷ []) out (r .next) out′ r′
+      → Converts line (take (i + 1) chunk) out₀ 0 out′ r′
   converts-on v =
-      let b = getD block i 0 ∷ [] in
-      let e : take (i + 1) block ≡ take i block ++ b = rw add-one (take-suc block i 0 h) in
-      let there : List ℕ = lineAfter line (take i block) in
+      let b = getD chunk i 0 ∷ [] in
+      let e : take (i + 1) chunk ≡ take i chunk ++ b = rw add-one (take-suc chunk i 0 h) in
+      let there : List ℕ = lineAfter line (take i chunk) in
       let f : convertedFrom (textOf (r .line)) b ≡ convertedFrom there b = rw (w .rest) (from-remembered b there) in
       let g : remembered (lineAfter (textOf (r .line)) b) ≡ remembered (lineAfter there b) =
       rw (w .rest) (after-remembered b there)
       in
       rw e (record {
         fits = v .fits;
-        text = put-as (sym (from-append (take i block) b line)) (and-then (w .text) (put-as f (v .text)));
-        rest = v .rest ∙ g ∙ ap remembered (sym (after-append (take i block) b line));
+        text = put-as (sym (from-append (take i chunk) b line)) (and-then (w .text) (put-as f (v .text)));
+        rest = v .rest ∙ g ∙ ap remembered (sym (after-append (take i chunk) b line));
       })
 
--- ---- a block as a whole
+-- ---- a chunk as a whole
 
-module _ (line : Pending) (block out : List ℕ) (r : Converted) where
+module _ (line : Pending) (chunk out : List ℕ) (r : Converted) where
   pub refused-short :
-      length out / 3 < length block
+      length out / 3 < length chunk
       → r .fits ≡ false
       → r .next ≡ 0
       → r .line ≡ line
-      → Answers line block out out r
+      → Answers line chunk out out r
   refused-short h f n l =
-      let e : length out < 3 * length block = omega arith in
+      let e : length out < 3 * length chunk = omega arith in
       record {
-        fits = f ∙ sym (lt-leb (3 * length block) (length out) e);
+        fits = f ∙ sym (lt-leb (3 * length chunk) (length out) e);
         done = λ t. absurd (not-both t f);
         refused = λ _. (refl, n, l);
       }
 
   pub converted-whole :
       (out₀ : List ℕ) (i : ℕ)
-      → 3 * length block ≤ length out₀
-      → i ≡ length block
-      → Converts (textOf line) (take i block) out₀ 0 out r
-      → Answers line block out₀ out r
+      → 3 * length chunk ≤ length out₀
+      → i ≡ length chunk
+      → Converts (textOf line) (take i chunk) out₀ 0 out r
+      → Answers line chunk out₀ out r
   converted-whole out₀ i h e w =
-      let v : Converts (textOf line) block out₀ 0 out r = rw (e, take-length block) at w in
+      let v : Converts (textOf line) chunk out₀ 0 out r = rw (e, take-length chunk) at w in
       record {
-        fits = w .fits ∙ sym (le-leb (3 * length block) (length out₀) h);
+        fits = w .fits ∙ sym (le-leb (3 * length chunk) (length out₀) h);
         done = λ _. v;
         refused = λ f. absurd (not-both (w .fits) f);
       }
 
 -- what a caller who lends enough has: the text at the front of the output, and the line that has not ended
 module _
-    {line : Pending} {block out₀ out : List ℕ} {r : Converted}
-    (a : Answers line block out₀ out r)
-    (h : 3 * length block ≤ length out₀) where
-  pub lent-enough : Converts (textOf line) block out₀ 0 out r
-  lent-enough = a .done (a .fits ∙ le-leb (3 * length block) (length out₀) h)
+    {line : Pending} {chunk out₀ out : List ℕ} {r : Converted}
+    (a : Answers line chunk out₀ out r)
+    (h : 3 * length chunk ≤ length out₀) where
+  pub lent-enough : Converts (textOf line) chunk out₀ 0 out r
+  lent-enough = a .done (a .fits ∙ le-leb (3 * length chunk) (length out₀) h)
 
-  pub shown : take (r .next) out ≡ convertedFrom (textOf line) block
-  shown = put-shown (lent-enough .text) (omega (arith, from-few (textOf line) block))
+  pub shown : take (r .next) out ≡ convertedFrom (textOf line) chunk
+  shown = put-shown (lent-enough .text) (omega (arith, from-few (textOf line) chunk))
 
   pub shown-within : r .next ≤ length out
   shown-within =
       let w = lent-enough .text in
-      omega (arith, w .place, from-few (textOf line) block, put-long w)
+      omega (arith, w .place, from-few (textOf line) chunk, put-long w)

@@ -1,5 +1,5 @@
--- What the converter of old scripts is held to: the older line, an input converted, and a conversion block by block.
+-- What the converter of old scripts is held to: the older line, an input converted, and a conversion chunk by chunk.
 pub mod Older
 pub mod Converting
-pub mod Blockwise
+pub mod Chunkwise
 pub mod Promises

@@ -1,4 +1,4 @@
--- What the converter promises of a block.
+-- What the converter promises of a chunk.
 use Prim.Native.Nat.{ℕ, _*_}
 use mathlib.Core.Path.{_≡_}
 use mathlib.Core.Bool.{Bool, true, false}
@@ -10,7 +10,7 @@ use Rattle.model.specs.declared.Command.the-variants.{Malformed, Opens, Moves, 
 use Rattle.text.specs.Printing.{Wrote}
 use Rattle.convert.specs.declared.Pending.{Pending}
 use Rattle.convert.specs.declared.Converted.{Converted}
-use Rattle.convert.specs.Blockwise.{convertedFrom, lineAfter, remembered}
+use Rattle.convert.specs.Chunkwise.{convertedFrom, lineAfter, remembered}
 
 unfoldable pub isOrder : Command → Bool
 isOrder Malformed = false
@@ -23,14 +23,14 @@ isOrder (Cancels account number) = false
 abbrev pub textOf : Pending → List ℕ
 textOf p = take (p .kept) (p .bytes)
 
--- the block's conversion is put at a place, and the line that has not ended then is remembered
-pub record Converts (line block before : List ℕ) (at : ℕ) (after : List ℕ) (r : Converted) : Type 0 where
+-- the chunk's conversion is put at a place, and the line that has not ended then is remembered
+pub record Converts (line chunk before : List ℕ) (at : ℕ) (after : List ℕ) (r : Converted) : Type 0 where
   pub fits : r .fits ≡ true
-  pub text : Wrote before at (convertedFrom line block) after (r .next)
-  pub rest : textOf (r .line) ≡ remembered (lineAfter line block)
+  pub text : Wrote before at (convertedFrom line chunk) after (r .next)
+  pub rest : textOf (r .line) ≡ remembered (lineAfter line chunk)
 
--- at the front of an output that has three bytes for each byte of the block; any other stays
-pub record Answers (line : Pending) (block before after : List ℕ) (r : Converted) : Type 0 where
-  pub fits : r .fits ≡ leb (3 * length block) (length before)
-  pub done : r .fits ≡ true → Converts (textOf line) block before 0 after r
+-- at the front of an output that has three bytes for each byte of the chunk; any other stays
+pub record Answers (line : Pending) (chunk before after : List ℕ) (r : Converted) : Type 0 where
+  pub fits : r .fits ≡ leb (3 * length chunk) (length before)
+  pub done : r .fits ≡ true → Converts (textOf line) chunk before 0 after r
   pub refused : r .fits ≡ false → (after ≡ before) × (r .next ≡ 0) × (r .line ≡ line)

@@ -1,5 +1,5 @@
 // The converter of old scripts: it adds balance 0 to each order line of five numbers, and copies every other byte.
-pub mod blocks;
+pub mod chunks;
 pub mod lines;
 
 // The line that has not ended: its bytes so far, of which 80 are enough to know that it is no order.
@@ -8,7 +8,7 @@ pub struct Pending {
     pub kept: usize,
 }
 
-// What a block became: whether the lent output is long enough for it, the place behind what was put there, and the line that
+// What a chunk became: whether the lent output is long enough for it, the place behind what was put there, and the line that
 // has not ended.
 pub struct Converted {
     pub fits: bool,

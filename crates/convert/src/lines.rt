@@ -3,7 +3,7 @@ ghost use mathlib.Core.Path.{_≡_};
 ghost use mathlib.Core.Bool.{true};
 ghost use mathlib.Core.List.{[], _∷_, _++_};
 ghost use Rattle.convert.specs.Converting.{takenAsFive};
-ghost use Rattle.convert.specs.Blockwise.{remembered};
+ghost use Rattle.convert.specs.Chunkwise.{remembered};
 ghost use Rattle.convert.specs.Promises.{textOf, isOrder};
 use crate::Pending;
 use model::Command;

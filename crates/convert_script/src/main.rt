@@ -1,11 +1,11 @@
-// The converter of old scripts as a program: it reads standard input block by block, and writes each block converted before
+// The converter of old scripts as a program: it reads standard input chunk by chunk, and writes each chunk converted before
 // it reads on.
 mod serving;
 
 use convert::Pending;
 
-// What goes from block to block: the line that has not ended, and whether the program stops here.
-pub struct Held {
+// What goes from chunk to chunk: the line that has not ended, and whether the program stops here.
+pub struct AfterChunk {
     pub line: Pending,
     pub stops: bool,
 }

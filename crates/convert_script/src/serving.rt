@@ -1,28 +1,28 @@
-// Blocks read from standard input, and written converted to standard output. No promise can say what is read or written;
-// what lies between is the definitions' step from block to block.
-use crate::Held;
+// Chunks read from standard input, and written converted to standard output. No promise can say what is read or written;
+// what lies between is the definitions' step from chunk to chunk.
+use crate::AfterChunk;
 use crate::Input;
 use convert::Pending;
-use convert::blocks::convert_block;
+use convert::chunks::convert_chunk;
 use convert::lines::start;
 ghost use mathlib.Core.Path.{_≡_};
 ghost use mathlib.Core.Bool.{true, false};
 ghost use Prim.Native.Nat.{_*_, _≤_};
 ghost use lib.ListN.{length, take};
-ghost use Rattle.convert.specs.Blockwise.{lineAfter, remembered};
+ghost use Rattle.convert.specs.Chunkwise.{lineAfter, remembered};
 ghost use Rattle.convert.specs.Promises.{textOf};
 
-// Three bytes for each byte of a block.
+// Three bytes for each byte of a chunk.
 fn output() -> [u8; 196608]
     ensures { λ r. ⌜ 196608 ≡ length r ⌝ }
 {
     [0; 196608]
 }
 
-fn stopped(line: Pending) -> Held
+fn stopped(line: Pending) -> AfterChunk
     ensures { λ r. ⌜ r .stops ≡ true ⌝ }
 {
-    Held { line, stops: true }
+    AfterChunk { line, stops: true }
 }
 
 // Writes a text out, or says that it cannot.
@@ -38,17 +38,17 @@ fn write_out(text: &[u8]) -> bool {
 }
 
 // Converts the first n bytes of the buffer and writes them out.
-fn serve(line: Pending, n: usize, buf: &[u8], out: &mut [u8]) -> Held
+fn serve(line: Pending, n: usize, buf: &[u8], out: &mut [u8]) -> AfterChunk
     requires { ⌜ (n ≤ length (now buf)) × (3 * length (now buf) ≤ length (now out)) ⌝ }
     ensures { λ r. ⌜ (r .stops ≡ false → textOf (r .line) ≡ remembered (lineAfter (textOf line) (take n (now (buf .entry))))) ⌝ }
 {
-    let done = convert_block(line, &buf[..n], out);
+    let done = convert_chunk(line, &buf[..n], out);
     let next = done.next;
     if !write_out(&out[..next]) {
         return stopped(line);
     }
     let rest = done.line;
-    Held {
+    AfterChunk {
         line: rest,
         stops: false,
     }
@@ -71,7 +71,7 @@ fn fill(buf: &mut [u8]) -> Input
 }
 
 // Reads once, and writes what was read.
-fn turn(line: Pending, buf: &mut [u8], out: &mut [u8]) -> Held
+fn turn(line: Pending, buf: &mut [u8], out: &mut [u8]) -> AfterChunk
     requires { ⌜ 3 * length (now buf) ≤ length (now out) ⌝ }
 {
     let input = fill(buf);

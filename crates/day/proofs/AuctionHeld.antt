@@ -27,7 +27,7 @@ use Rattle.book.proofs.Written.{fitted-nil, fitted-trades, fitted-written}
 use Rattle.pairing.proofs.Auctioned.{volume-filled}
 use Rattle.pairing.proofs.Auctions.{uncrossed-none, auction-trades-are, auction-money, auction-shares, auction-cases}
 use Rattle.day.specs.declared.Dealt.{Dealt}
-use Rattle.day.specs.Promises.{left}
+use Rattle.day.specs.Promises.{callLeft}
 use Rattle.day.specs.Ready.{Ready}
 use Rattle.day.specs.Moving.{auctioned, dealt, reached}
 use Rattle.day.proofs.AuctionLaws.{price-found}
@@ -126,7 +126,7 @@ module _ (d : Day) (rows lent : List (List ℕ)) where
         (rows₂ : List (List ℕ)) {day : Day}
         → bookOf rows₂ ≡ arranged (length book) (settle ts book)
         → day ≡ tally (tradesOf (take n after)) d
-        → left (record { day = day; made = n }) rows₂ after ≡ reached (auctioned false (start d book)) (tradesOf lent)
+        → callLeft (record { day = day; made = n }) rows₂ after ≡ reached (auctioned false (start d book)) (tradesOf lent)
     unfolding reached auctioned hold start
     auction-held rows₂ {day} er ed =
         let t : tradesOf after ≡ written ts (tradesOf lent) = ap tradesOf ea ∙ fitted-written ts lent fits in

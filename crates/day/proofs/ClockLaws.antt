@@ -26,7 +26,7 @@ use Rattle.day.specs.declared.Dealt.{Dealt}
 use Rattle.day.specs.declared.Passage.{Passage}
 use Rattle.day.specs.declared.Passed.{Passed}
 use Rattle.day.specs.declared.Passed.the-variants.{Nothing, Auction, Lapse}
-use Rattle.day.specs.Promises.{left}
+use Rattle.day.specs.Promises.{callLeft}
 use Rattle.day.specs.Ready.{Ready}
 use Rattle.day.specs.Moving.{passed, auctioned, past, dealt, reached}
 use Rattle.day.proofs.Boundaries.{moved-past, same-cleared}
@@ -157,19 +157,19 @@ module _ (d : Day) (t : ℕ) (rows : List (List ℕ)) (r : Ready d (bookOf rows)
     pub passed-nothing : p ≡ Nothing → record { answer = record { day = d; made = 0 }; book = book; trades = lent } ≡ reached (moved d t book) lent
     passed-nothing n = at-nothing ∙ ap (λ (q : Passed). reached (past q (start d book)) lent) (sym n) ∙ by-past
 
-    module _ (a : Passage) (rows₁ after : List (List ℕ)) (f : left a rows₁ after ≡ reached (auctioned false (start d book)) lent) where
-      at-auction : left a rows₁ after ≡ reached (past Auction (start d book)) lent
+    module _ (a : Passage) (rows₁ after : List (List ℕ)) (f : callLeft a rows₁ after ≡ reached (auctioned false (start d book)) lent) where
+      at-auction : callLeft a rows₁ after ≡ reached (past Auction (start d book)) lent
       unfolding past
       at-auction = f
 
-      pub passed-auction : p ≡ Auction → left a rows₁ after ≡ reached (moved d t book) lent
+      pub passed-auction : p ≡ Auction → callLeft a rows₁ after ≡ reached (moved d t book) lent
       passed-auction n = at-auction ∙ ap (λ (q : Passed). reached (past q (start d book)) lent) (sym n) ∙ by-past
 
       at-lapse : clearing (reached (auctioned false (start d book)) lent) ≡ reached (past Lapse (start d book)) lent
       unfolding past reached auctioned hold start
       at-lapse = rw (same-cleared (start d book) (r .ranked))
 
-      pub passed-lapse : {rows₂ : List (List ℕ)} → p ≡ Lapse → rows₂ ≡ rowsOf (cleared (bookOf rows₁)) → left a rows₂ after ≡ reached (moved d t book) lent
+      pub passed-lapse : {rows₂ : List (List ℕ)} → p ≡ Lapse → rows₂ ≡ rowsOf (cleared (bookOf rows₁)) → callLeft a rows₂ after ≡ reached (moved d t book) lent
       passed-lapse n g =
           rw (g, book-rows)
           (ap clearing f
@@ -199,17 +199,17 @@ module _ (d : Day) (t : ℕ) (rows lent : List (List ℕ)) {n : ℕ} (e : n ≡ 
 
   pub clock-refused :
       (n ≡ 0 → ⊥)
-      → left (record { reply = Refused n; made = 0; day = d }) rows lent ≡ clockCall d t (bookOf rows) (tradesOf lent)
+      → callLeft (record { reply = Refused n; made = 0; day = d }) rows lent ≡ clockCall d t (bookOf rows) (tradesOf lent)
   unfolding clockCall
   clock-refused z = rw (first, ne-eqb n 0 z)
 
   pub clock-accepted :
       (a : Passage) (rows₁ after : List (List ℕ)) {phase : ℕ} {day : Day}
       → n ≡ 0
-      → left a rows₁ after ≡ reached (moved d t (bookOf rows)) (tradesOf lent)
+      → callLeft a rows₁ after ≡ reached (moved d t (bookOf rows)) (tradesOf lent)
       → phase ≡ phaseAt t
       → day ≡ at t (a .day)
-      → left (record { reply = Moved phase (a .made); made = a .made; day = day }) rows₁ after
+      → callLeft (record { reply = Moved phase (a .made); made = a .made; day = day }) rows₁ after
       ≡ clockCall d t (bookOf rows) (tradesOf lent)
   unfolding clockCall reached
   clock-accepted a rows₁ after z f p g = rw (first, eq-eqb n 0 z, p, g) (ap (answered t) f)

@@ -19,7 +19,7 @@ use Rattle.model.specs.ClockCall.{clockCall}
 use Rattle.model.specs.AuctionCalls.{ListOutcome, reportCall, listCall}
 use Rattle.book.specs.Rows.{orderOf, rowOf, bookOf, rowsOf, tradeOf, tradeRow, tradesOf, tradeRows}
 use Rattle.book.specs.Standing.{Each}
-use Rattle.day.specs.Promises.{openLeft, left, cancelLeft, listLeft}
+use Rattle.day.specs.Promises.{openLeft, callLeft, cancelLeft, listLeft}
 
 -- ---- rows are determined by what they say
 
@@ -83,8 +83,8 @@ trading-determined :
     → Places n
     → Trades ts
     → Trades us
-    → left r m ts ≡ o
-    → left s n us ≡ o
+    → callLeft r m ts ≡ o
+    → callLeft s n us ≡ o
     → (r ≡ s) × (m ≡ n) × (ts ≡ us)
 trading-determined {A} o m n ts us r s pm pn pt pu e f = (
   ap (λ (x : Outcome A). x .answer) (e ∙ sym f),
@@ -98,8 +98,8 @@ pub order-determined :
     → Places n
     → Trades ts
     → Trades us
-    → left r m ts ≡ orderCall d a (bookOf before) (tradesOf lent)
-    → left s n us ≡ orderCall d a (bookOf before) (tradesOf lent)
+    → callLeft r m ts ≡ orderCall d a (bookOf before) (tradesOf lent)
+    → callLeft s n us ≡ orderCall d a (bookOf before) (tradesOf lent)
     → (r ≡ s) × (m ≡ n) × (ts ≡ us)
 order-determined d a before lent = trading-determined (orderCall d a (bookOf before) (tradesOf lent))
 
@@ -109,8 +109,8 @@ pub clock-determined :
     → Places n
     → Trades ts
     → Trades us
-    → left r m ts ≡ clockCall d time (bookOf before) (tradesOf lent)
-    → left s n us ≡ clockCall d time (bookOf before) (tradesOf lent)
+    → callLeft r m ts ≡ clockCall d time (bookOf before) (tradesOf lent)
+    → callLeft s n us ≡ clockCall d time (bookOf before) (tradesOf lent)
     → (r ≡ s) × (m ≡ n) × (ts ≡ us)
 clock-determined d time before lent = trading-determined (clockCall d time (bookOf before) (tradesOf lent))
 

@@ -38,7 +38,7 @@ use Rattle.matching.specs.Settling.{SweptBy}
 use Rattle.matching.proofs.Entries.{rest-price}
 use Rattle.matching.proofs.EntryLaws.{entry-filled, entry-swept}
 use Rattle.matching.proofs.EntryKept.{traded-bound, fair-rest}
-use Rattle.day.specs.Promises.{left}
+use Rattle.day.specs.Promises.{callLeft}
 use Rattle.day.specs.Ready.{Taken, Joins}
 
 -- ---- where what is left goes
@@ -238,7 +238,7 @@ module _ (d : Day) (a : Asked) (rows lent : List (List ℕ)) where
             → rem ≡ ended (a .quantity - s .filled) p
             → i ≡ issue d
             → day ≡ tally (tradesOf (take (s .trades) trades)) i
-            → left
+            → callLeft
             (record {
               reply =
                   Accepted (record { number = d .issued + 1; filled = s .filled; levels = s .levels; remainder = rem });

@@ -27,7 +27,7 @@ use Rattle.book.proofs.Counting.{has-room, queues-orders}
 use Rattle.soundness.proofs.Clauses.{says-price}
 use Rattle.soundness.proofs.Sizes.{says-quantity, sized-most}
 use Rattle.day.specs.Checks.{formRules, hourRules, numberRules, askedRules, bookRules, listRules}
-use Rattle.day.specs.Promises.{left}
+use Rattle.day.specs.Promises.{callLeft}
 use Rattle.day.specs.Ready.{Ready, Taken}
 use Rattle.day.proofs.Readiness.{ready-if}
 use Rattle.day.proofs.AskedRules.{order-groups, asked-numbered, numbered-append}
@@ -186,7 +186,7 @@ module _ (d : Day) (a : Asked) (rows lent : List (List ℕ)) {n : ℕ} (r : n �
 
   pub order-refused :
       (n ≡ 0 → ⊥)
-      → left (record { reply = Refused n; made = 0; day = d }) rows lent ≡ orderCall d a (bookOf rows) (tradesOf lent)
+      → callLeft (record { reply = Refused n; made = 0; day = d }) rows lent ≡ orderCall d a (bookOf rows) (tradesOf lent)
   unfolding orderCall
   order-refused z = rw (listed, ne-eqb n 0 z)
 

@@ -18,8 +18,8 @@ abbrev pub openLeft : OpenReply.OpenReply → List (List ℕ) → OpenOutcome
 openLeft reply rows = record { reply = reply; book = bookOf rows }
 
 -- an order or a move of the clock: what it handed back, the rows of the book, and those of the trade list
-abbrev pub left : {A : Type 0} → A → List (List ℕ) → List (List ℕ) → Outcome A
-left answer rows trades = record { answer = answer; book = bookOf rows; trades = tradesOf trades }
+abbrev pub callLeft : {A : Type 0} → A → List (List ℕ) → List (List ℕ) → Outcome A
+callLeft answer rows trades = record { answer = answer; book = bookOf rows; trades = tradesOf trades }
 
 -- such a call, refused: no trade is made, and the day stays
 abbrev pub orderRefused : Day → ℕ → OrderAnswer

@@ -12,7 +12,7 @@ ghost use Rattle.model.specs.AuctionCalls.{reportCall, listCall};
 ghost use Rattle.book.specs.Rows.{bookOf};
 ghost use Rattle.day.specs.Promises.{listLeft};
 
-pub fn report_auction(d: Day, rows: &[[u64; 5]]) -> ReportReply
+pub fn report_call(d: Day, rows: &[[u64; 5]]) -> ReportReply
     ensures { λ r. ⌜ r ≡ reportCall d (bookOf (now (rows .entry))) ⌝ }
 {
     if !is_sound(d, rows) {
@@ -22,7 +22,7 @@ pub fn report_auction(d: Day, rows: &[[u64; 5]]) -> ReportReply
     report_at(rows, price)
 }
 
-pub fn list_auction(d: Day, rows: &[[u64; 5]], asked: u64, prices: &mut [u64]) -> ListReply
+pub fn list_call(d: Day, rows: &[[u64; 5]], prices: &mut [u64], asked: u64) -> ListReply
     ensures { λ r. ⌜ listLeft r (now (prices .exit)) ≡ listCall d asked (bookOf (now (rows .entry))) (now (prices .entry)) ⌝ }
 {
     if !is_sound(d, rows) {

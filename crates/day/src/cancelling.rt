@@ -43,7 +43,7 @@ pub fn cancel_sound(d: Day, rows: &mut [[u64; 5]], account: u64, number: u64) ->
 }
 
 // 15: not sound.
-pub fn cancel_order(d: Day, rows: &mut [[u64; 5]], account: u64, number: u64) -> CancelReply
+pub fn cancel_call(d: Day, rows: &mut [[u64; 5]], account: u64, number: u64) -> CancelReply
     ensures { λ r. ⌜ cancelLeft r (now (rows .exit)) ≡ cancelCall d account number (bookOf (now (rows .entry))) ⌝ }
 {
     if !is_sound(d, rows) {

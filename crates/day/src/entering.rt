@@ -27,7 +27,7 @@ ghost use Rattle.model.specs.Calls.{ended, joined, entered, orderCall};
 ghost use Rattle.book.specs.Rows.{bookOf, tradesOf};
 ghost use Rattle.book.specs.Standing.{Ranked};
 ghost use Rattle.day.specs.Checks.{askedRules, bookRules};
-ghost use Rattle.day.specs.Promises.{left, orderRefused};
+ghost use Rattle.day.specs.Promises.{callLeft, orderRefused};
 ghost use Rattle.day.specs.Ready.{Taken, Joins};
 
 // The number of the first rule but 13 that holds on a sound day, or 0.
@@ -81,7 +81,7 @@ fn join_rest(rows: &mut [[u64; 5]], a: Asked, number: u64, q: u64, p: u64)
 // An order that is not refused.
 fn enter(rows: &mut [[u64; 5]], trades: &mut [[u64; 6]], d: Day, a: Asked) -> OrderAnswer
     requires { ⌜ Taken d a (bookOf (now rows)) (length (now trades)) ⌝ }
-    ensures { λ r. ⌜ left r (now (rows .exit)) (now (trades .exit)) ≡ entered d a (bookOf (now (rows .entry))) (tradesOf (now (trades .entry))) ⌝ }
+    ensures { λ r. ⌜ callLeft r (now (rows .exit)) (now (trades .exit)) ≡ entered d a (bookOf (now (rows .entry))) (tradesOf (now (trades .entry))) ⌝ }
 {
     let phase = phase_at(d.time);
     let s = enter_trades(rows, &mut *trades, d, phase, a);
@@ -114,9 +114,9 @@ fn refused(d: Day, n: u64) -> OrderAnswer
 }
 
 // On a day that its caller has shown to be sound: it is not tested again.
-pub fn enter_sound(d: Day, a: Asked, rows: &mut [[u64; 5]], trades: &mut [[u64; 6]]) -> OrderAnswer
+pub fn order_sound(d: Day, rows: &mut [[u64; 5]], trades: &mut [[u64; 6]], a: Asked) -> OrderAnswer
     requires { ⌜ unsound d (bookOf (now rows)) ≡ false ⌝ }
-    ensures { λ r. ⌜ left r (now (rows .exit)) (now (trades .exit)) ≡ orderCall d a (bookOf (now (rows .entry))) (tradesOf (now (trades .entry))) ⌝ }
+    ensures { λ r. ⌜ callLeft r (now (rows .exit)) (now (trades .exit)) ≡ orderCall d a (bookOf (now (rows .entry))) (tradesOf (now (trades .entry))) ⌝ }
 {
     let refusal = order_refusal(rows, d, a);
     if refusal != 0 {
@@ -130,11 +130,11 @@ pub fn enter_sound(d: Day, a: Asked, rows: &mut [[u64; 5]], trades: &mut [[u64; 
 }
 
 // 15: not sound.
-pub fn enter_order(d: Day, a: Asked, rows: &mut [[u64; 5]], trades: &mut [[u64; 6]]) -> OrderAnswer
-    ensures { λ r. ⌜ left r (now (rows .exit)) (now (trades .exit)) ≡ orderCall d a (bookOf (now (rows .entry))) (tradesOf (now (trades .entry))) ⌝ }
+pub fn order_call(d: Day, rows: &mut [[u64; 5]], trades: &mut [[u64; 6]], a: Asked) -> OrderAnswer
+    ensures { λ r. ⌜ callLeft r (now (rows .exit)) (now (trades .exit)) ≡ orderCall d a (bookOf (now (rows .entry))) (tradesOf (now (trades .entry))) ⌝ }
 {
     if !is_sound(d, rows) {
         return refused(d, 15);
     }
-    enter_sound(d, a, &mut *rows, &mut *trades)
+    order_sound(d, &mut *rows, &mut *trades, a)
 }

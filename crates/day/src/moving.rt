@@ -30,7 +30,7 @@ ghost use Rattle.book.specs.Rows.{bookOf, tradesOf, tradeRows};
 ghost use Rattle.book.specs.Standing.{Ranked};
 ghost use Rattle.book.specs.Writing.{fitted};
 ghost use Rattle.day.specs.declared.Passed.the-variants.{Nothing};
-ghost use Rattle.day.specs.Promises.{left, clockRefused};
+ghost use Rattle.day.specs.Promises.{callLeft, clockRefused};
 ghost use Rattle.day.specs.Ready.{Ready};
 ghost use Rattle.day.specs.Moving.{passedBy, auctioned, dealt, reached};
 ghost use Rattle.day.specs.Moving as moving;
@@ -129,7 +129,7 @@ fn lacks_places(d: Day, time: u64, rows: &[[u64; 5]], places: usize) -> bool
 fn hold_auction(d: Day, rows: &mut [[u64; 5]], trades: &mut [[u64; 6]]) -> Passage
     requires { ⌜ Ready d (bookOf (now rows)) ⌝ }
     requires { ⌜ length (auctionTrades d (bookOf (now rows))) ≤ length (now trades) ⌝ }
-    ensures { λ r. ⌜ left r (now (rows .exit)) (now (trades .exit)) ≡ reached (auctioned false (start d (bookOf (now (rows .entry))))) (tradesOf (now (trades .entry))) ⌝ }
+    ensures { λ r. ⌜ callLeft r (now (rows .exit)) (now (trades .exit)) ≡ reached (auctioned false (start d (bookOf (now (rows .entry))))) (tradesOf (now (trades .entry))) ⌝ }
 {
     let dealt = auction_trades(d, rows, &mut *trades);
     settle_auction(&mut *rows, dealt.shares);
@@ -144,7 +144,7 @@ fn hold_auction(d: Day, rows: &mut [[u64; 5]], trades: &mut [[u64; 6]]) -> Passa
 fn pass_boundaries(d: Day, time: u64, rows: &mut [[u64; 5]], trades: &mut [[u64; 6]]) -> Passage
     requires { ⌜ Ready d (bookOf (now rows)) ⌝ }
     requires { ⌜ length (moved d time (bookOf (now rows)) .trades) ≤ length (now trades) ⌝ }
-    ensures { λ r. ⌜ left r (now (rows .exit)) (now (trades .exit)) ≡ reached (moved d time (bookOf (now (rows .entry)))) (tradesOf (now (trades .entry))) ⌝ }
+    ensures { λ r. ⌜ callLeft r (now (rows .exit)) (now (trades .exit)) ≡ reached (moved d time (bookOf (now (rows .entry)))) (tradesOf (now (trades .entry))) ⌝ }
 {
     let p = passed(d.time, time);
     match p {
@@ -169,9 +169,9 @@ fn refused(d: Day, n: u64) -> ClockAnswer
 }
 
 // On a day that its caller has shown to be sound: it is not tested again.
-pub fn move_sound(d: Day, time: u64, rows: &mut [[u64; 5]], trades: &mut [[u64; 6]]) -> ClockAnswer
+pub fn clock_sound(d: Day, rows: &mut [[u64; 5]], trades: &mut [[u64; 6]], time: u64) -> ClockAnswer
     requires { ⌜ unsound d (bookOf (now rows)) ≡ false ⌝ }
-    ensures { λ r. ⌜ left r (now (rows .exit)) (now (trades .exit)) ≡ clockCall d time (bookOf (now (rows .entry))) (tradesOf (now (trades .entry))) ⌝ }
+    ensures { λ r. ⌜ callLeft r (now (rows .exit)) (now (trades .exit)) ≡ clockCall d time (bookOf (now (rows .entry))) (tradesOf (now (trades .entry))) ⌝ }
 {
     // 1: no time, or before the day's time
     if 86_399 < time {
@@ -197,11 +197,11 @@ pub fn move_sound(d: Day, time: u64, rows: &mut [[u64; 5]], trades: &mut [[u64; 
 }
 
 // 15: not sound.
-pub fn move_clock(d: Day, time: u64, rows: &mut [[u64; 5]], trades: &mut [[u64; 6]]) -> ClockAnswer
-    ensures { λ r. ⌜ left r (now (rows .exit)) (now (trades .exit)) ≡ clockCall d time (bookOf (now (rows .entry))) (tradesOf (now (trades .entry))) ⌝ }
+pub fn clock_call(d: Day, rows: &mut [[u64; 5]], trades: &mut [[u64; 6]], time: u64) -> ClockAnswer
+    ensures { λ r. ⌜ callLeft r (now (rows .exit)) (now (trades .exit)) ≡ clockCall d time (bookOf (now (rows .entry))) (tradesOf (now (trades .entry))) ⌝ }
 {
     if !is_sound(d, rows) {
         return refused(d, 15);
     }
-    move_sound(d, time, &mut *rows, &mut *trades)
+    clock_sound(d, &mut *rows, &mut *trades, time)
 }

@@ -26,7 +26,7 @@ fn may_open(close: u64, mark: u64, rows: &[[u64; 5]]) -> bool
 }
 
 // Every place is made free. An opening reads nothing of the old day.
-pub fn open_day(close: u64, mark: u64, rows: &mut [[u64; 5]]) -> OpenReply
+pub fn open_call(rows: &mut [[u64; 5]], close: u64, mark: u64) -> OpenReply
     ensures { λ r. ⌜ openLeft r (now (rows .exit)) ≡ openCall close mark (bookOf (now (rows .entry))) ⌝ }
 {
     if !may_open(close, mark, rows) {

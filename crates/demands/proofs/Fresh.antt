@@ -140,8 +140,8 @@ module _ (close mark : ℕ) where
         go true m r = let k : freshDay close mark ≡ d = cc in rw (← k) (fresh-sound m)
         go false m r = let z : _≡_ {A = ℕ} 0 1 = cc in absurd (omega arith)
 
-    pub open-day : (d : Day) → openCall close mark book .reply ≡ OpenReply.the-variants.Opened d → d ≡ freshDay close mark
-    open-day d e = go may (rw open-by at e)
+    pub open-call : (d : Day) → openCall close mark book .reply ≡ OpenReply.the-variants.Opened d → d ≡ freshDay close mark
+    open-call d e = go may (rw open-by at e)
       where
         go : (b : Bool) → opened b .reply ≡ OpenReply.the-variants.Opened d → d ≡ freshDay close mark
         go true r = cc

@@ -21,7 +21,7 @@ use Rattle.soundness.proofs.SoundDays.{sound-day}
 use Rattle.demands.specs.Pricing.{Sound}
 use Rattle.demands.specs.Totalling.{Totals}
 use Rattle.demands.specs.Running.{Event, Owner, answers, stepped, after, tradesIn, acceptedIn, Fresh, Is, Running}
-use Rattle.demands.proofs.Fresh.{open-fresh, open-day}
+use Rattle.demands.proofs.Fresh.{open-fresh, open-call}
 use Rattle.demands.proofs.Answers.{event-sound, event-not-15}
 use Rattle.demands.proofs.Issued.{run-counts}
 use Rattle.demands.proofs.Owned.{Known, Owned, run-owned}
@@ -44,7 +44,7 @@ module _ (s : Desk) (f : Fresh s) where
   fresh-sound = rw (← f .book) (open-fresh (f .close) (f .mark) (f .places) (s .day) (f .opened))
 
   is-fresh : s .day ≡ freshDay (f .close) (f .mark)
-  is-fresh = open-day (f .close) (f .mark) (f .places) (s .day) (f .opened)
+  is-fresh = open-call (f .close) (f .mark) (f .places) (s .day) (f .opened)
 
   none-issued : s .day .issued ≡ 0
   unfolding freshDay

@@ -25,7 +25,7 @@ use Rattle.model.specs.Lines.{refusalLine, tradeLines, openLine, clockLine, ord
 use Rattle.model.specs.Session as Session
 use Rattle.model.specs.Session.{Desk, opened, openAnswer, cancelAnswer, onDesk, answer}
 use Rattle.book.specs.Rows.{orderOf, bookOf, tradeOf, tradesOf}
-use Rattle.day.specs.Promises.{openLeft, left, cancelLeft}
+use Rattle.day.specs.Promises.{openLeft, callLeft, cancelLeft}
 use Rattle.model.proofs.Bools.{not-both}
 use Rattle.text.specs.Printing.{Wrote}
 use Rattle.text.proofs.Printed.{and-then, line-within}
@@ -67,7 +67,7 @@ clock-holds d t book lent =
 made-within :
     {A : Type 0} (made : A → ℕ) (o : Outcome A) (r : A) (rows trades : List (List ℕ))
     → made (o .answer) ≤ length (o .trades)
-    → left r rows trades ≡ o
+    → callLeft r rows trades ≡ o
     → made r ≤ length trades
 made-within {A} made o r rows trades h e =
     let n : length (tradesOf trades) ≡ length trades = length-map trades tradeOf in
@@ -76,11 +76,11 @@ made-within {A} made o r rows trades h e =
 
 module _ (d : Day) (rows trades rows′ trades′ : List (List ℕ)) where
   pub order-made :
-      (a : Asked) {r : OrderAnswer} → left r rows′ trades′ ≡ orderCall d a (bookOf rows) (tradesOf trades) → r .made ≤ length trades′
+      (a : Asked) {r : OrderAnswer} → callLeft r rows′ trades′ ≡ orderCall d a (bookOf rows) (tradesOf trades) → r .made ≤ length trades′
   order-made a {r} = made-within (λ x. x .made) _ r rows′ trades′ (order-holds d a (bookOf rows) (tradesOf trades))
 
   pub clock-made :
-      (t : ℕ) {r : ClockAnswer} → left r rows′ trades′ ≡ clockCall d t (bookOf rows) (tradesOf trades) → r .made ≤ length trades′
+      (t : ℕ) {r : ClockAnswer} → callLeft r rows′ trades′ ≡ clockCall d t (bookOf rows) (tradesOf trades) → r .made ≤ length trades′
   clock-made t {r} = made-within (λ x. x .made) _ r rows′ trades′ (clock-holds d t (bookOf rows) (tradesOf trades))
 
 -- ---- answers
@@ -212,7 +212,7 @@ module _ {before after : List ℕ} {at : ℕ} where
           {middle : List ℕ} {p : ℕ} (h : p + 110 ≤ length middle) where
         pub order-answered :
             (a : Asked) (r : OrderAnswer)
-            → left r rows′ trades′ ≡ orderCall d a (bookOf rows) (tradesOf trades)
+            → callLeft r rows′ trades′ ≡ orderCall d a (bookOf rows) (tradesOf trades)
             → Wrote before at (tradeLines (take (r .made) (tradesOf trades′))) middle p
             → Wrote middle p (orderLine (r .reply)) after next
             → Answering (Enters a) begun d before at rows trades rows′ trades′ after (record { begun = true; day = r .day; next = next })
@@ -229,7 +229,7 @@ module _ {before after : List ℕ} {at : ℕ} where
 
         pub clock-answered :
             (t : ℕ) (r : ClockAnswer)
-            → left r rows′ trades′ ≡ clockCall d t (bookOf rows) (tradesOf trades)
+            → callLeft r rows′ trades′ ≡ clockCall d t (bookOf rows) (tradesOf trades)
             → Wrote before at (tradeLines (take (r .made) (tradesOf trades′))) middle p
             → Wrote middle p (clockLine (r .reply)) after next
             → Answering (Moves t) begun d before at rows trades rows′ trades′ after (record { begun = true; day = r .day; next = next })

@@ -1,4 +1,4 @@
--- A block's lines answered one behind the other: the start, one line further, and either end. Assumes nothing.
+-- A chunk's lines answered one behind the other: the start, one line further, and either end. Assumes nothing.
 use Prim.Native.Nat.{ℕ, _≤_, _<_}
 use mathlib.Core.Path.{_≡_, refl, sym, ap, subst, _∙_}
 use mathlib.Core.Bool.{Bool, true, false}
@@ -10,23 +10,23 @@ use lib.ListN.{length, take}
 use Rattle.model.specs.declared.Command.{Command}
 use Rattle.model.specs.declared.Day.{Day}
 use Rattle.model.specs.Session.{Desk, answer}
-use Rattle.text.specs.declared.Next as Next
-use Rattle.text.specs.Blocks.{nextCommand}
+use Rattle.text.specs.declared.NextCommand as NextCommand
+use Rattle.text.specs.Chunks.{nextCommand}
 use Rattle.text.specs.Answers.{repliesTo, deskAfter}
 use Rattle.text.specs.Printing.{Wrote}
 use Rattle.text.proofs.Printed.{nothing-put, and-then, put-as, put-long, put-shown}
-use Rattle.text.proofs.Blocks.{taken, all-taken}
+use Rattle.text.proofs.Chunks.{taken, all-taken}
 use Rattle.desk.specs.declared.Answered.{Answered}
 use Rattle.desk.specs.declared.Progress.{Progress}
 use Rattle.desk.specs.Desks.{deskOf, Leaves}
 use Rattle.desk.proofs.SoundDesks.{stays-sound}
-use Rattle.desk.specs.Blocks.{Point, pointOf, asksFrom, Onward, Answers, Through, Serves, pastLine}
+use Rattle.desk.specs.Chunks.{Point, pointOf, asksFrom, Onward, Answers, Through, Serves, pastLine}
 
-module _ (block : List ℕ) where
-  pub onward-none : (p : Point) → p .at ≤ length block → Onward block p p
+module _ (chunk : List ℕ) where
+  pub onward-none : (p : Point) → p .at ≤ length chunk → Onward chunk p p
   onward-none p h = record { inside = h; desk = refl; tail = refl; still = refl; sound = λ s. s }
 
-  pub onward-more : {p q s : Point} → Onward block p q → Onward block q s → Onward block p s
+  pub onward-more : {p q s : Point} → Onward chunk p q → Onward chunk q s → Onward chunk p s
   onward-more a b = record {
     inside = b .inside;
     desk = a .desk ∙ b .desk;
@@ -36,30 +36,30 @@ module _ (block : List ℕ) where
   }
 
   -- where no line is left, the desk is the one behind all lines
-  pub through-desk : {p q : Point} → Onward block p q → Through block q → q .desk ≡ deskAfter (asksFrom block p) (p .desk)
+  pub through-desk : {p q : Point} → Onward chunk p q → Through chunk q → q .desk ≡ deskAfter (asksFrom chunk p) (p .desk)
   unfolding deskAfter
   through-desk {q = q} a t = sym (a .desk ∙ ap (λ (cs : List Command). deskAfter cs (q .desk)) (t .asks))
 
   -- one text behind the other
   pub answers-more :
-      {p q s : Point} {text more : List ℕ} → Answers block p text q → Answers block q more s → Answers block p (text ++ more) s
+      {p q s : Point} {text more : List ℕ} → Answers chunk p text q → Answers chunk q more s → Answers chunk p (text ++ more) s
   answers-more {text = text} {more} a b = record {
     onward = onward-more (a .onward) (b .onward);
     replies = a .replies ∙ ap (λ (l : List ℕ). text ++ l) (b .replies) ∙ sym (append-assoc text more _);
   }
 
-  answers-none : (p : Point) → p .at ≤ length block → Answers block p [] p
+  answers-none : (p : Point) → p .at ≤ length chunk → Answers chunk p [] p
   answers-none p h = record { onward = onward-none p h; replies = refl }
 
   -- a line is answered
   answers-one :
       (q : Point) (command : Command) (place : ℕ)
-      → nextCommand (q .long) block (q .at) ≡ Next.the-variants.Line command place
-      → Answers block q (answer command (q .desk) .text)
+      → nextCommand (q .long) chunk (q .at) ≡ NextCommand.the-variants.Found command place
+      → Answers chunk q (answer command (q .desk) .text)
       (record { desk = answer command (q .desk) .desk; at = place; long = false })
   unfolding repliesTo deskAfter
   answers-one q command place e =
-      let t = taken block (q .at) (q .long) command place e in
+      let t = taken chunk (q .at) (q .long) command place e in
       record {
         onward =
             record {
@@ -74,11 +74,11 @@ module _ (block : List ℕ) where
 
 -- ---- the loop
 
-module _ (block : List ℕ) (p : Point) (before : List ℕ) where
+module _ (chunk : List ℕ) (p : Point) (before : List ℕ) where
   -- the replies put so far, and the point that is reached
   pub record Going (rows : List (List ℕ)) (after : List ℕ) (r : Progress) : Type 0 where
     pub text : Wrote before 0 (take (r .next) after) after (r .next)
-    pub answers : Answers block p (take (r .next) after) (pointOf r rows)
+    pub answers : Answers chunk p (take (r .next) after) (pointOf r rows)
     pub fits : r .next ≤ length after
     pub onward : p .at ≤ r .at
     pub past : 0 < r .next → p .at < r .at
@@ -87,11 +87,11 @@ module _ (block : List ℕ) (p : Point) (before : List ℕ) where
   pub going-start :
       (begun : Bool) (d : Day) (at : ℕ) (long : Bool) (rows : List (List ℕ))
       → p ≡ record { desk = deskOf begun d rows; at = at; long = long }
-      → at ≤ length block
+      → at ≤ length chunk
       → Going rows before (record { begun = begun; day = d; at = at; long = long; next = 0; done = false })
   going-start begun d at long rows e h = record {
     text = nothing-put;
-    answers = subst (λ (q : Point). Answers block q [] (record { desk = deskOf begun d rows; at = at; long = long })) (sym e) (answers-none block _ h);
+    answers = subst (λ (q : Point). Answers chunk q [] (record { desk = deskOf begun d rows; at = at; long = long })) (sym e) (answers-none chunk _ h);
     fits = omega arith;
     onward = rw e (le-refl at);
     past = λ z. absurd (omega arith);
@@ -101,7 +101,7 @@ module _ (block : List ℕ) (p : Point) (before : List ℕ) where
   module _ {rows : List (List ℕ)} {after : List ℕ} {r : Progress} (g : Going rows after r) where
     module _
         (command : Command) (place : ℕ)
-        (e : nextCommand (r .long) block (r .at) ≡ Next.the-variants.Line command place)
+        (e : nextCommand (r .long) chunk (r .at) ≡ NextCommand.the-variants.Found command place)
         {rows′ : List (List ℕ)} {after′ : List ℕ} (a : Answered)
         (l : Leaves (answer command (deskOf (r .begun) (r .day) rows)) after (r .next) rows′ after′ a) where
       shown : take (a .next) after′ ≡ take (r .next) after ++ answer command (deskOf (r .begun) (r .day) rows) .text
@@ -111,29 +111,29 @@ module _ (block : List ℕ) (p : Point) (before : List ℕ) where
 
       pub going-on : {s : Progress} → s ≡ pastLine a place → Going rows′ after′ s
       going-on s =
-          let t = taken block (r .at) (r .long) command place e in
+          let t = taken chunk (r .at) (r .long) command place e in
           rw s
           record {
             text = put-as (sym shown) (and-then (g .text) (l .text));
             answers =
-                subst (λ (x : List ℕ). Answers block p x (pointOf (pastLine a place) rows′)) (sym shown)
-                (subst (λ (k : Option Desk). Answers block p (take (r .next) after ++ answer command (deskOf (r .begun) (r .day) rows) .text) (record { desk = k; at = place; long = false }))
-                (sym (l .desk)) (answers-more block (g .answers) (answers-one block (pointOf r rows) command place e)));
+                subst (λ (x : List ℕ). Answers chunk p x (pointOf (pastLine a place) rows′)) (sym shown)
+                (subst (λ (k : Option Desk). Answers chunk p (take (r .next) after ++ answer command (deskOf (r .begun) (r .day) rows) .text) (record { desk = k; at = place; long = false }))
+                (sym (l .desk)) (answers-more chunk (g .answers) (answers-one chunk (pointOf r rows) command place e)));
             fits = l .fits;
             onward = omega (arith, t .onward, g .onward);
             past = λ z. omega (arith, t .onward, g .onward);
             goes = refl;
           }
 
-      -- what is left of the block is less
-      pub going-less : (r .at < place) × (place ≤ length block)
-      going-less = let t = taken block (r .at) (r .long) command place e in (t .onward, t .inside)
+      -- what is left of the chunk is less
+      pub going-less : (r .at < place) × (place ≤ length chunk)
+      going-less = let t = taken chunk (r .at) (r .long) command place e in (t .onward, t .inside)
 
     pub going-through :
-        nextCommand (r .long) block (r .at) ≡ Next.the-variants.Tail
-        → Serves block p before rows after (record { begun = r .begun; day = r .day; at = r .at; long = r .long; next = r .next; done = true })
+        nextCommand (r .long) chunk (r .at) ≡ NextCommand.the-variants.Tail
+        → Serves chunk p before rows after (record { begun = r .begun; day = r .day; at = r .at; long = r .long; next = r .next; done = true })
     going-through e =
-        let t = all-taken block (r .at) (r .long) e in
+        let t = all-taken chunk (r .at) (r .long) e in
         record {
           text = g .text;
           answers = g .answers;
@@ -141,7 +141,7 @@ module _ (block : List ℕ) (p : Point) (before : List ℕ) where
           some = λ z. let f : _≡_ {A = ℕ} 0 1 = cc in absurd (omega arith);
         }
 
-    pub going-full : 0 < r .next → Serves block p before rows after r
+    pub going-full : 0 < r .next → Serves chunk p before rows after r
     going-full h = record {
       text = g .text;
       answers = g .answers;

@@ -2,9 +2,9 @@
 // No call tests the day again: it is for the caller to show that 15 is not due.
 use crate::Answered;
 use day::cancelling::cancel_sound;
-use day::entering::enter_sound;
-use day::moving::move_sound;
-use day::opening::open_day;
+use day::entering::order_sound;
+use day::moving::clock_sound;
+use day::opening::open_call;
 use model::Asked;
 use model::Command;
 use model::Day;
@@ -40,7 +40,7 @@ pub fn refuse(begun: bool, d: Day, n: u64, out: &mut [u8], at: usize) -> Answere
 }
 
 // A new day starts over; a refused one changes nothing.
-fn answer_opening(
+fn answer_open(
     begun: bool,
     d: Day,
     rows: &mut [[u64; 5]],
@@ -52,7 +52,7 @@ fn answer_opening(
     requires { ⌜ (length (now rows) ≡ 1024) × (at + 110 ≤ length (now out)) ⌝ }
     ensures { λ r. ⌜ Leaves (openAnswer close mark (deskOf begun d (now (rows .entry)))) (now (out .entry)) at (now (rows .exit)) (now (out .exit)) r × (r .begun ≡ false → (r .day ≡ d) × (bookOf (now (rows .exit)) ≡ bookOf (now (rows .entry)))) ⌝ }
 {
-    let reply = open_day(close, mark, &mut *rows);
+    let reply = open_call(&mut *rows, close, mark);
     let next = put_open(out, at, reply);
     match reply {
         OpenReply::Refused(_) => Answered {
@@ -69,7 +69,7 @@ fn answer_opening(
 }
 
 // Trades come first.
-fn answer_move(
+fn answer_clock(
     begun: bool,
     d: Day,
     rows: &mut [[u64; 5]],
@@ -84,7 +84,7 @@ fn answer_move(
     if !begun {
         return refuse(begun, d, 17, out, at);
     }
-    let answer = move_sound(d, time, &mut *rows, &mut *trades);
+    let answer = clock_sound(d, &mut *rows, &mut *trades, time);
     let reply = answer.reply;
     let behind = put_trades(out, at, trades, answer.made);
     let next = put_clock(out, behind, reply);
@@ -111,7 +111,7 @@ fn answer_order(
     if !begun {
         return refuse(begun, d, 17, out, at);
     }
-    let answer = enter_sound(d, a, &mut *rows, &mut *trades);
+    let answer = order_sound(d, &mut *rows, &mut *trades, a);
     let reply = answer.reply;
     let behind = put_trades(out, at, trades, answer.made);
     let next = put_order(out, behind, reply);
@@ -162,8 +162,8 @@ pub fn answer_command(
 {
     match c {
         Command::Malformed => refuse(begun, d, 16, out, at),
-        Command::Opens { close, mark } => answer_opening(begun, d, rows, close, mark, out, at),
-        Command::Moves(time) => answer_move(begun, d, rows, trades, time, out, at),
+        Command::Opens { close, mark } => answer_open(begun, d, rows, close, mark, out, at),
+        Command::Moves(time) => answer_clock(begun, d, rows, trades, time, out, at),
         Command::Enters(a) => answer_order(begun, d, rows, trades, a, out, at),
         Command::Cancels { account, number } => answer_cancel(
             begun,

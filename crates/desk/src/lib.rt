@@ -1,6 +1,6 @@
 // The desk of the rehearsal program: the day and its book, once a day is open, and what a line is answered with.
 pub mod answering;
-pub mod blocks;
+pub mod chunks;
 pub mod lines;
 
 use model::Day;
@@ -18,7 +18,7 @@ pub enum LineAnswer {
     Given(Answered),
 }
 
-// How far a block is answered: the desk's mark and day, the place of the next line, whether that line began before the block
+// How far a chunk is answered: the desk's mark and day, the place of the next line, whether that line began before the chunk
 // and is too long, the place behind the replies that were put, and whether no line is left.
 pub struct Progress {
     pub begun: bool,

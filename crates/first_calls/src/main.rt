@@ -15,6 +15,6 @@ fn open_refusal(r: OpenReply) -> u64
 
 fn main() {
     let mut rows = [[0u64; 5]; 2];
-    let opened = day::opening::open_day(0, 1, &mut rows);
+    let opened = day::opening::open_call(&mut rows, 0, 1);
     check::expect(open_refusal(opened) == 14);
 }

@@ -14,7 +14,7 @@ use Rattle.model.specs.Calls.{OpenOutcome, CancelOutcome, openCall, orderCall, 
 use Rattle.model.specs.ClockCall.{clockCall}
 use Rattle.model.specs.AuctionCalls.{ListOutcome, reportCall, listCall}
 use Rattle.book.specs.Rows.{bookOf, tradesOf}
-use Rattle.day.specs.Promises.{openLeft, left, cancelLeft, listLeft}
+use Rattle.day.specs.Promises.{openLeft, callLeft, cancelLeft, listLeft}
 use Rattle.lent.specs.declared.Event.{Event}
 use Rattle.lent.specs.declared.Event.the-variants.{Opens, Moves, Enters, Cancels}
 use Rattle.lent.specs.declared.Answer.the-variants.{Opened, Moved, Entered, Cancelled}
@@ -28,7 +28,7 @@ module _ (event : Event) (rows rows′ trades : List (List ℕ)) where
       {close mark : ℕ} {r : OpenReply}
       → event ≡ Opens close mark
       → openLeft r rows′ ≡ openCall close mark (bookOf rows)
-      → left (Opened r) rows′ trades ≡ eventCall event (bookOf rows) (tradesOf trades)
+      → callLeft (Opened r) rows′ trades ≡ eventCall event (bookOf rows) (tradesOf trades)
   unfolding eventCall
   opened e p =
       ap (λ (o : OpenOutcome). record { answer = Opened (o .reply); book = o .book; trades = tradesOf trades }) p
@@ -38,7 +38,7 @@ module _ (event : Event) (rows rows′ trades : List (List ℕ)) where
       {d : Day} {account number : ℕ} {r : CancelReply}
       → event ≡ Cancels d account number
       → cancelLeft r rows′ ≡ cancelCall d account number (bookOf rows)
-      → left (Cancelled r) rows′ trades ≡ eventCall event (bookOf rows) (tradesOf trades)
+      → callLeft (Cancelled r) rows′ trades ≡ eventCall event (bookOf rows) (tradesOf trades)
   unfolding eventCall
   cancelled e p =
       ap (λ (o : CancelOutcome). record { answer = Cancelled (o .reply); book = o .book; trades = tradesOf trades }) p
@@ -48,16 +48,16 @@ module _ (event : Event) (rows rows′ trades : List (List ℕ)) where
     pub moved :
         {d : Day} {time : ℕ} {r : ClockAnswer}
         → event ≡ Moves d time
-        → left r rows′ trades′ ≡ clockCall d time (bookOf rows) (tradesOf trades)
-        → left (Moved r) rows′ trades′ ≡ eventCall event (bookOf rows) (tradesOf trades)
+        → callLeft r rows′ trades′ ≡ clockCall d time (bookOf rows) (tradesOf trades)
+        → callLeft (Moved r) rows′ trades′ ≡ eventCall event (bookOf rows) (tradesOf trades)
     unfolding eventCall
     moved e p = ap (answered Moved) p ∙ ap (λ (v : Event). eventCall v (bookOf rows) (tradesOf trades)) (sym e)
 
     pub entered :
         {d : Day} {a : Asked} {r : OrderAnswer}
         → event ≡ Enters d a
-        → left r rows′ trades′ ≡ orderCall d a (bookOf rows) (tradesOf trades)
-        → left (Entered r) rows′ trades′ ≡ eventCall event (bookOf rows) (tradesOf trades)
+        → callLeft r rows′ trades′ ≡ orderCall d a (bookOf rows) (tradesOf trades)
+        → callLeft (Entered r) rows′ trades′ ≡ eventCall event (bookOf rows) (tradesOf trades)
     unfolding eventCall
     entered e p = ap (answered Entered) p ∙ ap (λ (v : Event). eventCall v (bookOf rows) (tradesOf trades)) (sym e)
 

@@ -18,7 +18,7 @@ use Rattle.model.specs.Calls.{Outcome, openRules, openCall, orderRules, orderCa
 use Rattle.model.specs.ClockCall.{clockRules, clockCall}
 use Rattle.model.specs.AuctionCalls.{reportRules, reportCall, listRules, listCall}
 use Rattle.book.specs.Rows.{orderOf, rowOf, bookOf, tradesOf}
-use Rattle.day.specs.Promises.{left}
+use Rattle.day.specs.Promises.{callLeft}
 use Rattle.soundness.proofs.SoundDays.{few-places}
 use Rattle.lent.specs.declared.Event.{Event}
 use Rattle.lent.specs.declared.Event.the-variants.{Opens, Moves, Enters, Cancels}
@@ -105,7 +105,7 @@ module _ (book : List Order) (rows : List (List ℕ)) (len : length rows ≡ 4_0
   pub event-said :
       (front rest trades trades′ : List (List ℕ)) (event : Event) (answer : Answer)
       → length front ≡ k
-      → left answer front trades′ ≡ eventCall event (bookOf (lent k)) (tradesOf trades)
+      → callLeft answer front trades′ ≡ eventCall event (bookOf (lent k)) (tradesOf trades)
       → eventLeft answer (copied orderOf k (front ++ rest) book) trades′ ≡ eventCall event book (tradesOf trades)
   event-said front rest trades trades′ event answer e p = elim (places-are (length book)) [
     | inl h ↦

@@ -3,8 +3,8 @@ use crate::Question;
 use crate::Told;
 use crate::copying::load;
 use crate::copying::places;
-use day::auctions::list_auction;
-use day::auctions::report_auction;
+use day::auctions::list_call;
+use day::auctions::report_call;
 use model::Order;
 ghost use mathlib.Core.Path.{_≡_};
 ghost use Rattle.book.specs.Rows.{bookOf};
@@ -15,8 +15,8 @@ fn answer_question(rows: &[[u64; 5]], prices: &mut [u64], question: Question) ->
     ensures { λ r. ⌜ questionLeft r (now (prices .exit)) ≡ questionCall question (bookOf (now (rows .entry))) (now (prices .entry)) ⌝ }
 {
     match question {
-        Question::Report(day) => Told::Reported(report_auction(day, rows)),
-        Question::Prices { day, asked } => Told::Listed(list_auction(day, rows, asked, prices)),
+        Question::Report(day) => Told::Reported(report_call(day, rows)),
+        Question::Prices { day, asked } => Told::Listed(list_call(day, rows, prices, asked)),
     }
 }
 

@@ -4,29 +4,29 @@ use crate::Event;
 use crate::copying::load;
 use crate::copying::places;
 use crate::copying::store;
-use day::cancelling::cancel_order;
-use day::entering::enter_order;
-use day::moving::move_clock;
-use day::opening::open_day;
+use day::cancelling::cancel_call;
+use day::entering::order_call;
+use day::moving::clock_call;
+use day::opening::open_call;
 use model::Order;
 ghost use mathlib.Core.Path.{_≡_};
 ghost use Rattle.book.specs.Rows.{bookOf, tradesOf};
-ghost use Rattle.day.specs.Promises.{left};
+ghost use Rattle.day.specs.Promises.{callLeft};
 ghost use Rattle.lent.specs.Calls.{eventCall, eventLeft};
 
 // The call on rows that an event asks for.
 fn answer_event(rows: &mut [[u64; 5]], trades: &mut [[u64; 6]], event: Event) -> Answer
-    ensures { λ r. ⌜ left r (now (rows .exit)) (now (trades .exit)) ≡ eventCall event (bookOf (now (rows .entry))) (tradesOf (now (trades .entry))) ⌝ }
+    ensures { λ r. ⌜ callLeft r (now (rows .exit)) (now (trades .exit)) ≡ eventCall event (bookOf (now (rows .entry))) (tradesOf (now (trades .entry))) ⌝ }
 {
     match event {
-        Event::Opens { close, mark } => Answer::Opened(open_day(close, mark, rows)),
-        Event::Moves { day, time } => Answer::Moved(move_clock(day, time, rows, trades)),
-        Event::Enters { day, asked } => Answer::Entered(enter_order(day, asked, rows, trades)),
+        Event::Opens { close, mark } => Answer::Opened(open_call(rows, close, mark)),
+        Event::Moves { day, time } => Answer::Moved(clock_call(day, rows, trades, time)),
+        Event::Enters { day, asked } => Answer::Entered(order_call(day, rows, trades, asked)),
         Event::Cancels {
             day,
             account,
             number,
-        } => Answer::Cancelled(cancel_order(day, rows, account, number)),
+        } => Answer::Cancelled(cancel_call(day, rows, account, number)),
     }
 }
 

@@ -1,2 +1,2 @@
--- The laws behind a block that is served.
+-- The laws behind a chunk that is served.
 pub mod Rounds

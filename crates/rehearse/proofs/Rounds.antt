@@ -1,4 +1,4 @@
--- A block answered round by round and carried over is the definitions' step from block to block. Assumes nothing.
+-- A chunk answered round by round and carried over is the definitions' step from chunk to chunk. Assumes nothing.
 use Prim.Native.Nat.{ℕ, _-_, _≤_}
 use mathlib.Core.Path.{_≡_, sym, ap, subst, _∙_}
 use mathlib.Core.Bool.{Bool, false}
@@ -10,17 +10,17 @@ use Rattle.model.specs.declared.Day.{Day}
 use Rattle.model.specs.Lines.{linesOf}
 use Rattle.model.specs.Session.{Desk}
 use Rattle.text.specs.declared.Carry.{Carry}
-use Rattle.text.specs.Blocks.{CarriedOver, asksOf}
+use Rattle.text.specs.Chunks.{CarriedOver, asksOf}
 use Rattle.text.specs.Answers.{carryAfter, keptAfter}
 use Rattle.text.specs.Printing.{Wrote}
 use Rattle.text.proofs.Carrying.{drop-take}
 use Rattle.text.proofs.Sessions.{carried-after, carry-few}
 use Rattle.desk.specs.Desks.{deskOf, SoundDesk}
 use Rattle.desk.specs.declared.Progress.{Progress}
-use Rattle.desk.specs.Blocks.{pointOf, Onward, Through}
+use Rattle.desk.specs.Chunks.{pointOf, Onward, Through}
 use Rattle.desk.proofs.LineByLine.{through-desk}
 use Rattle.desk.proofs.SoundDesks.{sound-after}
-use Rattle.rehearse.specs.declared.Held.{Held}
+use Rattle.rehearse.specs.declared.AfterChunk.{AfterChunk}
 use Rattle.rehearse.specs.declared.Input.{Input}
 use Rattle.rehearse.specs.declared.Input.the-variants.{Bytes}
 use Rattle.rehearse.specs.Serving.{Steps, filled}
@@ -53,16 +53,16 @@ module _
     kept = carried .1;
   }
 
--- a block that was served leaves a sound desk, and keeps 79 bytes at most
+-- a chunk that was served leaves a sound desk, and keeps 79 bytes at most
 pub steps-sound :
-    {block : List ℕ} {long : Bool} {old : Option Desk} {rows : List (List ℕ)} {buf : List ℕ} {r : Held}
-    → Steps block long old rows buf r
+    {chunk : List ℕ} {long : Bool} {old : Option Desk} {rows : List (List ℕ)} {buf : List ℕ} {r : AfterChunk}
+    → Steps chunk long old rows buf r
     → SoundDesk old
     → SoundDesk (deskOf (r .begun) (r .day) rows)
-steps-sound {block} {long} {old} s k = subst SoundDesk (sym (s .desk)) (sound-after (asksOf long (linesOf block)) old k)
+steps-sound {chunk} {long} {old} s k = subst SoundDesk (sym (s .desk)) (sound-after (asksOf long (linesOf chunk)) old k)
 
 pub steps-few :
-    {block : List ℕ} {long : Bool} {old : Option Desk} {rows : List (List ℕ)} {buf : List ℕ} {r : Held}
-    → Steps block long old rows buf r
+    {chunk : List ℕ} {long : Bool} {old : Option Desk} {rows : List (List ℕ)} {buf : List ℕ} {r : AfterChunk}
+    → Steps chunk long old rows buf r
     → r .kept ≤ 79
-steps-few {block} {long} s = rw (ap (λ (c : Carry). c .kept) (s .carry)) (carry-few long block)
+steps-few {chunk} {long} s = rw (ap (λ (c : Carry). c .kept) (s .carry)) (carry-few long chunk)

@@ -1,4 +1,4 @@
--- A block served: the definitions' step from block to block.
+-- A chunk served: the definitions' step from chunk to chunk.
 use Prim.Native.Nat.{ℕ, _≤_}
 use mathlib.Core.Path.{_≡_}
 use mathlib.Core.Bool.{Bool}
@@ -7,18 +7,18 @@ use mathlib.Core.Option.{Option}
 use lib.ListN.{take}
 use Rattle.model.specs.Lines.{linesOf}
 use Rattle.model.specs.Session.{Desk}
-use Rattle.text.specs.Blocks.{asksOf}
+use Rattle.text.specs.Chunks.{asksOf}
 use Rattle.text.specs.Answers.{deskAfter, carryAfter, keptAfter}
 use Rattle.desk.specs.Desks.{deskOf}
-use Rattle.rehearse.specs.declared.Held.{Held}
+use Rattle.rehearse.specs.declared.AfterChunk.{AfterChunk}
 use Rattle.rehearse.specs.declared.Input.{Input}
 use Rattle.rehearse.specs.declared.Input.the-variants.{Failed, Ended, Bytes}
 
--- the desk behind the lines that end in the block, the carry, and the bytes that it keeps at the buffer's front
-pub record Steps (block : List ℕ) (long : Bool) (old : Option Desk) (rows : List (List ℕ)) (buf : List ℕ) (r : Held) : Type 0 where
-  pub desk : deskOf (r .begun) (r .day) rows ≡ deskAfter (asksOf long (linesOf block)) old
-  pub carry : record { kept = r .kept; long = r .long } ≡ carryAfter long block
-  pub kept : take (r .kept) buf ≡ keptAfter long block
+-- the desk behind the lines that end in the chunk, the carry, and the bytes that it keeps at the buffer's front
+pub record Steps (chunk : List ℕ) (long : Bool) (old : Option Desk) (rows : List (List ℕ)) (buf : List ℕ) (r : AfterChunk) : Type 0 where
+  pub desk : deskOf (r .begun) (r .day) rows ≡ deskAfter (asksOf long (linesOf chunk)) old
+  pub carry : record { kept = r .kept; long = r .long } ≡ carryAfter long chunk
+  pub kept : take (r .kept) buf ≡ keptAfter long chunk
 
 -- what a read brought lies in the buffer
 abbrev pub filled : ℕ → Input → Type 0

@@ -1,12 +1,12 @@
-// The rehearsal program: it reads standard input block by block, answers each line, and writes a block's replies before it
+// The rehearsal program: it reads standard input chunk by chunk, answers each line, and writes a chunk's replies before it
 // reads on.
 mod memory;
 mod serving;
 
 use model::Day;
 
-// What goes from block to block: the desk's mark and day, the carry, and whether the program stops here.
-pub struct Held {
+// What goes from chunk to chunk: the desk's mark and day, the carry, and whether the program stops here.
+pub struct AfterChunk {
     pub begun: bool,
     pub day: Day,
     pub kept: usize,

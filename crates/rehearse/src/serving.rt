@@ -1,13 +1,13 @@
-// Blocks read from standard input, and their replies written to standard output. No promise can say what is read or
-// written; what lies between is the definitions' step from block to block.
-use crate::Held;
+// Chunks read from standard input, and their replies written to standard output. No promise can say what is read or
+// written; what lies between is the definitions' step from chunk to chunk.
+use crate::AfterChunk;
 use crate::Input;
 use crate::memory::no_day;
 use crate::memory::output;
 use crate::memory::places;
 use crate::memory::trade_list;
 use desk::Progress;
-use desk::blocks::answer_lines;
+use desk::chunks::answer_lines;
 use text::Carry;
 use text::printing::put_refusal;
 use text::reading::carry_over;
@@ -17,10 +17,10 @@ ghost use mathlib.Core.Bool.{true, false};
 ghost use Prim.Native.Nat.{_≤_};
 ghost use lib.ListN.{length, take};
 ghost use Rattle.desk.specs.Desks.{deskOf, SoundDesk};
-ghost use Rattle.desk.specs.Blocks.{pointOf, Onward, Through};
+ghost use Rattle.desk.specs.Chunks.{pointOf, Onward, Through};
 ghost use Rattle.rehearse.specs.Serving.{Steps, filled};
 
-fn stopped(h: Held) -> Held
+fn stopped(h: AfterChunk) -> AfterChunk
     ensures { λ r. ⌜ r .stops ≡ true ⌝ }
 {
     let mut r = h;
@@ -40,20 +40,20 @@ fn reply(text: &[u8]) -> bool {
     false
 }
 
-// Answers the lines of a block, round by round as the output holds them. Not done: the output cannot be written.
-fn answer_block(
+// Answers the lines of a chunk, round by round as the output holds them. Not done: the output cannot be written.
+fn answer_chunk(
     from: Progress,
     rows: &mut [[u64; 5]],
     trades: &mut [[u64; 6]],
-    block: &[u8],
+    chunk: &[u8],
     out: &mut [u8],
 ) -> Progress
-    requires { ⌜ (length (now rows) ≡ 1024) × (length (now trades) ≡ 2048) × (262254 ≤ length (now out)) × (from .at ≤ length (now block)) × SoundDesk (deskOf (from .begun) (from .day) (now rows)) ⌝ }
-    ensures { λ r. ⌜ (r .done ≡ true → Onward (now (block .entry)) (pointOf from (now (rows .entry))) (pointOf r (now (rows .exit))) × Through (now (block .entry)) (pointOf r (now (rows .exit)))) ⌝ }
+    requires { ⌜ (length (now rows) ≡ 1024) × (length (now trades) ≡ 2048) × (262254 ≤ length (now out)) × (from .at ≤ length (now chunk)) × SoundDesk (deskOf (from .begun) (from .day) (now rows)) ⌝ }
+    ensures { λ r. ⌜ (r .done ≡ true → Onward (now (chunk .entry)) (pointOf from (now (rows .entry))) (pointOf r (now (rows .exit))) × Through (now (chunk .entry)) (pointOf r (now (rows .exit)))) ⌝ }
 {
     let mut p = from;
     loop {
-        p = answer_lines(p, &mut *rows, &mut *trades, block, &mut *out);
+        p = answer_lines(p, &mut *rows, &mut *trades, chunk, &mut *out);
         let n = p.next;
         if !reply(&out[..n]) {
             p.done = false;
@@ -65,15 +65,15 @@ fn answer_block(
     }
 }
 
-// Serves the first n bytes of the buffer as a block, and keeps its tail at the buffer's front.
+// Serves the first n bytes of the buffer as a chunk, and keeps its tail at the buffer's front.
 fn serve(
-    h: Held,
+    h: AfterChunk,
     n: usize,
     rows: &mut [[u64; 5]],
     trades: &mut [[u64; 6]],
     buf: &mut [u8],
     out: &mut [u8],
-) -> Held
+) -> AfterChunk
     requires { ⌜ (length (now rows) ≡ 1024) × (length (now trades) ≡ 2048) × (262254 ≤ length (now out)) × (n ≤ length (now buf)) × SoundDesk (deskOf (h .begun) (h .day) (now rows)) ⌝ }
     ensures { λ r. ⌜ (r .stops ≡ false → Steps (take n (now (buf .entry))) (h .long) (deskOf (h .begun) (h .day) (now (rows .entry))) (now (rows .exit)) (now (buf .exit)) r) ⌝ }
 {
@@ -86,14 +86,14 @@ fn serve(
         next: 0,
         done: false,
     };
-    let p = answer_block(from, rows, trades, &buf[..n], out);
+    let p = answer_chunk(from, rows, trades, &buf[..n], out);
     if !p.done {
         return stopped(h);
     }
     let at = p.at;
     let c = carry_over(buf, at, n, p.long);
     let next = p.day;
-    Held {
+    AfterChunk {
         begun: p.begun,
         day: next,
         kept: c.kept,
@@ -119,7 +119,7 @@ fn fill(buf: &mut [u8], kept: usize) -> Input
 }
 
 // The end of the input: an unended line is refused.
-fn finish(h: Held, out: &mut [u8]) -> Held
+fn finish(h: AfterChunk, out: &mut [u8]) -> AfterChunk
     requires { ⌜ 110 ≤ length (now out) ⌝ }
     ensures { λ r. ⌜ r .stops ≡ true ⌝ }
 {
@@ -137,12 +137,12 @@ fn finish(h: Held, out: &mut [u8]) -> Held
 
 // Reads once, and answers the lines that end there.
 fn turn(
-    h: Held,
+    h: AfterChunk,
     rows: &mut [[u64; 5]],
     trades: &mut [[u64; 6]],
     buf: &mut [u8],
     out: &mut [u8],
-) -> Held
+) -> AfterChunk
     requires { ⌜ (length (now rows) ≡ 1024) × (length (now trades) ≡ 2048) × (262254 ≤ length (now out)) × (h .kept ≤ 79) × (80 ≤ length (now buf)) × SoundDesk (deskOf (h .begun) (h .day) (now rows)) ⌝ }
     ensures { λ r. ⌜ (r .stops ≡ false → (r .kept ≤ 79) × SoundDesk (deskOf (r .begun) (r .day) (now (rows .exit)))) ⌝ }
 {
@@ -168,7 +168,7 @@ pub fn run() {
     let mut trades = trade_list();
     let mut buf = io::large_buffer();
     let mut out = output();
-    let mut h = Held {
+    let mut h = AfterChunk {
         begun: false,
         day: no_day(),
         kept: 0,

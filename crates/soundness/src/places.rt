@@ -11,7 +11,7 @@ ghost use Rattle.book.specs.Standing.{Ranked};
 ghost use Rattle.soundness.specs.Numbers.{noNumbers, FreshMap};
 use crate::figures::is_between;
 use bits::has;
-use bits::mark;
+use bits::set_bit;
 use book::order_at;
 use book::seats::best_price;
 use limits::in_band;
@@ -130,7 +130,7 @@ fn places_with(used: &mut [u64], day: Day, rows: &[[u64; 5]]) -> bool
         if is_used(used, o) {
             return false;
         }
-        mark(&mut *used, o.number);
+        set_bit(&mut *used, o.number);
         i += 1;
     }
     true

@@ -1,4 +1,4 @@
--- What is carried over from block to block stands for the bytes that it leaves out. Assumes nothing.
+-- What is carried over from chunk to chunk stands for the bytes that it leaves out. Assumes nothing.
 use Prim.Native.Nat.{ℕ, zero, suc, _+_, _-_, _≤_, _<_}
 use mathlib.Core.Path.{_≡_, refl, sym, ap, _∙_}
 use mathlib.Core.Bool.{Bool, true, false, cond, _||_}
@@ -14,9 +14,9 @@ use Rattle.model.specs.declared.Command.{Command}
 use Rattle.model.specs.declared.Command.the-variants.{Malformed}
 use Rattle.model.specs.Lines.{linesOf, lineCommand}
 use Rattle.text.specs.declared.Carry.{Carry}
-use Rattle.text.specs.Blocks.{carryOf, CarriedOver, isLeft, behindFirst, commandsFrom}
+use Rattle.text.specs.Chunks.{carryOf, CarriedOver, isLeft, behindFirst, commandsFrom}
 use Rattle.text.proofs.Forms.{unended-is, long-is}
-use Rattle.text.proofs.Blocks.{Unended, ontoAll, grown-first, firstText, firstEnded, lines-grow}
+use Rattle.text.proofs.Chunks.{Unended, ontoAll, grown-first, firstText, firstEnded, lines-grow}
 
 -- ---- bytes moved to the front
 

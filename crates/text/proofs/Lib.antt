@@ -4,7 +4,7 @@ pub mod Commands
 pub mod Forms
 pub mod Printed
 pub mod Replied
-pub mod Blocks
+pub mod Chunks
 pub mod Carrying
 pub mod Sessions
 pub mod Lent

@@ -1,4 +1,4 @@
--- Answering block by block gives the definitions' session, however the input is cut into blocks. Assumes nothing.
+-- Answering chunk by chunk gives the definitions' session, however the input is cut into chunks. Assumes nothing.
 use Prim.Native.Nat.{ℕ, zero, suc, _≤_}
 use mathlib.Core.Path.{_≡_, refl, sym, ap, _∙_}
 use mathlib.Core.Bool.{Bool, true, false}
@@ -10,9 +10,9 @@ use Rattle.model.specs.declared.Command.{Command}
 use Rattle.model.specs.Lines.{Line, linesOf, lineCommand}
 use Rattle.model.specs.Session.{Desk, answer, answers, session}
 use Rattle.text.specs.declared.Carry.{Carry}
-use Rattle.text.specs.Blocks.{asksAfter, carryOf, CarriedOver, commandsFrom, asksOf, tailOf, tailLong}
-use Rattle.text.specs.Answers.{repliesTo, deskAfter, carryAfter, keptAfter, blockwise}
-use Rattle.text.proofs.Blocks.{Unended, Cut, cut, uncut, cut-up, ontoAll, lines-ended, lines-open, open-asks, open-tail, open-long}
+use Rattle.text.specs.Chunks.{asksAfter, carryOf, CarriedOver, commandsFrom, asksOf, tailOf, tailLong}
+use Rattle.text.specs.Answers.{repliesTo, deskAfter, carryAfter, keptAfter, chunkwise}
+use Rattle.text.proofs.Chunks.{Unended, Cut, cut, uncut, cut-up, ontoAll, lines-ended, lines-open, open-asks, open-tail, open-long}
 use Rattle.text.proofs.Carrying.{kept-fits, kept-few, carried, ended}
 
 -- ---- answers one behind the other
@@ -59,7 +59,7 @@ unfolding commandsFrom
 from-ended true t rest u = rw (lines-ended t rest u)
 from-ended false t rest u = rw (lines-ended t rest u)
 
--- what a block asks for, and what its tail goes on to ask for
+-- what a chunk asks for, and what its tail goes on to ask for
 module _ (more : List ℕ) where
   abbrev fromTail : Bool → List Line → List Command
   fromTail long ls = asksOf long ls ++ commandsFrom (tailLong long ls) (tailOf ls ++ more)
@@ -67,72 +67,72 @@ module _ (more : List ℕ) where
   tail-open : (t : List ℕ) (long : Bool) → commandsFrom long (t ++ more) ≡ fromTail long (ontoAll t [])
   tail-open t long = rw (open-asks t long, open-long t long, open-tail t)
 
-  pub split : (block : List ℕ) → Cut block → (long : Bool) → commandsFrom long (block ++ more) ≡ fromTail long (linesOf block)
+  pub split : (chunk : List ℕ) → Cut chunk → (long : Bool) → commandsFrom long (chunk ++ more) ≡ fromTail long (linesOf chunk)
   unfolding asksOf tailLong tailOf
-  split block (cut t rest u e c) long =
+  split chunk (cut t rest u e c) long =
       ap (λ (l : List ℕ). commandsFrom long (l ++ more)) e
       ∙ ap (commandsFrom long) (append-assoc t (10 ∷ rest) more)
       ∙ from-ended long t (rest ++ more) u
       ∙ ap (λ (cs : List Command). asksAfter long (record { text = t; ended = true }) ∷ cs) (split rest c false)
       ∙ sym (ap (fromTail long) (ap linesOf e ∙ lines-ended t rest u))
-  split block (uncut u) long = tail-open block long ∙ sym (ap (fromTail long) (lines-open block u))
+  split chunk (uncut u) long = tail-open chunk long ∙ sym (ap (fromTail long) (lines-open chunk u))
 
--- ---- block by block
+-- ---- chunk by chunk
 
-tail-unended : (block : List ℕ) → Cut block → Unended (tailOf (linesOf block))
+tail-unended : (chunk : List ℕ) → Cut chunk → Unended (tailOf (linesOf chunk))
 unfolding tailOf
-tail-unended block (cut t rest u e c) = rw (e, lines-ended t rest u) (tail-unended rest c)
-tail-unended block (uncut u) = rw (lines-open block u) (rw (open-tail block) u)
+tail-unended chunk (cut t rest u e c) = rw (e, lines-ended t rest u) (tail-unended rest c)
+tail-unended chunk (uncut u) = rw (lines-open chunk u) (rw (open-tail chunk) u)
 
 part-unended : (n : ℕ) (t : List ℕ) → Unended t → Unended (take n t)
 part-unended zero t u = tt
 part-unended (suc n) [] u = tt
 part-unended (suc n) (b ∷ t) u = (u .0, part-unended n t (u .1))
 
-pub blockwise-is :
+pub chunkwise-is :
     (bs : List (List ℕ)) (c : Carry) (kept : List ℕ) (desk : Option Desk)
     → Unended kept
     → length kept ≡ c .kept
-    → blockwise c kept desk bs ≡ repliesTo (commandsFrom (c .long) (kept ++ flatten bs)) desk
-unfolding blockwise flatten carryAfter keptAfter
-blockwise-is [] c kept desk u e =
+    → chunkwise c kept desk bs ≡ repliesTo (commandsFrom (c .long) (kept ++ flatten bs)) desk
+unfolding chunkwise flatten carryAfter keptAfter
+chunkwise-is [] c kept desk u e =
     ap (λ (cs : List Command). repliesTo cs desk) (sym (ended c kept u e))
     ∙ ap (λ (l : List ℕ). repliesTo (commandsFrom (c .long) l) desk) (sym (append-nil kept))
-blockwise-is (b ∷ bs) c kept desk u e =
-    let block : List ℕ = kept ++ b in
-    let tail : List ℕ = tailOf (linesOf block) in
-    let long : Bool = tailLong (c .long) (linesOf block) in
+chunkwise-is (b ∷ bs) c kept desk u e =
+    let chunk : List ℕ = kept ++ b in
+    let tail : List ℕ = tailOf (linesOf chunk) in
+    let long : Bool = tailLong (c .long) (linesOf chunk) in
     let carry : Carry = carryOf long tail in
-    let cs : List Command = asksOf (c .long) (linesOf block) in
-    let u : Unended tail = tail-unended block (cut-up block) in
+    let cs : List Command = asksOf (c .long) (linesOf chunk) in
+    let u : Unended tail = tail-unended chunk (cut-up chunk) in
     ap (λ (t : List ℕ). repliesTo cs desk ++ t)
-    (blockwise-is bs carry (take (carry .kept) tail) (deskAfter cs desk) (part-unended (carry .kept) tail u)
+    (chunkwise-is bs carry (take (carry .kept) tail) (deskAfter cs desk) (part-unended (carry .kept) tail u)
     (length-take-le (carry .kept) tail (kept-fits long tail)))
     ∙ sym (replies-append cs (commandsFrom (carry .long) (take (carry .kept) tail ++ flatten bs)) desk)
     ∙ ap (λ (ds : List Command). repliesTo (cs ++ ds) desk) (sym (carried (flatten bs) long tail u))
-    ∙ ap (λ (ds : List Command). repliesTo ds desk) (sym (split (flatten bs) block (cut-up block) (c .long)))
+    ∙ ap (λ (ds : List Command). repliesTo ds desk) (sym (split (flatten bs) chunk (cut-up chunk) (c .long)))
     ∙ ap (λ (l : List ℕ). repliesTo (commandsFrom (c .long) l) desk) (append-assoc kept b (flatten bs))
 
--- however the input is cut into blocks
-pub block-by-block :
-    (bs : List (List ℕ)) → blockwise (record { kept = 0; long = false }) [] none bs ≡ session (flatten bs)
-block-by-block bs = blockwise-is bs (record { kept = 0; long = false }) [] none tt refl ∙ sym (session-is (flatten bs))
+-- however the input is cut into chunks
+pub chunk-by-chunk :
+    (bs : List (List ℕ)) → chunkwise (record { kept = 0; long = false }) [] none bs ≡ session (flatten bs)
+chunk-by-chunk bs = chunkwise-is bs (record { kept = 0; long = false }) [] none tt refl ∙ sym (session-is (flatten bs))
 
--- ---- the carry of a block, as the buffer has it
+-- ---- the carry of a chunk, as the buffer has it
 
-pub carry-few : (long : Bool) (block : List ℕ) → carryAfter long block .kept ≤ 79
+pub carry-few : (long : Bool) (chunk : List ℕ) → carryAfter long chunk .kept ≤ 79
 unfolding carryAfter
-carry-few long block = kept-few (tailLong long (linesOf block)) (tailOf (linesOf block))
+carry-few long chunk = kept-few (tailLong long (linesOf chunk)) (tailOf (linesOf chunk))
 
-module _ (before after : List ℕ) (long : Bool) (c : Carry) (long₀ : Bool) (block tail : List ℕ) where
+module _ (before after : List ℕ) (long : Bool) (c : Carry) (long₀ : Bool) (chunk tail : List ℕ) where
   pub carried-after :
       CarriedOver before tail long after c
-      → tail ≡ tailOf (linesOf block)
-      → long ≡ tailLong long₀ (linesOf block)
-      → (c ≡ carryAfter long₀ block) × (take (c .kept) after ≡ keptAfter long₀ block)
+      → tail ≡ tailOf (linesOf chunk)
+      → long ≡ tailLong long₀ (linesOf chunk)
+      → (c ≡ carryAfter long₀ chunk) × (take (c .kept) after ≡ keptAfter long₀ chunk)
   unfolding carryAfter keptAfter
   carried-after o e f =
-      let k : c ≡ carryOf (tailLong long₀ (linesOf block)) (tailOf (linesOf block)) = o .carry ∙ rw (e, f) in
+      let k : c ≡ carryOf (tailLong long₀ (linesOf chunk)) (tailOf (linesOf chunk)) = o .carry ∙ rw (e, f) in
       let n : length (take (c .kept) tail) ≡ c .kept = length-take-le (c .kept) tail (rw (o .carry) (kept-fits long tail)) in
       let t : take (c .kept) after ≡ take (c .kept) tail =
       ap (λ (l : List ℕ). take (c .kept) l) (o .bytes)

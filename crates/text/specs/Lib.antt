@@ -1,5 +1,5 @@
 -- What the program's functions on text say, in terms of the definitions' lines.
 pub mod Words
 pub mod Printing
-pub mod Blocks
+pub mod Chunks
 pub mod Answers

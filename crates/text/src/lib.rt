@@ -1,4 +1,4 @@
-// The lines of the rehearsal program: what a line asks for, how replies are printed, and where lines end in the blocks that
+// The lines of the rehearsal program: what a line asks for, how replies are printed, and where lines end in the chunks that
 // are read.
 pub mod parsing;
 pub mod printing;
@@ -12,19 +12,19 @@ pub enum Number {
     Bad,
 }
 
-// Where the next line of a block stands, without its newline; the block's tail has none.
+// Where the next line of a chunk stands, without its newline; the chunk's tail has none.
 pub enum Bounds {
-    Line { start: usize, end: usize },
+    Found { start: usize, end: usize },
     Tail,
 }
 
-// What the next line of a block asks for, and the place behind its newline.
-pub enum Next {
-    Line { command: Command, place: usize },
+// What the next line of a chunk asks for, and the place behind its newline.
+pub enum NextCommand {
+    Found { command: Command, place: usize },
     Tail,
 }
 
-// What goes from block to block of a line that has not ended: how many of its bytes stand at the buffer's front, or that
+// What goes from chunk to chunk of a line that has not ended: how many of its bytes stand at the buffer's front, or that
 // it is too long already, and then none.
 pub struct Carry {
     pub kept: usize,

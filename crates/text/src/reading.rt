@@ -1,70 +1,70 @@
-// Lines in the block that was just read, and what goes over to the next block.
+// Lines in the chunk that was just read, and what goes over to the next chunk.
 ghost use mathlib.Core.Path.{_≡_};
 ghost use mathlib.Core.List.{_++_};
 ghost use Prim.Native.Nat.{_-_, _≤_};
 ghost use lib.ListN.{length, take, drop};
-ghost use Rattle.text.specs.Blocks.{nextLine, nextCommand, isLeft, CarriedOver};
+ghost use Rattle.text.specs.Chunks.{nextLine, nextCommand, isLeft, CarriedOver};
 use crate::Bounds;
 use crate::Carry;
-use crate::Next;
+use crate::NextCommand;
 use crate::parsing::command_of;
 use model::Command;
 
 // Looks for the next newline.
-fn scan(block: &[u8], at: usize) -> Bounds
-    ensures { λ r. ⌜ r ≡ nextLine (now (block .entry)) at ⌝ }
+fn scan(chunk: &[u8], at: usize) -> Bounds
+    ensures { λ r. ⌜ r ≡ nextLine (now (chunk .entry)) at ⌝ }
 {
     let mut i = at;
-    while i < block.len() {
-        if block[i] == b'\n' {
-            return Bounds::Line { start: at, end: i };
+    while i < chunk.len() {
+        if chunk[i] == b'\n' {
+            return Bounds::Found { start: at, end: i };
         }
         i = i + 1;
     }
     Bounds::Tail
 }
 
-// A reader of lines: the block, and the place in it that is reached.
+// A reader of lines: the chunk, and the place in it that is reached.
 pub struct Lines<'a> {
-    pub block: &'a [u8],
+    pub chunk: &'a [u8],
     pub at: usize,
 }
 
-pub fn lines_from<'a>(block: &'a [u8], at: usize) -> Lines<'a>
-    ensures { λ r. ⌜ (r .block ≡ block .entry) × (r .at ≡ at) ⌝ }
+pub fn lines_from<'a>(chunk: &'a [u8], at: usize) -> Lines<'a>
+    ensures { λ r. ⌜ (r .chunk ≡ chunk .entry) × (r .at ≡ at) ⌝ }
 {
-    Lines { block, at }
+    Lines { chunk, at }
 }
 
 pub fn next_line<'a>(lines: Lines<'a>) -> Bounds
-    ensures { λ r. ⌜ r ≡ nextLine (now (lines .entry .block)) (lines .entry .at) ⌝ }
+    ensures { λ r. ⌜ r ≡ nextLine (now (lines .entry .chunk)) (lines .entry .at) ⌝ }
 {
-    scan(lines.block, lines.at)
+    scan(lines.chunk, lines.at)
 }
 
 // The next line from plain parameters, for callers that hold no reader.
-pub fn line_from(block: &[u8], at: usize) -> Bounds
-    ensures { λ r. ⌜ r ≡ nextLine (now (block .entry)) at ⌝ }
+pub fn line_from(chunk: &[u8], at: usize) -> Bounds
+    ensures { λ r. ⌜ r ≡ nextLine (now (chunk .entry)) at ⌝ }
 {
-    next_line(lines_from(block, at))
+    next_line(lines_from(chunk, at))
 }
 
-// What the next line from a place on asks for. `long`: it began before the block, and is too long.
-pub fn next_command(block: &[u8], at: usize, long: bool) -> Next
-    ensures { λ r. ⌜ r ≡ nextCommand long (now (block .entry)) at ⌝ }
+// What the next line from a place on asks for. `long`: it began before the chunk, and is too long.
+pub fn next_command(chunk: &[u8], at: usize, long: bool) -> NextCommand
+    ensures { λ r. ⌜ r ≡ nextCommand long (now (chunk .entry)) at ⌝ }
 {
-    let Bounds::Line { start, end } = line_from(block, at) else {
-        return Next::Tail;
+    let Bounds::Found { start, end } = line_from(chunk, at) else {
+        return NextCommand::Tail;
     };
     let place = end + 1;
     if long {
-        return Next::Line {
+        return NextCommand::Found {
             command: Command::Malformed,
             place,
         };
     }
-    let command = command_of(&block[start..end], true);
-    Next::Line { command, place }
+    let command = command_of(&chunk[start..end], true);
+    NextCommand::Found { command, place }
 }
 
 // Moves the bytes from `start` up to `end` to the front.
@@ -80,7 +80,7 @@ fn to_front(buf: &mut [u8], start: usize, end: usize)
     }
 }
 
-// The block's tail goes to the buffer's front, unless its line is too long.
+// The chunk's tail goes to the buffer's front, unless its line is too long.
 pub fn carry_over(buf: &mut [u8], start: usize, end: usize, long: bool) -> Carry
     requires { ⌜ (start ≤ end) × (end ≤ length (now buf)) ⌝ }
     ensures { λ r. ⌜ CarriedOver (now (buf .entry)) (take (end - start) (drop start (now (buf .entry)))) long (now (buf .exit)) r ⌝ }

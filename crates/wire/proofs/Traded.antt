@@ -78,12 +78,12 @@ module _ {A : Type 0} {made : A → ℕ} {lacks : Day → A} {call : Day → Lis
     (b : bookOf rows ≡ bookIn book)
     (e : d ≡ dayIn day)
     (k : length list ≡ length book / 40)
-    (p : promises.left r rows' list' ≡ call d (bookOf rows) (tradesOf list)) where
+    (p : promises.callLeft r rows' list' ≡ call d (bookOf rows) (tradesOf list)) where
   -- it was made in a list as long as the book
   abbrev there : Outcome A
   there = call (dayIn day) (bookIn book) (tradesOf list)
 
-  was : promises.left r rows' list' ≡ there
+  was : promises.callLeft r rows' list' ≡ there
   was = p ∙ rw (e, b)
 
   count : made r ≡ made (there .answer)

@@ -5,7 +5,7 @@ use crate::records::room;
 use crate::records::small_room;
 use crate::records::tiny_room;
 use crate::replies::reply_report;
-use day::auctions::report_auction;
+use day::auctions::report_call;
 use model::ReportReply;
 ghost use mathlib.Core.Path.{_≡_};
 ghost use Prim.Native.Nat.{_/_, _≤_};
@@ -20,7 +20,7 @@ fn report_in(day: &[u8], book: &[u8], rows: &mut [[u64; 5]]) -> ReportReply
     ensures { λ r. ⌜ r ≡ reportCall (dayIn (now (day .entry))) (bookIn (now (book .entry))) ⌝ }
 {
     load_book(book, &mut *rows);
-    report_auction(day_in(day), rows)
+    report_call(day_in(day), rows)
 }
 
 // In a room for 4,096 places.

@@ -6,7 +6,7 @@ use crate::records::small_room;
 use crate::records::store_book;
 use crate::records::tiny_room;
 use crate::replies::reply_cancel;
-use day::cancelling::cancel_order;
+use day::cancelling::cancel_call;
 use model::CancelReply;
 ghost use mathlib.Core.Path.{_≡_};
 ghost use Prim.Native.Nat.{_/_, _≤_};
@@ -28,7 +28,7 @@ fn cancel_in(
     ensures { λ r. ⌜ Stored r (now (book .exit)) (cancelCall (dayIn (now (day .entry))) account number (bookIn (now (book .entry))) .reply) (cancelCall (dayIn (now (day .entry))) account number (bookIn (now (book .entry))) .book) (now (book .entry)) ⌝ }
 {
     load_book(book, &mut *rows);
-    let told = cancel_order(day_in(day), &mut *rows, account, number);
+    let told = cancel_call(day_in(day), &mut *rows, account, number);
     store_book(book, rows);
     told
 }

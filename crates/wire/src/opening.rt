@@ -6,7 +6,7 @@ use crate::records::small_room;
 use crate::records::store_book;
 use crate::records::tiny_room;
 use crate::replies::reply_open;
-use day::opening::open_day;
+use day::opening::open_call;
 use model::OpenReply;
 ghost use mathlib.Core.Path.{_≡_};
 ghost use Prim.Native.Nat.{_/_, _≤_};
@@ -21,7 +21,7 @@ fn open_in(book: &mut [u8], rows: &mut [[u64; 5]], close: u64, mark: u64) -> Ope
     ensures { λ r. ⌜ Stored r (now (book .exit)) (openCall close mark (bookIn (now (book .entry))) .reply) (openCall close mark (bookIn (now (book .entry))) .book) (now (book .entry)) ⌝ }
 {
     load_book(book, &mut *rows);
-    let told = open_day(close, mark, &mut *rows);
+    let told = open_call(&mut *rows, close, mark);
     store_book(book, rows);
     told
 }

@@ -12,8 +12,8 @@ use crate::records::tiny_trade_room;
 use crate::records::trade_room;
 use crate::replies::reply_clock;
 use crate::replies::reply_order;
-use day::entering::enter_order;
-use day::moving::move_clock;
+use day::entering::order_call;
+use day::moving::clock_call;
 use model::Asked;
 use model::ClockAnswer;
 use model::ClockReply;
@@ -44,7 +44,7 @@ fn order_in(
 {
     load_book(book, &mut *rows);
     let d = day_in(day);
-    let answer = enter_order(d, a, &mut *rows, &mut *list);
+    let answer = order_call(d, &mut *rows, &mut *list, a);
     let made = answer.made;
     if trades.len() / 48 < made {
         return OrderAnswer {
@@ -162,7 +162,7 @@ fn clock_in(
 {
     load_book(book, &mut *rows);
     let d = day_in(day);
-    let answer = move_clock(d, time, &mut *rows, &mut *list);
+    let answer = clock_call(d, &mut *rows, &mut *list, time);
     let made = answer.made;
     if trades.len() / 48 < made {
         return ClockAnswer {

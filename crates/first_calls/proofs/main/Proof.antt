@@ -10,11 +10,11 @@ use Rattle.first_calls.specs.Refusal.{openRefusal}
 use Rattle.first_calls.proofs.main.Statement.{statement}
 use Rattle.first_calls.proofs.main.Tie as tie
 
-slice-aggregate-open-day : tie.Need-slice-aggregate-open-day
-slice-aggregate-open-day c = search needs
+slice-aggregate-open-call : tie.Need-slice-aggregate-open-call
+slice-aggregate-open-call c = search needs
 
-open-day-requires : tie.Need-open-day-requires
-open-day-requires c κs = search needs
+open-call-requires : tie.Need-open-call-requires
+open-call-requires c κs = search needs
 
 open-refusal-requires : tie.Need-open-refusal-requires
 open-refusal-requires c κs = search needs
@@ -23,7 +23,7 @@ expect-requires : tie.Need-expect-requires
 unfolding openRefusal openNumbers openCall openRules isPrice firstOf _when_
 expect-requires c κs =
     eq-eqb (c .open-refusal .result) 14
-    (c .open-refusal .ensures ∙ ap (λ (o : OpenOutcome). openRefusal (o .reply)) (c .before .before .open-day .ensures))
+    (c .open-refusal .ensures ∙ ap (λ (o : OpenOutcome). openRefusal (o .reply)) (c .before .before .open-call .ensures))
 
 returns : tie.Need-returns
 returns c = search needs
@@ -32,8 +32,8 @@ pub main-spec : {M : Type 1} → statement M
 main-spec =
     tie.close
     (tie.spec
-    slice-aggregate-open-day
-    open-day-requires
+    slice-aggregate-open-call
+    open-call-requires
     open-refusal-requires
     expect-requires
     returns)

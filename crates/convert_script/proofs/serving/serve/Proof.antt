@@ -1,4 +1,4 @@
--- The output has room for the whole block. Assumes nothing.
+-- The output has room for the whole chunk. Assumes nothing.
 use Prim.Native.Nat.{_*_, _≤_}
 use mathlib.Core.Path.{sym}
 use native.Mathlib.Omega.{arith}
@@ -14,24 +14,24 @@ use Rattle.convert_script.proofs.serving.serve.Tie as tie
 room : (s : tie.Start) → 3 * length (take (s .args .n) (s .args .buf .now)) ≤ length (s .args .out .now)
 room s = omega (arith, length-take-le (s .args .n) (s .args .buf .now) (s .pre .0), s .pre .1)
 
-slice-aggregate-convert-block : tie.Need-slice-aggregate-convert-block
-slice-aggregate-convert-block c =
+slice-aggregate-convert-chunk : tie.Need-slice-aggregate-convert-chunk
+slice-aggregate-convert-chunk c =
     let s = c .before .before .before in sym (length-take-le (s .args .n) (s .args .buf .now) (s .pre .0))
 
-convert-block-requires : tie.Need-convert-block-requires
-convert-block-requires c κs = search needs
+convert-chunk-requires : tie.Need-convert-chunk-requires
+convert-chunk-requires c κs = search needs
 
 slice-reshare-prefix-write-out : tie.Need-slice-reshare-prefix-write-out
 slice-reshare-prefix-write-out c =
     let d = c .before .before in
-    shown-within (d .convert-block .ensures) (room (d .before .before .before .before .before))
+    shown-within (d .convert-chunk .ensures) (room (d .before .before .before .before .before))
 
 slice-aggregate-write-out : tie.Need-slice-aggregate-write-out
 slice-aggregate-write-out c =
     let d = c .before .before .before in
     sym
-    (length-take-le (d .convert-block .result .next) _
-    (shown-within (d .convert-block .ensures) (room (d .before .before .before .before .before))))
+    (length-take-le (d .convert-chunk .result .next) _
+    (shown-within (d .convert-chunk .ensures) (room (d .before .before .before .before .before))))
 
 write-out-requires : tie.Need-write-out-requires
 write-out-requires c κs = search needs
@@ -51,14 +51,14 @@ same-length-2 c = search needs
 returns-2 : tie.Need-returns-2
 returns-2 c =
     let d = c .before .before .before .before .before .before in
-    λ _. lent-enough (d .convert-block .ensures) (room (d .before .before .before .before .before)) .rest
+    λ _. lent-enough (d .convert-chunk .ensures) (room (d .before .before .before .before .before)) .rest
 
 pub serve-spec : {M : Type 1} → statement M
 serve-spec =
     tie.close
     (tie.spec
-    slice-aggregate-convert-block
-    convert-block-requires
+    slice-aggregate-convert-chunk
+    convert-chunk-requires
     slice-reshare-prefix-write-out
     slice-aggregate-write-out
     write-out-requires

@@ -18,15 +18,15 @@ refuse-requires c κs = search needs
 enum-known-c : tie.Need-enum-known-c
 enum-known-c c = search needs
 
-answer-opening-requires : tie.Need-answer-opening-requires
-answer-opening-requires c κs = search needs
+answer-open-requires : tie.Need-answer-open-requires
+answer-open-requires c κs = search needs
 
 enum-known-c-2 : tie.Need-enum-known-c-2
 enum-known-c-2 c = search needs
 
-answer-move-requires : tie.Need-answer-move-requires
+answer-clock-requires : tie.Need-answer-clock-requires
 unfolding asksUnsound asksDay
-answer-move-requires c κs =
+answer-clock-requires c κs =
     let s = c .before .before .before .before .before .before .before in
     let k = asked-sound (deskOf (s .args .begun) (s .args .d) (s .args .rows .now)) (c .before .before .before .before .c2 .given .1) (s .pre .3) in
     (search needs, search needs, k)
@@ -75,8 +75,8 @@ returns-2 : tie.Need-returns-2
 unfolding answer
 returns-2 c =
     as-asked (c .before .before .before .before .before .before .before .c .given .1) (record {
-      leaves = c .before .before .before .answer-opening .ensures .0;
-      idle = c .before .before .before .answer-opening .ensures .1;
+      leaves = c .before .before .before .answer-open .ensures .0;
+      idle = c .before .before .before .answer-open .ensures .1;
       list = refl;
     })
 
@@ -92,7 +92,7 @@ same-length-6 c = search needs
 returns-3 : tie.Need-returns-3
 unfolding answer
 returns-3 c =
-    as-asked (c .before .before .before .before .before .before .before .before .before .c2 .given .1) (c .before .before .before .before .answer-move .ensures)
+    as-asked (c .before .before .before .before .before .before .before .before .before .c2 .given .1) (c .before .before .before .before .answer-clock .ensures)
 
 same-length-7 : tie.Need-same-length-7
 same-length-7 c = search needs
@@ -130,9 +130,9 @@ answer-command-spec =
     enum-told
     refuse-requires
     enum-known-c
-    answer-opening-requires
+    answer-open-requires
     enum-known-c-2
-    answer-move-requires
+    answer-clock-requires
     enum-known-c-3
     answer-order-requires
     enum-known-c-4

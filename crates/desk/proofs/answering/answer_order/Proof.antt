@@ -31,25 +31,25 @@ returns c =
       list = no-trades (s .begun) (s .d) (s .rows .now) (Enters (s .a)) (tradesOf (s .trades .now)) n;
     }
 
-enter-sound-requires : tie.Need-enter-sound-requires
-enter-sound-requires c κs =
+order-sound-requires : tie.Need-order-sound-requires
+order-sound-requires c κs =
     let s = c .before .before .before .before in
     on-day (s .args .begun) (s .args .d) (s .args .rows .now) (not-false _ (c .before .before .if1 .left)) (s .pre .2)
 
 put-trades-requires : tie.Need-put-trades-requires
 put-trades-requires c κs =
     let s = c .before .before .before .before .before .before .before .before .before in
-    let k = c .before .before .before .before .enter-sound in
-    let m = order-made (s .args .d) (s .args .rows .now) (s .args .trades .now) (k .last .1 .1 .0) (k .last .1 .1 .1 .0) (s .args .a) (k .ensures) in
-    (m, omega (arith, s .pre, k .kept .1 .1 .1 .0))
+    let k = c .before .before .before .before .order-sound in
+    let m = order-made (s .args .d) (s .args .rows .now) (s .args .trades .now) (k .last .1 .0) (k .last .1 .1 .0) (s .args .a) (k .ensures) in
+    (m, omega (arith, s .pre, k .kept .1 .1 .0))
 
 put-order-requires : tie.Need-put-order-requires
 put-order-requires c κs =
     let s = c .before .before .before .before .before .before .before .before .before .before .before .before .before in
-    let k = c .before .before .before .before .before .before .before .before .enter-sound in
+    let k = c .before .before .before .before .before .before .before .before .order-sound in
     let w = c .before .before .before .put-trades .ensures in
-    let m = order-made (s .args .d) (s .args .rows .now) (s .args .trades .now) (k .last .1 .1 .0) (k .last .1 .1 .1 .0) (s .args .a) (k .ensures) in
-    omega (arith, s .pre, k .kept .1 .1 .1 .0, trades-room (k .last .1 .1 .1 .0) (k .result .made) w m, put-long w)
+    let m = order-made (s .args .d) (s .args .rows .now) (s .args .trades .now) (k .last .1 .0) (k .last .1 .1 .0) (s .args .a) (k .ensures) in
+    omega (arith, s .pre, k .kept .1 .1 .0, trades-room (k .last .1 .1 .0) (k .result .made) w m, put-long w)
 
 same-length-2 : tie.Need-same-length-2
 same-length-2 c = search needs
@@ -63,12 +63,12 @@ same-length-4 c = search needs
 returns-2 : tie.Need-returns-2
 returns-2 c =
     let s = c .before .before .before .before .before .before .before .before .before .before .before .before .before .before .before .before .before in
-    let k = c .before .before .before .before .before .before .before .before .before .before .before .before .enter-sound in
+    let k = c .before .before .before .before .before .before .before .before .before .before .before .before .order-sound in
     let w = c .before .before .before .before .before .before .before .put-trades .ensures in
-    let m = order-made (s .args .d) (s .args .rows .now) (s .args .trades .now) (k .last .1 .1 .0) (k .last .1 .1 .1 .0) (s .args .a) (k .ensures) in
-    order-answered (s .args .begun) (s .args .d) (s .args .rows .now) (k .last .1 .1 .0) _ (s .args .trades .now) (k .last .1 .1 .1 .0) (s .pre .0)
+    let m = order-made (s .args .d) (s .args .rows .now) (s .args .trades .now) (k .last .1 .0) (k .last .1 .1 .0) (s .args .a) (k .ensures) in
+    order-answered (s .args .begun) (s .args .d) (s .args .rows .now) (k .last .1 .0) _ (s .args .trades .now) (k .last .1 .1 .0) (s .pre .0)
     (not-false _ (c .before .before .before .before .before .before .before .before .before .before .before .before .before .before .before .if1 .left))
-    (omega (arith, s .pre, k .kept .1 .1 .1 .0, trades-room (k .last .1 .1 .1 .0) (k .result .made) w m, put-long w))
+    (omega (arith, s .pre, k .kept .1 .1 .0, trades-room (k .last .1 .1 .0) (k .result .made) w m, put-long w))
     (s .args .a) (k .result) (k .ensures) w (c .before .before .before .put-order .ensures)
 
 pub answer-order-spec : {M : Type 1} → statement M
@@ -78,7 +78,7 @@ answer-order-spec =
     refuse-requires
     same-length
     returns
-    enter-sound-requires
+    order-sound-requires
     put-trades-requires
     put-order-requires
     same-length-2

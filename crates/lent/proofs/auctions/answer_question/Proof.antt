@@ -7,19 +7,19 @@ use Rattle.lent.proofs.auctions.answer_question.Tie as tie
 enum-known-question : tie.Need-enum-known-question
 enum-known-question c = search needs
 
-report-auction-requires : tie.Need-report-auction-requires
-report-auction-requires c κs = search needs
+report-call-requires : tie.Need-report-call-requires
+report-call-requires c κs = search needs
 
 enum-known-question-2 : tie.Need-enum-known-question-2
 enum-known-question-2 c = search needs
 
-list-auction-requires : tie.Need-list-auction-requires
-list-auction-requires c κs = search needs
+list-call-requires : tie.Need-list-call-requires
+list-call-requires c κs = search needs
 
 returns : tie.Need-returns
 returns c =
     let a = c .before .before .before .before .before .args in
-    reported (a .question) (a .rows .now) (a .prices .now) (c .before .before .question .given .1) (c .report-auction .ensures)
+    reported (a .question) (a .rows .now) (a .prices .now) (c .before .before .question .given .1) (c .report-call .ensures)
 
 same-length : tie.Need-same-length
 same-length c = search needs
@@ -27,16 +27,16 @@ same-length c = search needs
 returns-2 : tie.Need-returns-2
 returns-2 c =
     let a = c .before .before .before .before .before .before .before .before .args in
-    listed (a .question) (a .rows .now) (a .prices .now) (c .before .before .before .before .before .question2 .given .1) (c .before .before .list-auction .ensures)
+    listed (a .question) (a .rows .now) (a .prices .now) (c .before .before .before .before .before .question2 .given .1) (c .before .before .list-call .ensures)
 
 pub answer-question-spec : {M : Type 1} → statement M
 answer-question-spec =
     tie.close
     (tie.spec
     enum-known-question
-    report-auction-requires
+    report-call-requires
     enum-known-question-2
-    list-auction-requires
+    list-call-requires
     returns
     same-length
     returns-2)

@@ -7,26 +7,26 @@ use Rattle.lent.proofs.events.answer_event.Tie as tie
 enum-known-event : tie.Need-enum-known-event
 enum-known-event c = search needs
 
-open-day-requires : tie.Need-open-day-requires
-open-day-requires c κs = search needs
+open-call-requires : tie.Need-open-call-requires
+open-call-requires c κs = search needs
 
 enum-known-event-2 : tie.Need-enum-known-event-2
 enum-known-event-2 c = search needs
 
-move-clock-requires : tie.Need-move-clock-requires
-move-clock-requires c κs = search needs
+clock-call-requires : tie.Need-clock-call-requires
+clock-call-requires c κs = search needs
 
 enum-known-event-3 : tie.Need-enum-known-event-3
 enum-known-event-3 c = search needs
 
-enter-order-requires : tie.Need-enter-order-requires
-enter-order-requires c κs = search needs
+order-call-requires : tie.Need-order-call-requires
+order-call-requires c κs = search needs
 
 enum-known-event-4 : tie.Need-enum-known-event-4
 enum-known-event-4 c = search needs
 
-cancel-order-requires : tie.Need-cancel-order-requires
-cancel-order-requires c κs = search needs
+cancel-call-requires : tie.Need-cancel-call-requires
+cancel-call-requires c κs = search needs
 
 same-length : tie.Need-same-length
 same-length c = search needs
@@ -34,8 +34,8 @@ same-length c = search needs
 returns : tie.Need-returns
 returns c =
     let a = c .before .before .before .before .before .before .args in
-    opened (a .event) (a .rows .now) (c .before .open-day .last .1 .1 .0) (a .trades .now) (c .before .before .before .before .event .given .1)
-    (c .before .open-day .ensures)
+    opened (a .event) (a .rows .now) (c .before .open-call .last .0) (a .trades .now) (c .before .before .before .before .event .given .1)
+    (c .before .open-call .ensures)
 
 same-length-2 : tie.Need-same-length-2
 same-length-2 c = search needs
@@ -46,8 +46,8 @@ same-length-3 c = search needs
 returns-2 : tie.Need-returns-2
 returns-2 c =
     let a = c .before .before .before .before .before .before .before .before .args in
-    moved (a .event) (a .rows .now) (c .before .before .move-clock .last .1 .1 .0) (a .trades .now) (c .before .before .move-clock .last .1 .1 .1 .0)
-    (c .before .before .before .before .before .before .event2 .given .1) (c .before .before .move-clock .ensures)
+    moved (a .event) (a .rows .now) (c .before .before .clock-call .last .1 .0) (a .trades .now) (c .before .before .clock-call .last .1 .1 .0)
+    (c .before .before .before .before .before .before .event2 .given .1) (c .before .before .clock-call .ensures)
 
 same-length-4 : tie.Need-same-length-4
 same-length-4 c = search needs
@@ -58,9 +58,9 @@ same-length-5 c = search needs
 returns-3 : tie.Need-returns-3
 returns-3 c =
     let a = c .before .before .before .before .before .before .before .before .args in
-    entered (a .event) (a .rows .now) (c .before .before .enter-order .last .1 .1 .0) (a .trades .now)
-    (c .before .before .enter-order .last .1 .1 .1 .0) (c .before .before .before .before .before .before .event3 .given .1)
-    (c .before .before .enter-order .ensures)
+    entered (a .event) (a .rows .now) (c .before .before .order-call .last .1 .0) (a .trades .now)
+    (c .before .before .order-call .last .1 .1 .0) (c .before .before .before .before .before .before .event3 .given .1)
+    (c .before .before .order-call .ensures)
 
 same-length-6 : tie.Need-same-length-6
 same-length-6 c = search needs
@@ -68,21 +68,21 @@ same-length-6 c = search needs
 returns-4 : tie.Need-returns-4
 returns-4 c =
     let a = c .before .before .before .before .before .before .args in
-    cancelled (a .event) (a .rows .now) (c .before .cancel-order .last .1 .0) (a .trades .now) (c .before .before .before .before .event4 .given .1)
-    (c .before .cancel-order .ensures)
+    cancelled (a .event) (a .rows .now) (c .before .cancel-call .last .1 .0) (a .trades .now) (c .before .before .before .before .event4 .given .1)
+    (c .before .cancel-call .ensures)
 
 pub answer-event-spec : {M : Type 1} → statement M
 answer-event-spec =
     tie.close
     (tie.spec
     enum-known-event
-    open-day-requires
+    open-call-requires
     enum-known-event-2
-    move-clock-requires
+    clock-call-requires
     enum-known-event-3
-    enter-order-requires
+    order-call-requires
     enum-known-event-4
-    cancel-order-requires
+    cancel-call-requires
     same-length
     returns
     same-length-2

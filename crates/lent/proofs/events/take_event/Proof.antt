@@ -47,7 +47,7 @@ use denote.Triple.Walked.{says, Stays, stay-slice, gave-slice, stay-dropped, wal
 use Rattle.model.specs.declared.Order.{Order}
 use Rattle.model.proofs.Order as T
 use Rattle.book.specs.Rows.{bookOf, orderOf, tradesOf}
-use Rattle.day.specs.Promises.{left}
+use Rattle.day.specs.Promises.{callLeft}
 use Rattle.lent.specs.Copying.{copied}
 use Rattle.lent.specs.declared.Event.{Event}
 use Rattle.lent.specs.declared.Answer.{Answer}
@@ -82,7 +82,7 @@ use Rattle.lent.proofs.events.take_event.Code as code
 
 -- what the call on rows does
 abbrev Does : List (List ℕ) → List (List ℕ) → Event → Answer → List (List ℕ) → List (List ℕ) → Type 0
-Does rows trades event answer rows′ trades′ = left answer rows′ trades′ ≡ eventCall event (bookOf rows) (tradesOf trades)
+Does rows trades event answer rows′ trades′ = callLeft answer rows′ trades′ ≡ eventCall event (bookOf rows) (tradesOf trades)
 
 abbrev stayed : Stays (this.ended .signature .params) (this.ended .kept)
 stayed = (stay-slice (0 ∷ []) tt (plain (λ _. T.the-row)), (gave-slice (1 ∷ []) tt (plain (λ _. Array u64 6)), (stay-dropped (plain (λ _. Q.the-row)) yes, tt)))

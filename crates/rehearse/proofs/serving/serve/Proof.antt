@@ -1,4 +1,4 @@
--- The block is answered to its end, or the program stops; then its tail is carried over. Assumes nothing.
+-- The chunk is answered to its end, or the program stops; then its tail is carried over. Assumes nothing.
 use mathlib.Core.Path.{sym}
 use native.Mathlib.Omega.{arith}
 use lib.ListN.{length-take}
@@ -10,16 +10,16 @@ use borrow.Author.Needs.{needs}
 use Rattle.rehearse.proofs.serving.serve.Statement.{statement}
 use Rattle.rehearse.proofs.serving.serve.Tie as tie
 
-slice-reshare-prefix-answer-block : tie.Need-slice-reshare-prefix-answer-block
-slice-reshare-prefix-answer-block c = search needs
+slice-reshare-prefix-answer-chunk : tie.Need-slice-reshare-prefix-answer-chunk
+slice-reshare-prefix-answer-chunk c = search needs
 
-slice-aggregate-answer-block : tie.Need-slice-aggregate-answer-block
-slice-aggregate-answer-block c =
+slice-aggregate-answer-chunk : tie.Need-slice-aggregate-answer-chunk
+slice-aggregate-answer-chunk c =
     let s = c .before .before .before .before .before .before in
     sym (length-take-le (s .args .n) (s .args .buf .now) (s .pre .3))
 
-answer-block-requires : tie.Need-answer-block-requires
-answer-block-requires c κs = search needs
+answer-chunk-requires : tie.Need-answer-chunk-requires
+answer-chunk-requires c κs = search needs
 
 stopped-requires : tie.Need-stopped-requires
 stopped-requires c κs = search needs
@@ -42,7 +42,7 @@ returns c = λ e. absurd (not-both (c .stopped .ensures) e)
 carry-over-requires : tie.Need-carry-over-requires
 carry-over-requires c κs =
     let s = c .before .before .before .before .before .before .before .before .before .before .before .before .before .before .before in
-    let o = c .before .before .before .before .before .before .before .answer-block .ensures (not-false _ (c .before .if1 .left)) in
+    let o = c .before .before .before .before .before .before .before .answer-chunk .ensures (not-false _ (c .before .if1 .left)) in
     let l = length-take (s .args .n) (s .args .buf .now) in
     (omega (arith, o .0 .inside), s .pre .3)
 
@@ -61,7 +61,7 @@ same-length-8 c = search needs
 returns-2 : tie.Need-returns-2
 returns-2 c =
     let s = c .before .before .before .before .before .before .before .before .before .before .before .before .before .before .before .before .before .before .before .args in
-    let k = c .before .before .before .before .before .before .before .before .before .before .before .answer-block in
+    let k = c .before .before .before .before .before .before .before .before .before .before .before .answer-chunk in
     let o = k .ensures (not-false _ (c .before .before .before .before .before .if1 .left)) in
     let v = c .before .before .before .carry-over in
     λ e. steps (s .buf .now) (v .last .0) (s .n) (s .h .begun) (s .h .long) (s .h .day) (s .rows .now) (k .last .1 .0) (k .result) (v .result) (o .0) (o .1) (v .ensures)
@@ -70,9 +70,9 @@ pub serve-spec : {M : Type 1} → statement M
 serve-spec =
     tie.close
     (tie.spec
-    slice-reshare-prefix-answer-block
-    slice-aggregate-answer-block
-    answer-block-requires
+    slice-reshare-prefix-answer-chunk
+    slice-aggregate-answer-chunk
+    answer-chunk-requires
     stopped-requires
     same-length
     same-length-2

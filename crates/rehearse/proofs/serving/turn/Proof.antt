@@ -1,4 +1,4 @@
--- A read that failed or ended stops the program; else the block is served. Assumes nothing.
+-- A read that failed or ended stops the program; else the chunk is served. Assumes nothing.
 use Rattle.model.proofs.Bools.{not-both}
 use Rattle.rehearse.proofs.Rounds.{filled-with, steps-few, steps-sound}
 use borrow.Author.Needs.{needs}

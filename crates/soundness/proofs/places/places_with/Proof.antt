@@ -48,8 +48,8 @@ returns-2 c =
     let l = o .before .before in
     tested-used _ _ _ _ (l .loop .inv .1) (o .order-at .result) (o .before .loop-test .taken) (o .order-at .ensures) (sym (c .before .is-used .ensures) ∙ c .if2 .taken)
 
-mark-requires : tie.Need-mark-requires Inv-loop μ-loop
-mark-requires c κs = search needs
+set-bit-requires : tie.Need-set-bit-requires Inv-loop μ-loop
+set-bit-requires c κs = search needs
 
 add-i : tie.Need-add-i Inv-loop μ-loop
 add-i c = search needs
@@ -64,9 +64,9 @@ loop-again c =
     let p = u .before .before .before in
     let o = p .before .before in
     let l = o .before .before in (
-      ap length (m .mark .ensures) ∙ length-marked _ _ ∙ l .loop .inv .0,
+      ap length (m .set-bit .ensures) ∙ length-marked _ _ ∙ l .loop .inv .0,
       tested-more _ _ _ _ (l .loop .inv .1) (o .order-at .result) (o .before .loop-test .taken) (o .order-at .ensures) _
-          (sym (p .before .place-is-sound .ensures) ∙ not-false _ (p .if1 .left)) (sym (u .before .is-used .ensures) ∙ u .if2 .left) (m .mark .ensures),
+          (sym (p .before .place-is-sound .ensures) ∙ not-false _ (p .if1 .left)) (sym (u .before .is-used .ensures) ∙ u .if2 .left) (m .set-bit .ensures),
     )
 
 same-length-3 : tie.Need-same-length-3 Inv-loop μ-loop
@@ -89,7 +89,7 @@ places-with-spec =
     is-used-requires
     same-length-2
     returns-2
-    mark-requires
+    set-bit-requires
     add-i
     loop-less
     loop-again

@@ -1,7 +1,7 @@
 -- What the bounds say of the next line, by whether it is too long already.
 use mathlib.Core.Path.{sym, _∙_}
 use native.Mathlib.Omega.{arith}
-use Rattle.text.proofs.Blocks.{Bounded, bounded, unbounded, asks-long, asks-line}
+use Rattle.text.proofs.Chunks.{Bounded, bounded, unbounded, asks-long, asks-line}
 use borrow.Author.Needs.{needs}
 use Rattle.text.proofs.reading.next_command.Statement.{statement}
 use Rattle.text.proofs.reading.next_command.Tie as tie
@@ -10,7 +10,7 @@ use Rattle.text.proofs.reading.next_command.Tie as tie
 abbrev Found : tie.After-known-told → Type 0
 Found c =
     let a = c .before .before .before .before .before .args in
-    Bounded (a .block .now) (a .at) (c .before .start .given .0 .0) (c .before .start .given .0 .1 .0)
+    Bounded (a .chunk .now) (a .at) (c .before .start .given .0 .0) (c .before .start .given .0 .1 .0)
 
 found : (c : tie.After-known-told) → Found c
 found c = bounded _ _ _ _ (sym (c .before .before .before .line-from .ensures) ∙ c .before .start .given .1)

@@ -1,6 +1,6 @@
--- A walk of the function's steps by hand: the reader is taken apart, and `scan` is called on its block and place; of `scan`
+-- A walk of the function's steps by hand: the reader is taken apart, and `scan` is called on its chunk and place; of `scan`
 -- the proof knows its contract alone. The reader is Copy: what it owns is had twice, one copy is kept whole for the exit,
--- and of the other what the block owns goes to the callee. Assumes nothing.
+-- and of the other what the chunk owns goes to the callee. Assumes nothing.
 use mathlib.Core.Path.{_≡_, refl}
 use Prim.Native.Nat.{_<_, _^_}
 use mathlib.Core.List.{[], _∷_}
@@ -43,7 +43,7 @@ use denote.Triple.Table.{entered, cited}
 use denote.Triple.Walked.{says, Stays, stay-none, walkOf, goes-none, Walks, ends-at, walked, walk-meets}
 use denote.Exit.{yes}
 use denote.Triple.Clauses.{ensured, lasts}
-use Rattle.text.specs.Blocks.{nextLine}
+use Rattle.text.specs.Chunks.{nextLine}
 use Rattle.text.specs.declared.reading.Lines.{Lines}
 use Rattle.text.specs.declared.Bounds.{Bounds}
 use Rattle.text.proofs.reading.Lines as T
@@ -75,12 +75,12 @@ module _ {M : Type 1} (𝓤 : URA M) (H : Heap 𝓤) (A : Atoms 𝓤) (W : Given
   abbrev mach : Val
   mach = T′.lowered d
 
-  -- the machine value of the block
+  -- the machine value of the chunk
   abbrev v : Val
-  v = sliceVal (d .block .ptr) (length (d .block .now))
+  v = sliceVal (d .chunk .ptr) (length (d .chunk .now))
 
   abbrev found : Bounds
-  found = nextLine (now (d .block)) (d .at)
+  found = nextLine (now (d .chunk)) (d .at)
 
   abbrev Post : Val → SProp 𝓤
   Post = walkOf 𝓤 H A this.ended stayed (this.clauses 𝓤 H A mem run) .post (((κ, tt), (q, tt), tt, (d, tt), (mach ∷ [], tt)), tt)
@@ -96,31 +96,31 @@ module _ {M : Type 1} (𝓤 : URA M) (H : Heap 𝓤) (A : Atoms 𝓤) (W : Given
   L = T′.the-laws (namedLft 1 0 tt (κ, tt))
 
   abbrev vd : Values (D .parts)
-  vd = (d .block, (d .at, tt))
+  vd = (d .chunk, (d .at, tt))
 
   -- what the callee is passed
   abbrev passed : Vals scan.signature (κ, tt)
   passed = (v ∷ [], (vint w64 (d .at) ∷ [], tt))
 
   abbrev to : Scan 𝓤 H A mem run .Ghost
-  to = (((κ, tt), (q, tt), tt, (d .block, (d .at, tt)), passed), tt)
+  to = (((κ, tt), (q, tt), tt, (d .chunk, (d .at, tt)), passed), tt)
 
-  asked : ent 𝓤 (onEntry 𝓤 H A scan.signature (κ, tt) (q, tt) (d .block, (d .at, tt)) passed) (Scan 𝓤 H A mem run .pre to)
-  asked = qed W ((‵ (flft κ q) ⊛ ‵ ftrue) ∷ ‵ (owns (ShrSlice (named 0) κ u8 ∷ usize ∷ []) (d .block, (d .at, tt)) passed) ∷ []) ∵ join ! $ frame ! $ done !
+  asked : ent 𝓤 (onEntry 𝓤 H A scan.signature (κ, tt) (q, tt) (d .chunk, (d .at, tt)) passed) (Scan 𝓤 H A mem run .pre to)
+  asked = qed W ((‵ (flft κ q) ⊛ ‵ ftrue) ∷ ‵ (owns (ShrSlice (named 0) κ u8 ∷ usize ∷ []) (d .chunk, (d .at, tt)) passed) ∷ []) ∵ join ! $ frame ! $ done !
 
   -- what the struct owns gives what the callee asks, and is kept
   apart : d .at < 2 ^ 64 → ent 𝓤 (onEntry 𝓤 H A this.signature (κ, tt) (q, tt) (d, tt) (mach ∷ [], tt)) (sep 𝓤 (Scan 𝓤 H A mem run .pre to) (sem 𝓤 H A Own))
   apart fits =
       qed W ((‵ (flft κ q) ⊛ ‵ ftrue) ∷ ‵ (owns (B (κ, tt) ∷ []) (d, tt) (mach ∷ [], tt)) ∷ []) ∵
       move ! (1 ∷ []) $ fsplit ! $ move ! (1 ∷ []) $ drop ! $ use1 W (‵ Own ⊛ ‵ Own) (LL.copy D (T′.the-copy (namedLft 1 0 tt (κ, tt))) 𝓤 H A W .twice d (mach ∷ [])) $ split ! $
-      use1 W (given (mach ∷ [] ≡ mach ∷ []) (‵ (all-own (D .parts) L vd))) (own-open 𝓤 H A W D L vd mach) $ learn ! (λ _. use1 W (‵ (ownAt (D .parts) L 0 (d .block)) ⊛ ‵ (rest (D .parts) L 0 vd)) (own-out 𝓤 H A W (D .parts) L 0 vd) $ split ! $
-      -- [what the block owns; what at owns; what the struct owns; the token]
+      use1 W (given (mach ∷ [] ≡ mach ∷ []) (‵ (all-own (D .parts) L vd))) (own-open 𝓤 H A W D L vd mach) $ learn ! (λ _. use1 W (‵ (ownAt (D .parts) L 0 (d .chunk)) ⊛ ‵ (rest (D .parts) L 0 vd)) (own-out 𝓤 H A W (D .parts) L 0 vd) $ split ! $
+      -- [what the chunk owns; what at owns; what the struct owns; the token]
       move ! (1 ∷ []) $ drop ! $ nothing ! $ owned ! usize (Is usize) (uint-makes 𝓤 H A W w64) (d .at) _ (refl, fits) $ fjoin ! $ move ! (1 ∷ 0 ∷ []) $ fjoin ! $
       move ! (2 ∷ 0 ∷ []) $ use2 W (raw (Scan 𝓤 H A mem run .pre to)) asked $ frame ! $ done !)
 
   -- of the callee's `ensured`, the clause alone: it has no `&mut`, so what is said of last values is dropped
-  said : (r : Bounds) → ent 𝓤 (ensured 𝓤 H A scan.ended (scan.clauses 𝓤 H A mem run) (κ, tt) (d .block, (d .at, tt)) tt r) (fact 𝓤 (r ≡ found))
-  said r = exE 𝓤 _ (λ ws. snd∗ 𝓤 (sem 𝓤 H A (lasts scan.ended (κ, tt) (d .block, (d .at, tt)) ws)) (fact 𝓤 (r ≡ found)))
+  said : (r : Bounds) → ent 𝓤 (ensured 𝓤 H A scan.ended (scan.clauses 𝓤 H A mem run) (κ, tt) (d .chunk, (d .at, tt)) tt r) (fact 𝓤 (r ≡ found))
+  said r = exE 𝓤 _ (λ ws. snd∗ 𝓤 (sem 𝓤 H A (lasts scan.ended (κ, tt) (d .chunk, (d .at, tt)) ws)) (fact 𝓤 (r ≡ found)))
 
   exits : (r : Bounds) (u : Val) → r ≡ found → ent 𝓤 (⋆ 𝓤 H A (‵ (S.the-row .own r (u ∷ [])) ∷ (‵ (flft κ q) ⊛ ‵ ftrue) ∷ ‵ Own ∷ [])) (Post u)
   exits r u e =
@@ -137,7 +137,7 @@ module _ {M : Type 1} (𝓤 : URA M) (H : Heap 𝓤) (A : Atoms 𝓤) (W : Given
         assigns ! (of-opd ! (load ! (from ! (fld ! refl (stop !))) (look-in ! 4 (sub ! 1 refl (whole !))))) (from ! (stop !)) (init ! 0 refl (tt, wt .1 .1 .0)) $
         move ! (8 ∷ []) $ use1 W (raw (Scan 𝓤 H A mem run .pre to) ⊛ ‵ Own) (apart (wt .1 .1 .0 .fits)) $ split ! $
         calls-at ! fm (Scan 𝓤 H A mem run) known to (and-then ! (load ! (from ! (stop !)) (look ! 4 refl)) (and-then ! (load ! (from ! (stop !)) (look ! 2 refl)) (no-more !))) (λ u.
-        use1 W (later (some (λ (r : Bounds). ((‵ (flft κ q) ⊛ ‵ ftrue) ⊛ ‵ (S.the-row .own r (u ∷ []))) ⊛ raw (ensured 𝓤 H A scan.ended (scan.clauses 𝓤 H A mem run) (κ, tt) (d .block, (d .at, tt)) tt r)))) (id⊢ 𝓤 _) $ await ! tt $ pick ! (λ r.
+        use1 W (later (some (λ (r : Bounds). ((‵ (flft κ q) ⊛ ‵ ftrue) ⊛ ‵ (S.the-row .own r (u ∷ []))) ⊛ raw (ensured 𝓤 H A scan.ended (scan.clauses 𝓤 H A mem run) (κ, tt) (d .chunk, (d .at, tt)) tt r)))) (id⊢ 𝓤 _) $ await ! tt $ pick ! (λ r.
         split ! $ move ! (1 ∷ []) $ use1 W (raw (fact 𝓤 (r ≡ found))) (said r) $ heard ! (r ≡ found) (λ e. split ! $ move ! (1 ∷ []) $
         -- [the result; the token; what the struct owns; _3; …; _2; …; _1; …; room for _0; …]
         peeks ! S.the-row (Is S.the-row) (shows 𝓤 H A S.the-row) r (u ∷ []) (λ is.

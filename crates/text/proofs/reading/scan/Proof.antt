@@ -4,17 +4,17 @@ use mathlib.Core.Path.{_≡_, refl, sym, _∙_}
 use native.Mathlib.Omega.{arith}
 use lib.ListN.{length, drop}
 use Rattle.model.specs.Lines.{linesOf}
-use Rattle.text.specs.Blocks.{boundsAt, nextLine}
-use Rattle.text.proofs.Blocks.{newline-here, newline-later, newline-never}
+use Rattle.text.specs.Chunks.{boundsAt, nextLine}
+use Rattle.text.proofs.Chunks.{newline-here, newline-later, newline-never}
 use borrow.Author.Needs.{needs}
 use Rattle.text.proofs.reading.scan.Statement.{statement}
 use Rattle.text.proofs.reading.scan.Tie as tie
 
 abbrev Inv-loop : tie.InvT-loop
-Inv-loop block at i₀ i = nextLine block at ≡ boundsAt at i (linesOf (drop i block))
+Inv-loop chunk at i₀ i = nextLine chunk at ≡ boundsAt at i (linesOf (drop i chunk))
 
 abbrev μ-loop : tie.MeasureT-loop
-μ-loop block at i₀ i = length block - i
+μ-loop chunk at i₀ i = length chunk - i
 
 loop-holds : tie.Need-loop-holds Inv-loop μ-loop
 unfolding nextLine
@@ -26,7 +26,7 @@ shared-slice-read-if1 c = search needs
 returns : tie.Need-returns Inv-loop μ-loop
 returns c =
     let d = c .before .before .before in
-    sym (d .loop .inv ∙ newline-here (d .before .args .block .now) _ (d .loop .i) (omega arith) (c .if1 .taken))
+    sym (d .loop .inv ∙ newline-here (d .before .args .chunk .now) _ (d .loop .i) (omega arith) (c .if1 .taken))
 
 add-i : tie.Need-add-i Inv-loop μ-loop
 add-i c = search needs
@@ -37,12 +37,12 @@ loop-less c = search needs
 loop-again : tie.Need-loop-again Inv-loop μ-loop
 loop-again c =
     let d = c .before .before .before in
-    d .loop .inv ∙ newline-later (d .before .args .block .now) _ (d .loop .i) (omega arith) (c .if1 .left)
+    d .loop .inv ∙ newline-later (d .before .args .chunk .now) _ (d .loop .i) (omega arith) (c .if1 .left)
 
 returns-2 : tie.Need-returns-2 Inv-loop μ-loop
 returns-2 c =
     let d = c .before in
-    sym (d .loop .inv ∙ newline-never (d .before .args .block .now) _ (d .loop .i) (omega arith))
+    sym (d .loop .inv ∙ newline-never (d .before .args .chunk .now) _ (d .loop .i) (omega arith))
 
 pub scan-spec : {M : Type 1} → statement M
 scan-spec =

@@ -10,8 +10,8 @@ load-book-requires c κs = search needs
 day-in-requires : tie.Need-day-in-requires
 day-in-requires c κs = search needs
 
-report-auction-requires : tie.Need-report-auction-requires
-report-auction-requires c κs = search needs
+report-call-requires : tie.Need-report-call-requires
+report-call-requires c κs = search needs
 
 same-length : tie.Need-same-length
 same-length c = search needs
@@ -21,9 +21,9 @@ returns c =
     let l = c .before .before .before .before in
     let a = l .before .before .before .before .args in
     report-rows (a .day .now) (a .book .now) (l .load-book .last .1 .0) (l .load-book .ensures) (c .before .before .day-in .ensures)
-    (c .report-auction .ensures)
+    (c .report-call .ensures)
 
 pub report-in-spec : {M : Type 1} → statement M
 report-in-spec =
     tie.close
-    (tie.spec load-book-requires day-in-requires report-auction-requires same-length returns)
+    (tie.spec load-book-requires day-in-requires report-call-requires same-length returns)

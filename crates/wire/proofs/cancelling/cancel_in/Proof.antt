@@ -10,8 +10,8 @@ load-book-requires c κs = search needs
 day-in-requires : tie.Need-day-in-requires
 day-in-requires c κs = search needs
 
-cancel-order-requires : tie.Need-cancel-order-requires
-cancel-order-requires c κs = search needs
+cancel-call-requires : tie.Need-cancel-call-requires
+cancel-call-requires c κs = search needs
 
 store-book-requires : tie.Need-store-book-requires
 store-book-requires c κs = search needs
@@ -29,10 +29,10 @@ returns c =
     let d = k .before .before in
     let l = d .before .before in
     let a = l .before .before .before .before .before .args in
-    cancel-rows (a .day .now) (a .account) (a .number) (a .book .now) (l .load-book .last .1 .0) (k .cancel-order .last .1 .0)
+    cancel-rows (a .day .now) (a .account) (a .number) (a .book .now) (l .load-book .last .1 .0) (k .cancel-call .last .1 .0)
     (l .load-book .ensures)
     (d .day-in .ensures)
-    (k .cancel-order .ensures)
+    (k .cancel-call .ensures)
     (s .store-book .ensures)
 
 pub cancel-in-spec : {M : Type 1} → statement M
@@ -41,7 +41,7 @@ cancel-in-spec =
     (tie.spec
     load-book-requires
     day-in-requires
-    cancel-order-requires
+    cancel-call-requires
     store-book-requires
     same-length
     same-length-2

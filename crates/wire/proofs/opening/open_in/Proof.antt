@@ -7,8 +7,8 @@ use Rattle.wire.proofs.opening.open_in.Tie as tie
 load-book-requires : tie.Need-load-book-requires
 load-book-requires c κs = search needs
 
-open-day-requires : tie.Need-open-day-requires
-open-day-requires c κs = search needs
+open-call-requires : tie.Need-open-call-requires
+open-call-requires c κs = search needs
 
 store-book-requires : tie.Need-store-book-requires
 store-book-requires c κs = search needs
@@ -25,9 +25,9 @@ returns c =
     let k = s .before .before .before .before in
     let l = k .before .before .before in
     let a = l .before .before .before .before .args in
-    open-rows (a .close) (a .mark) (a .book .now) (l .load-book .last .1 .0) (k .open-day .last .1 .1 .0)
+    open-rows (a .close) (a .mark) (a .book .now) (l .load-book .last .1 .0) (k .open-call .last .0)
     (l .load-book .ensures)
-    (k .open-day .ensures)
+    (k .open-call .ensures)
     (s .store-book .ensures)
 
 pub open-in-spec : {M : Type 1} → statement M
@@ -35,7 +35,7 @@ open-in-spec =
     tie.close
     (tie.spec
     load-book-requires
-    open-day-requires
+    open-call-requires
     store-book-requires
     same-length
     same-length-2

@@ -13,25 +13,25 @@ use Rattle.wire.proofs.trading.clock_in.Tie as tie
 
 -- ---- the way back from the call on rows
 
-abbrev loaded-of : tie.After-move-clock → tie.After-load-book
+abbrev loaded-of : tie.After-clock-call → tie.After-load-book
 loaded-of k = k .before .before .before .before .before
 
-abbrev start-of : tie.After-move-clock → tie.Start
+abbrev start-of : tie.After-clock-call → tie.Start
 start-of k = loaded-of k .before .before .before .before .before .before
 
-abbrev called-of : tie.Else1 → tie.After-move-clock
+abbrev called-of : tie.Else1 → tie.After-clock-call
 called-of e = e .before .before .before
 
 -- no more trades are made than the local list has places
-made : (k : tie.After-move-clock) → k .move-clock .result .made ≤ length (k .move-clock .last .1 .1 .1 .0)
+made : (k : tie.After-clock-call) → k .clock-call .result .made ≤ length (k .clock-call .last .1 .1 .0)
 made k =
     let l = loaded-of k in
     let s = start-of k in
     omega (
       arith,
-      k .move-clock .kept .1 .1 .1 .0,
+      k .clock-call .kept .1 .1 .0,
       rows-made (clock-roomy (s .args .time)) (s .args .day .now) (s .args .book .now) (s .args .trades .now) (l .load-book .last .1 .0) (s .args .list .now)
-          (k .move-clock .last .1 .1 .0) (k .move-clock .last .1 .1 .1 .0) (l .load-book .ensures) (k .before .before .before .day-in .ensures) (s .pre .1 .1) (k .move-clock .ensures),
+          (k .clock-call .last .1 .0) (k .clock-call .last .1 .1 .0) (l .load-book .ensures) (k .before .before .before .day-in .ensures) (s .pre .1 .1) (k .clock-call .ensures),
     )
 
 load-book-requires : tie.Need-load-book-requires
@@ -40,8 +40,8 @@ load-book-requires c κs = search needs
 day-in-requires : tie.Need-day-in-requires
 day-in-requires c κs = search needs
 
-move-clock-requires : tie.Need-move-clock-requires
-move-clock-requires c κs = search needs
+clock-call-requires : tie.Need-clock-call-requires
+clock-call-requires c κs = search needs
 
 same-length : tie.Need-same-length
 same-length c = search needs
@@ -59,7 +59,7 @@ returns c =
     let s = start-of k in
     let known = l .before .before .before in
     rows-short (clock-roomy (s .args .time)) (s .args .day .now) (s .args .book .now) (s .args .trades .now) (l .load-book .last .1 .0) (s .args .list .now)
-    (k .move-clock .last .1 .1 .0) (k .move-clock .last .1 .1 .1 .0) (l .load-book .ensures) (k .before .before .before .day-in .ensures) (s .pre .1 .1) (k .move-clock .ensures) (c .if1 .taken)
+    (k .clock-call .last .1 .0) (k .clock-call .last .1 .1 .0) (l .load-book .ensures) (k .before .before .before .day-in .ensures) (s .pre .1 .1) (k .clock-call .ensures) (c .if1 .taken)
     (λ i. known .before .slice-known .given i .fits)
     (λ i. known .slice-known2 .given i .fits)
 
@@ -76,7 +76,7 @@ store-trades-requires : tie.Need-store-trades-requires
 store-trades-requires c κs =
     let e = c .before .before .before .before .before .before .before in
     let k = called-of e in
-    omega (arith, e .if1 .left, length-take-le (k .move-clock .result .made) (k .move-clock .last .1 .1 .1 .0) (made k))
+    omega (arith, e .if1 .left, length-take-le (k .clock-call .result .made) (k .clock-call .last .1 .1 .0) (made k))
 
 same-length-4 : tie.Need-same-length-4
 same-length-4 c = search needs
@@ -99,7 +99,7 @@ returns-2 c =
     let l = loaded-of k in
     let s = start-of k in
     rows-traded (clock-roomy (s .args .time)) (s .args .day .now) (s .args .book .now) (s .args .trades .now) (l .load-book .last .1 .0) (s .args .list .now)
-    (k .move-clock .last .1 .1 .0) (k .move-clock .last .1 .1 .1 .0) (l .load-book .ensures) (k .before .before .before .day-in .ensures) (s .pre .1 .1) (k .move-clock .ensures) (e .if1 .left) (b .store-book .ensures)
+    (k .clock-call .last .1 .0) (k .clock-call .last .1 .1 .0) (l .load-book .ensures) (k .before .before .before .day-in .ensures) (s .pre .1 .1) (k .clock-call .ensures) (e .if1 .left) (b .store-book .ensures)
     (t .store-trades .ensures)
     (λ i. l .before .before .before .slice-known2 .given i .fits)
 
@@ -109,7 +109,7 @@ clock-in-spec =
     (tie.spec
     load-book-requires
     day-in-requires
-    move-clock-requires
+    clock-call-requires
     same-length
     same-length-2
     same-length-3

@@ -13,25 +13,25 @@ use Rattle.wire.proofs.trading.order_in.Tie as tie
 
 -- ---- the way back from the call on rows
 
-abbrev loaded-of : tie.After-enter-order → tie.After-load-book
+abbrev loaded-of : tie.After-order-call → tie.After-load-book
 loaded-of k = k .before .before .before .before .before
 
-abbrev start-of : tie.After-enter-order → tie.Start
+abbrev start-of : tie.After-order-call → tie.Start
 start-of k = loaded-of k .before .before .before .before .before .before
 
-abbrev called-of : tie.Else1 → tie.After-enter-order
+abbrev called-of : tie.Else1 → tie.After-order-call
 called-of e = e .before .before .before
 
 -- no more trades are made than the local list has places
-made : (k : tie.After-enter-order) → k .enter-order .result .made ≤ length (k .enter-order .last .1 .1 .1 .0)
+made : (k : tie.After-order-call) → k .order-call .result .made ≤ length (k .order-call .last .1 .1 .0)
 made k =
     let l = loaded-of k in
     let s = start-of k in
     omega (
       arith,
-      k .enter-order .kept .1 .1 .1 .0,
+      k .order-call .kept .1 .1 .0,
       rows-made (order-roomy (s .args .a)) (s .args .day .now) (s .args .book .now) (s .args .trades .now) (l .load-book .last .1 .0) (s .args .list .now)
-          (k .enter-order .last .1 .1 .0) (k .enter-order .last .1 .1 .1 .0) (l .load-book .ensures) (k .before .before .before .day-in .ensures) (s .pre .1 .1) (k .enter-order .ensures),
+          (k .order-call .last .1 .0) (k .order-call .last .1 .1 .0) (l .load-book .ensures) (k .before .before .before .day-in .ensures) (s .pre .1 .1) (k .order-call .ensures),
     )
 
 load-book-requires : tie.Need-load-book-requires
@@ -40,8 +40,8 @@ load-book-requires c κs = search needs
 day-in-requires : tie.Need-day-in-requires
 day-in-requires c κs = search needs
 
-enter-order-requires : tie.Need-enter-order-requires
-enter-order-requires c κs = search needs
+order-call-requires : tie.Need-order-call-requires
+order-call-requires c κs = search needs
 
 same-length : tie.Need-same-length
 same-length c = search needs
@@ -59,7 +59,7 @@ returns c =
     let s = start-of k in
     let known = l .before .before .before in
     rows-short (order-roomy (s .args .a)) (s .args .day .now) (s .args .book .now) (s .args .trades .now) (l .load-book .last .1 .0) (s .args .list .now)
-    (k .enter-order .last .1 .1 .0) (k .enter-order .last .1 .1 .1 .0) (l .load-book .ensures) (k .before .before .before .day-in .ensures) (s .pre .1 .1) (k .enter-order .ensures) (c .if1 .taken)
+    (k .order-call .last .1 .0) (k .order-call .last .1 .1 .0) (l .load-book .ensures) (k .before .before .before .day-in .ensures) (s .pre .1 .1) (k .order-call .ensures) (c .if1 .taken)
     (λ i. known .before .slice-known .given i .fits)
     (λ i. known .slice-known2 .given i .fits)
 
@@ -76,7 +76,7 @@ store-trades-requires : tie.Need-store-trades-requires
 store-trades-requires c κs =
     let e = c .before .before .before .before .before .before .before in
     let k = called-of e in
-    omega (arith, e .if1 .left, length-take-le (k .enter-order .result .made) (k .enter-order .last .1 .1 .1 .0) (made k))
+    omega (arith, e .if1 .left, length-take-le (k .order-call .result .made) (k .order-call .last .1 .1 .0) (made k))
 
 same-length-4 : tie.Need-same-length-4
 same-length-4 c = search needs
@@ -99,7 +99,7 @@ returns-2 c =
     let l = loaded-of k in
     let s = start-of k in
     rows-traded (order-roomy (s .args .a)) (s .args .day .now) (s .args .book .now) (s .args .trades .now) (l .load-book .last .1 .0) (s .args .list .now)
-    (k .enter-order .last .1 .1 .0) (k .enter-order .last .1 .1 .1 .0) (l .load-book .ensures) (k .before .before .before .day-in .ensures) (s .pre .1 .1) (k .enter-order .ensures) (e .if1 .left) (b .store-book .ensures)
+    (k .order-call .last .1 .0) (k .order-call .last .1 .1 .0) (l .load-book .ensures) (k .before .before .before .day-in .ensures) (s .pre .1 .1) (k .order-call .ensures) (e .if1 .left) (b .store-book .ensures)
     (t .store-trades .ensures)
     (λ i. l .before .before .before .slice-known2 .given i .fits)
 
@@ -109,7 +109,7 @@ order-in-spec =
     (tie.spec
     load-book-requires
     day-in-requires
-    enter-order-requires
+    order-call-requires
     same-length
     same-length-2
     same-length-3

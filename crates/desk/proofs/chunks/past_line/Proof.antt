@@ -1,0 +1,10 @@
+-- `desk::chunks::past_line` meets its contract: the record is the definition's. Assumes nothing.
+use mathlib.Core.Path.{refl}
+use Rattle.desk.proofs.chunks.past_line.Statement.{statement}
+use Rattle.desk.proofs.chunks.past_line.Tie as tie
+
+returns : tie.Need-returns
+returns c = refl
+
+pub past-line-spec : {M : Type 1} → statement M
+past-line-spec = tie.close (tie.spec returns)
