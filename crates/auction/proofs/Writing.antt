@@ -1,8 +1,9 @@
--- The price list: the qualifying prices from the asked one on, and the loop that writes them at the front of a lent list.
-use Prim.Native.Nat.{ℕ, _+_, _-_, _≤_, _<_, min, zero-le}
+-- The price list: the qualifying prices from the asked one on are a run, as many of it as there are places for are written, and
+-- the loop that writes them at the front of a lent list.
+use Prim.Native.Nat.{ℕ, zero, suc, _+_, _-_, _≤_, _<_, min, zero-le}
 use mathlib.Core.Path.{_≡_, refl, sym, ap, _∙_}
 use mathlib.Core.Logic.{⊎-elim}
-use mathlib.Core.List.{List, [], _++_}
+use mathlib.Core.List.{List, [], _∷_, _++_}
 use native.Mathlib.Nat.{le-refl, zero-add}
 use native.Mathlib.Numerals.{add-one}
 use native.Mathlib.Decide.{decLe}
@@ -17,11 +18,11 @@ use Rattle.model.specs.Auction.{qualifying}
 use Rattle.model.specs.AuctionCalls.{due}
 use Rattle.book.specs.Writing.{fitted}
 use Rattle.auction.specs.declared.Span.{Span}
-use Rattle.auction.specs.declared.Listed.{Listed}
+use Rattle.auction.specs.declared.Run.{Run}
 use Rattle.auction.specs.Spans.{ends}
-use Rattle.auction.specs.Fitting.{listed}
+use Rattle.auction.specs.Fitting.{runWithin}
 use Rattle.auction.proofs.Runs.{run-length, run-at, keep-run}
-use Rattle.auction.proofs.Spanning.{span-cases, spanned}
+use Rattle.auction.proofs.Spanning.{Spans, span-cases, span-law, spanned}
 
 -- ---- a list at the front of another
 -- the first i of l in front of what stands after the first i of d
@@ -42,84 +43,60 @@ front-fitted l d i e = elim (decLe (length l) (length d)) [
       rw z (rw (drop-length d, drop-of-length-le d {i = length l} (omega arith)))
 ]
 
-listed-is :
-    (l d : List ℕ) (i x : ℕ)
-    → i ≡ min (length d) (length l)
-    → x ≡ getD l (length d) 0
-    → record { count = i; next = x } ≡ listed l d
-unfolding listed
-listed-is l d i x p q = λ k. record { count = p k; next = q k }
-
 -- ---- the loop
 -- i prices from the first on are written, and p is the next
-pub record Filled (first hi : ℕ) (d : List ℕ) (out : List ℕ) (i p : ℕ) : Type 0 where
-  pub room : i ≤ length d
-  pub due : i ≤ hi + 1 - first
+pub record Filled (first count : ℕ) (d : List ℕ) (out : List ℕ) (i p : ℕ) : Type 0 where
+  pub done : i ≤ count
+  pub room : count ≤ length d
   pub next : p ≡ first + i
   pub long : length out ≡ length d
-  pub same : out ≡ front (from first (hi + 1 - first)) d i
+  pub same : out ≡ front (from first count) d i
 
--- what is handed back and what the lent list has become
-abbrev pub Wrote : List ℕ → List ℕ → Listed → List ℕ → Type 0
-Wrote l d r out = (r ≡ listed l d) × (out ≡ fitted l d)
+module _ (first count : ℕ) (d : List ℕ) where
+  pub filled-start : count ≤ length d → Filled first count d d 0 first
+  filled-start h = record { done = zero-le; room = h; next = omega arith; long = refl; same = refl }
 
-module _ (first hi : ℕ) (d : List ℕ) where
-  pub filled-start : Filled first hi d d 0 first
-  filled-start = record { room = zero-le; due = zero-le; next = omega arith; long = refl; same = refl }
-
-  pub filled-next :
-      {out : List ℕ} {i p : ℕ}
-      → Filled first hi d out i p
-      → i < length d
-      → p ≤ hi
-      → Filled first hi d (set out i p) (i + 1) (p + 1)
-  filled-next {out} {i} {p} f h k =
-      let l = from first (hi + 1 - first) in
-      let n : i < hi + 1 - first = omega (arith, f .next) in
-      let v : p ≡ getD l i 0 = f .next ∙ sym (run-at first (hi + 1 - first) i 0 n) in
+  pub filled-next : {out : List ℕ} {i p : ℕ} → Filled first count d out i p → i < count → Filled first count d (set out i p) (i + 1) (p + 1)
+  filled-next {out} {i} {p} f h =
+      let l = from first count in
+      let v : p ≡ getD l i 0 = f .next ∙ sym (run-at first count i 0 h) in
       record {
-        room = omega arith;
-        due = omega arith;
+        done = omega arith;
+        room = f .room;
         next = omega (arith, f .next);
         long = length-set out i p ∙ f .long;
-        same = rw (f .same, v) (front-next l d i h (omega (arith, run-length first (hi + 1 - first))));
+        same = rw (f .same, v) (front-next l d i (omega (arith, f .room)) (omega (arith, run-length first count)));
       }
 
-  filled-ends :
-      {out : List ℕ} {i p x : ℕ}
-      → Filled first hi d out i p
-      → i ≡ min (length d) (hi + 1 - first)
-      → x ≡ getD (from first (hi + 1 - first)) (length d) 0
-      → Wrote (from first (hi + 1 - first)) d (record { count = i; next = x }) out
-  filled-ends {out} {i} {p} {x} f e v =
-      let l = from first (hi + 1 - first) in
-      let z : i ≡ min (length d) (length l) = rw (run-length first (hi + 1 - first)) e in
-      (listed-is l d i x z v, f .same ∙ front-fitted l d i z)
+  pub filled-end : {out : List ℕ} {i p : ℕ} → Filled first count d out i p → count ≤ i → out ≡ from first count ++ drop count d
+  filled-end {out} {i} {p} f h =
+      let e : i ≡ count = omega (arith, f .done) in
+      let t : take count (from first count) ≡ from first count = take-all count (from first count) (omega (arith, run-length first count)) in
+      rw (e, t) at (f .same)
 
-  -- the prices have ended: nothing is due
-  pub filled-full :
-      {out : List ℕ} {i p : ℕ}
-      → Filled first hi d out i p
-      → hi < p
-      → Wrote (from first (hi + 1 - first)) d (record { count = i; next = 0 }) out
-  filled-full {out} {i} {p} f h =
-      let n : i ≡ hi + 1 - first = omega (arith, f .next, f .due) in
-      filled-ends f (omega (arith, n, f .room))
-      (sym
-      (List·getD-eq-default (from first (hi + 1 - first)) 0 (omega (arith, run-length first (hi + 1 - first), f .room))))
+-- ---- a run within its places
+module _ (first n places : ℕ) where
+  within : {count next : ℕ} → 0 < n → count ≡ min places n → next ≡ getD (from first n) places 0 → record { first = first; count = count; next = next } ≡ runWithin places (from first n)
+  unfolding runWithin
+  within {count} {next} h p q =
+      let f : first ≡ getD (from first n) 0 0 = sym (run-at first n 0 0 h ∙ omega arith) in
+      let c : count ≡ min places (length (from first n)) = rw (run-length first n) p in
+      λ k. record { first = f k; count = c k; next = q k }
 
-  -- the lent list has ended before the prices: p is due
-  pub filled-out :
-      {out : List ℕ} {i p : ℕ}
-      → Filled first hi d out i p
-      → length d ≤ i
-      → p ≤ hi
-      → Wrote (from first (hi + 1 - first)) d (record { count = i; next = p }) out
-  filled-out {out} {i} {p} f h k =
-      let e : i ≡ length d = omega (arith, f .room) in
-      let v : p ≡ first + length d = omega (arith, f .next) in
-      filled-ends f (omega (arith, f .due))
-      (v ∙ sym (run-at first (hi + 1 - first) (length d) 0 (omega (arith, f .next))))
+  -- all of them
+  pub within-whole : 0 < n → n ≤ places → record { first = first; count = n; next = 0 } ≡ runWithin places (from first n)
+  within-whole h k = within h (omega arith) (sym (List·getD-eq-default (from first n) 0 (omega (arith, run-length first n))))
+
+  -- no more than there are places
+  pub within-front : places < n → record { first = first; count = places; next = first + places } ≡ runWithin places (from first n)
+  within-front k = within (omega arith) (omega arith) (sym (run-at first n places 0 k))
+
+pub within-none : {ps : List ℕ} (places : ℕ) → ps ≡ [] → record { first = 0; count = 0; next = 0 } ≡ runWithin places ps
+unfolding runWithin
+within-none places e = rw e (λ k. record { first = 0; count = z k; next = 0 })
+  where
+    z : 0 ≡ min places 0
+    z = omega arith
 
 -- ---- the prices from the asked one on
 no-run : (a b : ℕ) → from a 0 ≡ from b 0
@@ -177,8 +154,98 @@ module _ (os : List Order) (asked : ℕ) {s : Span} (e : s ≡ ends (qualifying 
   unfolding due
   due-from h k = let t = spanned os e h in rw (t .list) (sym (keep-from asked (s .lo) (s .hi) k (t .some)))
 
-pub wrote-as : (d : List ℕ) {l k out : List ℕ} {r : Listed} → l ≡ k → Wrote l d r out → Wrote k d r out
-wrote-as d e h = rw e at h
+  pub due-past : s .hi < asked → due asked os ≡ []
+  unfolding from
+  due-past k =
+      ⊎-elim (λ t. due-none (t .0))
+      (λ t.
+      let z : s .hi + 1 - asked ≡ 0 = omega arith in
+      sym (due-from (λ n. omega (arith, t .from-1)) (omega (arith, t .some))) ∙ ap (from asked) z)
+      (span-cases os e)
 
-pub wrote-none : {k : List ℕ} (d : List ℕ) → k ≡ [] → Wrote k d (record { count = 0; next = 0 }) d
-wrote-none d e = rw e (listed-is [] d 0 0 (omega arith) refl, front-fitted [] d 0 (omega arith))
+-- ---- they are a run
+record IsRun (ps : List ℕ) : Type 0 where
+  start : ℕ
+  size : ℕ
+  same : ps ≡ from start size
+  small : start + size ≤ 1_000_000
+
+no-prices : {ps : List ℕ} → ps ≡ [] → IsRun ps
+unfolding from
+no-prices e = record { start = 0; size = 0; same = e; small = omega arith }
+
+span-run : (os : List Order) (asked : ℕ) {s : Span} → s ≡ ends (qualifying os) → Spans os (s .lo) (s .hi) → IsRun (due asked os)
+span-run os asked {s} e t =
+    let nz : s .lo ≡ 0 → ⊥ = λ z. omega (arith, t .from-1) in
+    elim (decLe asked (s .hi)) [
+      | no k ↦ no-prices (due-past os asked e (omega arith))
+      | yes k ↦ elim (decLe (s .lo) asked) [
+        | yes l ↦
+            record {
+              start = asked;
+              size = s .hi + 1 - asked;
+              same = sym (due-from os asked e nz l);
+              small = omega (arith, t .to-999999);
+            }
+        | no l ↦
+            record {
+              start = s .lo;
+              size = s .hi + 1 - s .lo;
+              same = sym (due-all os asked e nz (omega arith));
+              small = omega (arith, t .to-999999, t .some);
+            }
+      ]
+    ]
+
+due-run : (os : List Order) (asked : ℕ) → IsRun (due asked os)
+due-run os asked = ⊎-elim (λ k. no-prices (due-none os asked refl (k .0))) (λ k. span-run os asked refl k) (span-law os)
+
+take-from : (k n a : ℕ) → take k (from a n) ≡ from a (min k n)
+unfolding from
+take-from zero n a = let z : min 0 n ≡ 0 = omega arith in rw z
+take-from (suc k) zero a = let z : min (suc k) 0 ≡ 0 = omega arith in rw z
+take-from (suc k) (suc n) a =
+    let z : min (suc k) (suc n) ≡ suc (min k n) = omega arith in
+    rw z (ap (λ (l : List ℕ). a ∷ l) (take-from k n (suc a)))
+
+-- the prices that the run names, and none of them is past the last
+record Named (ps : List ℕ) (r : Run) : Type 0 where
+  prices : from (r .first) (r .count) ≡ take (r .count) ps
+  small : r .first + r .count ≤ 1_000_000
+
+named : (places a n : ℕ) → a + n ≤ 1_000_000 → Named (from a n) (runWithin places (from a n))
+unfolding runWithin from
+named places a zero h =
+    let z : min places 0 ≡ 0 = omega arith in
+    record { prices = rw z; small = omega arith }
+named places a (suc n) h =
+    let l : length (from a (suc n)) ≡ suc n = run-length a (suc n) in
+    let c : ℕ = min places (length (from a (suc n))) in
+    let m : min c (suc n) ≡ c = omega arith in
+    record { prices = sym (take-from c (suc n) a ∙ ap (from a) m); small = omega arith }
+
+module _ (os : List Order) (asked places : ℕ) {r : Run} (e : r ≡ runWithin places (due asked os)) where
+  due-named : Named (due asked os) r
+  due-named = let d = due-run os asked in rw (e, d .same) (named places (d .start) (d .size) (d .small))
+
+  pub run-small : r .first + r .count ≤ 1_000_000
+  run-small = due-named .small
+
+  run-counts : r .count ≡ min places (length (due asked os))
+  unfolding runWithin
+  run-counts = ap (λ (x : Run). x .count) e
+
+  pub run-fits : r .count ≤ places
+  run-fits = omega (arith, run-counts)
+
+  pub run-prices : from (r .first) (r .count) ≡ take (r .count) (due asked os)
+  run-prices = due-named .prices
+
+-- at the front of a lent list
+pub run-fitted :
+    (os : List Order) (asked : ℕ) (lent : List ℕ) {r : Run}
+    → r ≡ runWithin (length lent) (due asked os)
+    → from (r .first) (r .count) ++ drop (r .count) lent ≡ fitted (due asked os) lent
+run-fitted os asked lent {r} e =
+    ap (λ (l : List ℕ). l ++ drop (r .count) lent) (run-prices os asked (length lent) e)
+    ∙ front-fitted (due asked os) lent (r .count) (run-counts os asked (length lent) e)

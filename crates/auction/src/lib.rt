@@ -35,8 +35,9 @@ pub struct Stop {
     pub sell: Head,
 }
 
-// How many prices were written, and the next one due, or 0.
-pub struct Listed {
+// Prices without a gap: the first, how many are written, and the next one due behind those, or 0.
+pub struct Run {
+    pub first: u64,
     pub count: usize,
     pub next: u64,
 }

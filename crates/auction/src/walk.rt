@@ -38,6 +38,9 @@ fn crossed_by(c: Crossed, q: u64, buy: u64, sell: u64) -> Crossed
     }
 }
 
+// Above every price.
+const ABOVE_ALL: u64 = 1_000_000;
+
 // The sells start at `middle` and end at `end`.
 pub fn walk(rows: &[[u64; 5]], middle: usize, end: usize) -> Stop
     requires { ⌜ Ranked (bookOf (now rows)) ⌝ }
@@ -50,7 +53,7 @@ pub fn walk(rows: &[[u64; 5]], middle: usize, end: usize) -> Stop
     // nothing has traded yet: these prices leave every price open
     let mut c = Crossed {
         shares: 0,
-        buy: 1_000_000,
+        buy: ABOVE_ALL,
         sell: 0,
     };
     while crossing(buy, sell) {

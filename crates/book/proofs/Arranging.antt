@@ -101,10 +101,6 @@ unfolding cleared
 cleared-frees [] = refl
 cleared-frees (o ∷ os) = ap (λ (l : List Order). free ∷ l) (cleared-frees os)
 
--- only the number of its places matters
-pub cleared-same : (book other : List Order) → length book ≡ length other → cleared book ≡ cleared other
-cleared-same book other e = cleared-frees book ∙ ap (λ (n : ℕ). replicate n free) e ∙ sym (cleared-frees other)
-
 pub cleared-ranked : (book : List Order) → length book ≤ 4_096 → Ranked (cleared book)
 cleared-ranked book few =
     record {

@@ -1,6 +1,6 @@
 // The clock: a constant table of boundary seconds, phase and two permissions, looked up by time.
 ghost use mathlib.Core.Path.{_≡_};
-ghost use Rattle.model.specs.Clock.{rowAt, phaseAt, takesOrders, takesCancels};
+ghost use Rattle.model.specs.Clock.{rowAt, phaseAt, takesCancels};
 use model::Row;
 
 const ROWS: [Row; 9] = [
@@ -80,13 +80,6 @@ pub fn phase_at(time: u64) -> u64
 {
     let r = row_at(time);
     r.phase
-}
-
-pub fn takes_orders(time: u64) -> bool
-    ensures { λ r. ⌜ r ≡ takesOrders time ⌝ }
-{
-    let r = row_at(time);
-    r.orders
 }
 
 pub fn takes_cancels(time: u64) -> bool

@@ -1,4 +1,4 @@
--- A line with a balance behind it: its words, its numbers and its length. Assumes nothing.
+-- A line with a balance after it: its words, its numbers and its length. Assumes nothing.
 use Prim.Native.Nat.{ℕ, zero, suc, _+_, _*_, _-_, _≤_}
 use mathlib.Core.Path.{_≡_, refl, sym, ap, _∙_}
 use mathlib.Core.Bool.{Bool, true, false, cond, _&&_}
@@ -11,7 +11,7 @@ use borrow.Author.Tests.{eqb-true, eqb-false, leb-true, leb-false, not-true}
 use Rattle.model.specs.Lists.{all, total}
 use Rattle.model.specs.Lines.{ontoWord, wordsOf, isDigit, valueFrom, bare, numberOf, numbersOf}
 use Rattle.model.proofs.Bools.{and-left, and-right, not-both}
-use Rattle.text.proofs.Words.{words-first, digit-from}
+use Rattle.parsing.proofs.Words.{words-first, digit-from}
 use Rattle.convert.specs.Converting.{areFive, fiveWords}
 
 -- ---- words
@@ -30,10 +30,10 @@ words-append (b ∷ t) s = rw (wordsOf, words-append t s, words-first t) (go (eq
 
 -- ---- numbers
 
--- numbers with one more behind them, if they are all numbers
-abbrev pub behind : Option (List ℕ) → ℕ → Option (List ℕ)
-behind none n = none
-behind (some ns) n = some (ns ++ (n ∷ []))
+-- numbers with one more after them, if they are all numbers
+abbrev pub withLast : Option (List ℕ) → ℕ → Option (List ℕ)
+withLast none n = none
+withLast (some ns) n = some (ns ++ (n ∷ []))
 
 -- a number in front of numbers, if they are all numbers
 abbrev onto : Option ℕ → Option (List ℕ) → Option (List ℕ)
@@ -53,16 +53,16 @@ numbers-cons w ws = go (numberOf w) (numbersOf ws)
     go (some n) none = refl
     go (some n) (some ns) = refl
 
-pub numbers-more : (ws : List (List ℕ)) (w : List ℕ) (n : ℕ) → numberOf w ≡ some n → numbersOf (ws ++ (w ∷ [])) ≡ behind (numbersOf ws) n
+pub numbers-more : (ws : List (List ℕ)) (w : List ℕ) (n : ℕ) → numberOf w ≡ some n → numbersOf (ws ++ (w ∷ [])) ≡ withLast (numbersOf ws) n
 unfolding numbersOf
 numbers-more [] w n e = rw (numbersOf, e)
 numbers-more (v ∷ ws) w n e =
     numbers-cons v (ws ++ (w ∷ []))
     ∙ ap (onto (numberOf v)) (numbers-more ws w n e)
     ∙ go (numberOf v) (numbersOf ws)
-    ∙ ap (λ (o : Option (List ℕ)). behind o n) (sym (numbers-cons v ws))
+    ∙ ap (λ (o : Option (List ℕ)). withLast o n) (sym (numbers-cons v ws))
   where
-    go : (o : Option ℕ) (os : Option (List ℕ)) → onto o (behind os n) ≡ behind (onto o os) n
+    go : (o : Option ℕ) (os : Option (List ℕ)) → onto o (withLast os n) ≡ withLast (onto o os) n
     go none os = refl
     go (some m) none = refl
     go (some m) (some ns) = refl
@@ -116,7 +116,7 @@ is-short w n e = go (bare w) (all isDigit w) (leb (valueFrom 0 w) 4_294_967_295)
     go true false z p q r e = let z : _≡_ {A = ℕ} 0 1 = cc in absurd (omega arith)
     go false y z p q r e = let z : _≡_ {A = ℕ} 0 1 = cc in absurd (omega arith)
 
--- the bytes of some words, each with one more for the space or the newline behind it
+-- the bytes of some words, each with one more for the space or the newline after it
 abbrev span : List (List ℕ) → ℕ
 span ws = total (λ w. suc (length w)) ws
 

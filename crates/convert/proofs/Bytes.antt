@@ -13,7 +13,7 @@ use Rattle.text.proofs.Chunks.{Unended, Cut, cut, uncut, cut-up, grown-first, l
 use Rattle.convert.specs.Converting.{takenAsFive, convertedLine, converted}
 use Rattle.convert.specs.Chunkwise.{added, convertedFrom, lineAfter, remembered, convertedChunks}
 
--- ---- one part behind the other
+-- ---- one part after the other
 
 pub from-append :
     (a b line : List ℕ) → convertedFrom line (a ++ b) ≡ convertedFrom line a ++ convertedFrom (lineAfter line a) b

@@ -1,5 +1,5 @@
 -- No two differing outcomes meet the promise of a chunk. Of the line that has not ended the promise says its bytes; what stands
--- behind them in the array is nobody's. Assumes nothing.
+-- after them in the array is nobody's. Assumes nothing.
 use Prim.Native.Nat.{ℕ}
 use mathlib.Core.Path.{_≡_, refl, sym, ap, _∙_}
 use mathlib.Core.Bool.{Bool, true, false}

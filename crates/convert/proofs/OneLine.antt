@@ -1,4 +1,4 @@
--- A line with balance 0 behind its five numbers asks for what it asked for without, and every other line asks for what it
+-- A line with balance 0 after its five numbers asks for what it asked for without, and every other line asks for what it
 -- asked for. Assumes nothing.
 use Prim.Native.Nat.{ℕ, _≤_, _<_}
 use mathlib.Core.Path.{_≡_, refl, sym, ap, _∙_}
@@ -11,7 +11,8 @@ use lib.ListN.{length, length-append}
 use borrow.Author.Tests.{eqb-true, le-leb}
 use Rattle.model.specs.declared.Asked.{Asked}
 use Rattle.model.specs.declared.Command.{Command}
-use Rattle.model.specs.declared.Command.the-variants.{Malformed, Opens, Moves, Enters, Cancels}
+use Rattle.model.specs.declared.Command.the-variants.{Malformed, Asks}
+use Rattle.model.specs.declared.Event.the-variants.{Open, Clock, Order, Cancel}
 use Rattle.model.specs.Lists.{all}
 use Rattle.model.specs.Lines.{
   Line,
@@ -27,12 +28,12 @@ use Rattle.model.specs.Lines.{
   lineCommand,
 }
 use Rattle.model.proofs.Bools.{and-left, and-right, not-both, not-true-false}
-use Rattle.text.specs.Words.{commandWith}
+use Rattle.parsing.specs.Words.{commandWith}
 use Rattle.convert.specs.Older.{olderOrder, olderOf, olderWords, olderCommand}
 use Rattle.convert.specs.Converting.{areFive, fiveWords, takenAsFive}
 use Rattle.convert.specs.Chunkwise.{added}
 use Rattle.convert.specs.Promises.{isOrder}
-use Rattle.convert.proofs.Balances.{words-append, behind, numbers-more, five-short}
+use Rattle.convert.proofs.Balances.{words-append, withLast, numbers-more, five-short}
 
 -- ---- a letter with its numbers
 
@@ -66,19 +67,19 @@ and-never : (t : Bool) → false ≡ (t && false)
 and-never true = refl
 and-never false = refl
 
--- a letter with numbers and a 0 behind them is an order exactly when they are an order's first five
+-- a letter with numbers and a 0 after them is an order exactly when they are an order's first five
 is-order-with : (c : ℕ) (ns : List ℕ) → isOrder (commandOf c (ns ++ (0 ∷ []))) ≡ (eqb c 79 && eqb (length ns) 5)
 unfolding commandOf isOrder
-is-order-with c [] = by-test (eqb c 84) (Moves 0) Malformed refl refl ∙ and-never (eqb c 79)
+is-order-with c [] = by-test (eqb c 84) (Asks (Clock 0)) Malformed refl refl ∙ and-never (eqb c 79)
 is-order-with c (a ∷ []) =
-    by-test (eqb c 68) (Opens a 0) (cond (eqb c 67) (Cancels a 0) Malformed) refl (by-test (eqb c 67) (Cancels a 0) Malformed refl refl)
+    by-test (eqb c 68) (Asks (Open a 0)) (cond (eqb c 67) (Asks (Cancel a 0)) Malformed) refl (by-test (eqb c 67) (Asks (Cancel a 0)) Malformed refl refl)
     ∙ and-never (eqb c 79)
 is-order-with c (a ∷ b ∷ []) = and-never (eqb c 79)
 is-order-with c (a ∷ b ∷ d ∷ []) = and-never (eqb c 79)
 is-order-with c (a ∷ b ∷ d ∷ f ∷ []) = and-never (eqb c 79)
 is-order-with c (a ∷ b ∷ d ∷ f ∷ g ∷ []) = go (eqb c 79) _
   where
-    go : (t : Bool) (x : Asked) → isOrder (cond t (Enters x) Malformed) ≡ (t && true)
+    go : (t : Bool) (x : Asked) → isOrder (cond t (Asks (Order x)) Malformed) ≡ (t && true)
     go true x = refl
     go false x = refl
 is-order-with c (a ∷ b ∷ d ∷ f ∷ g ∷ h ∷ ns) =
@@ -111,7 +112,7 @@ abbrev olderWith : ℕ → Option (List ℕ) → Command
 olderWith c none = Malformed
 olderWith c (some ns) = olderOf c ns
 
-with-five : (c : ℕ) (o : Option (List ℕ)) → (eqb c 79 && areFive o) ≡ true → commandWith c (behind o 0) ≡ olderWith c o
+with-five : (c : ℕ) (o : Option (List ℕ)) → (eqb c 79 && areFive o) ≡ true → commandWith c (withLast o 0) ≡ olderWith c o
 unfolding commandWith olderOf areFive
 with-five c none e = absurd (not-both (and-right (eqb c 79) false e) refl)
 with-five c (some ns) e =
@@ -131,7 +132,7 @@ with-other c (some ns) e = go (eqb c 79) refl e
     go true p f = rw (eqb-true c 79 p) (order-other ns f)
     go false p f = refl
 
-with-order : (c : ℕ) (o : Option (List ℕ)) → isOrder (commandWith c (behind o 0)) ≡ (eqb c 79 && areFive o)
+with-order : (c : ℕ) (o : Option (List ℕ)) → isOrder (commandWith c (withLast o 0)) ≡ (eqb c 79 && areFive o)
 unfolding commandWith areFive isOrder
 with-order c none = and-never (eqb c 79)
 with-order c (some ns) = is-order-with c ns
@@ -172,7 +173,7 @@ older-is c ws = go (numbersOf ws)
     go none = refl
     go (some ns) = refl
 
--- words with a 0 behind them
+-- words with a 0 after them
 abbrev balanced : List (List ℕ) → List (List ℕ)
 balanced ws = ws ++ ((48 ∷ []) ∷ [])
 
@@ -180,7 +181,7 @@ zero-is : numberOf (48 ∷ []) ≡ some 0
 unfolding numberOf bare all isDigit valueFrom
 zero-is = refl
 
-balanced-is : (c : ℕ) (ws : List (List ℕ)) → wordsCommand ((c ∷ []) ∷ balanced ws) ≡ commandWith c (behind (numbersOf ws) 0)
+balanced-is : (c : ℕ) (ws : List (List ℕ)) → wordsCommand ((c ∷ []) ∷ balanced ws) ≡ commandWith c (withLast (numbersOf ws) 0)
 balanced-is c ws = command-is c (balanced ws) ∙ ap (commandWith c) (numbers-more ws (48 ∷ []) 0 zero-is)
 
 words-five : (ws : List (List ℕ)) → fiveWords ws ≡ true → wordsCommand (balanced ws) ≡ olderWords ws
@@ -246,7 +247,7 @@ module _ (t : List ℕ) where
   pub long-none : 56 < length t → takenAsFive (ended t) ≡ false
   long-none h = not-true-false (λ e. let k = taken-short e in omega arith)
 
-  -- with balance 0 behind it, it is an order
+  -- with balance 0 after it, it is an order
   pub is-five : length t ≤ 77 → isOrder (lineCommand (ended with-balance)) ≡ takenAsFive (ended t)
   unfolding lineCommand takenAsFive
   is-five h =

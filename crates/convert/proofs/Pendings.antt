@@ -1,4 +1,4 @@
--- The line that has not ended, in its array of 80 bytes: a byte more, or a balance, behind it. Assumes nothing.
+-- The line that has not ended, in its array of 80 bytes: a byte more, or a balance, after it. Assumes nothing.
 use Prim.Native.Nat.{ℕ, suc, _+_, _≤_, _<_}
 use mathlib.Core.Path.{_≡_, sym, ap, _∙_}
 use mathlib.Core.Bool.{Bool, true, false}
@@ -30,9 +30,9 @@ module _ (bytes : List ℕ) (n : ℕ) (long : length bytes ≡ 80) where
       let l : length (take n bytes) ≡ n = length-take-le n bytes (omega arith) in
       e ∙ sym (take-all 80 (take n bytes ++ (b ∷ [])) (rw length-append (omega arith)))
 
-  -- balance 0 put behind the line
-  pub balance-behind : n ≤ 77 → take (n + 2) (set (set bytes n 32) (n + 1) 48) ≡ take n bytes ++ 32 ∷ 48 ∷ []
-  balance-behind h =
+  -- balance 0 put after the line
+  pub balance-after : n ≤ 77 → take (n + 2) (set (set bytes n 32) (n + 1) 48) ≡ take n bytes ++ 32 ∷ 48 ∷ []
+  balance-after h =
       let l : length (set bytes n 32) ≡ 80 = length-set bytes n 32 ∙ long in
       let m : n + 2 ≡ suc (n + 1) = omega arith in
       let e : take (n + 1) (set bytes n 32) ≡ take n bytes ++ (32 ∷ []) = rw add-one (take-suc-set bytes n 32 (omega arith)) in
@@ -41,7 +41,7 @@ module _ (bytes : List ℕ) (n : ℕ) (long : length bytes ≡ 80) where
       ∙ ap (λ (t : List ℕ). t ++ (48 ∷ [])) e
       ∙ append-snoc (take n bytes) 32 (48 ∷ [])
 
-  -- two bytes behind the line, whatever they are
+  -- two bytes after the line, whatever they are
   module _ (x y : ℕ) where
     abbrev two-more : List ℕ
     two-more = set (set bytes n x) (n + 1) y
@@ -66,5 +66,5 @@ module _ (bytes : List ℕ) (n : ℕ) (long : length bytes ≡ 80) where
   balance-tells h r command e f =
       e
       ∙ ap isOrder f
-      ∙ ap (λ (t : List ℕ). isOrder (lineCommand (record { text = t; ended = true }))) (balance-behind h)
+      ∙ ap (λ (t : List ℕ). isOrder (lineCommand (record { text = t; ended = true }))) (balance-after h)
       ∙ is-five (take n bytes) (omega (arith, length-take n bytes))

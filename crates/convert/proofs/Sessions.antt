@@ -82,7 +82,7 @@ same-session input =
     ∙ ap (λ (cs : List Command). repliesTo cs none) (lines-same input (cut-up input))
     ∙ sym (older-are (linesOf input) none)
 
--- and for every line of it, on any desk: the same reply, and the same desk behind it
+-- and for every line of it, on any desk: the same reply, and the same desk after it
 pub same-answer :
     (t : List ℕ) (desk : Option Desk)
     → answer (lineCommand (record { text = t ++ added t; ended = true })) desk

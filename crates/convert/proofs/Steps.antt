@@ -10,8 +10,8 @@ use lib.ListN.{length, take, getD, set, length-append}
 use lib.Seq.{take-suc, take-length, length-take-le}
 use borrow.Author.Tests.{eq-eqb, ne-eqb, le-leb, lt-leb}
 use Rattle.model.proofs.Bools.{not-both}
-use Rattle.text.specs.Printing.{Wrote}
-use Rattle.text.proofs.Printed.{nothing-put, and-then, put-as, put-long, put-shown}
+use Rattle.printing.specs.Printing.{Wrote}
+use Rattle.printing.proofs.Printed.{nothing-put, and-then, put-as, put-long, put-shown}
 use Rattle.convert.specs.declared.Pending.{Pending}
 use Rattle.convert.specs.declared.Converted.{Converted}
 use Rattle.convert.specs.Converting.{takenAsFive}
@@ -72,7 +72,7 @@ module _ (line out : List ℕ) (at : ℕ) where
     rest = rw (lineAfter, ne-eqb b 10 e, t);
   }
 
--- ---- byte behind byte
+-- ---- byte after byte
 
 pub from-few : (line bs : List ℕ) → length (convertedFrom line bs) ≤ 3 * length bs
 unfolding convertedFrom

@@ -12,7 +12,7 @@ use Rattle.convert.specs.Converting.{takenAsFive}
 unfoldable pub added : List ℕ → List ℕ
 added line = if takenAsFive (record { text = line; ended = true }) then code " " ∷ code "0" ∷ [] else []
 
--- the bytes that are written for some bytes of the input, behind those of a line that has not ended
+-- the bytes that are written for some bytes of the input, after those of a line that has not ended
 unfoldable pub convertedFrom : List ℕ → List ℕ → List ℕ
 convertedFrom line [] = []
 convertedFrom line (b ∷ bs) =
@@ -29,7 +29,7 @@ lineAfter line (b ∷ bs) = if eqb b (code "\n") then lineAfter [] bs else lineA
 abbrev pub remembered : List ℕ → List ℕ
 remembered line = take 80 line
 
--- each chunk behind what is remembered of the line that the chunks before it left
+-- each chunk after what is remembered of the line that the chunks before it left
 unfoldable pub convertedChunks : List ℕ → List (List ℕ) → List ℕ
 convertedChunks line [] = []
 convertedChunks line (b ∷ bs) = convertedFrom line b ++ convertedChunks (remembered (lineAfter line b)) bs

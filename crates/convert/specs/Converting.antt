@@ -25,7 +25,7 @@ fiveWords ((c ∷ d ∷ w) ∷ ws) = false
 unfoldable pub takenAsFive : Line → Bool
 takenAsFive l = l .ended && leb (length (l .text)) 79 && fiveWords (wordsOf (l .text))
 
--- a line's bytes, ` 0` behind an order of five numbers, and its newline where it had one
+-- a line's bytes, ` 0` after an order of five numbers, and its newline where it had one
 unfoldable pub convertedLine : Line → List ℕ
 convertedLine l =
     l .text

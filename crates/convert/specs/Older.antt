@@ -9,7 +9,8 @@ use lib.ListN.{length}
 use lib.Dec.{leb, eqb}
 use Rattle.model.specs.Choice.{if_then_else_}
 use Rattle.model.specs.declared.Command.{Command}
-use Rattle.model.specs.declared.Command.the-variants.{Malformed, Enters}
+use Rattle.model.specs.declared.Command.the-variants.{Malformed, Asks}
+use Rattle.model.specs.declared.Event.the-variants.{Order}
 use Rattle.model.specs.Lines.{Line, linesOf, wordsOf, numbersOf, commandOf}
 use Rattle.model.specs.Session.{Desk, answer}
 
@@ -21,11 +22,13 @@ olderOrder (x ∷ y ∷ []) = Malformed
 olderOrder (x ∷ y ∷ z ∷ []) = Malformed
 olderOrder (x ∷ y ∷ z ∷ u ∷ []) = Malformed
 olderOrder (side ∷ kind ∷ account ∷ quantity ∷ price ∷ []) =
-    Enters
-    (record { side = side; kind = kind; account = account; quantity = quantity; price = price; balance = 0 })
+    Asks
+    (Order
+    (record { side = side; kind = kind; account = account; quantity = quantity; price = price; balance = 0 }))
 olderOrder (side ∷ kind ∷ account ∷ quantity ∷ price ∷ balance ∷ []) =
-    Enters
-    (record { side = side; kind = kind; account = account; quantity = quantity; price = price; balance = balance })
+    Asks
+    (Order
+    (record { side = side; kind = kind; account = account; quantity = quantity; price = price; balance = balance }))
 olderOrder (x ∷ y ∷ z ∷ u ∷ v ∷ w ∷ t ∷ ns) = Malformed
 
 -- every other letter wants what it wants now

@@ -6,18 +6,19 @@ use mathlib.Core.List.{List}
 use lib.Dec.{leb}
 use lib.ListN.{length, take}
 use Rattle.model.specs.declared.Command.{Command}
-use Rattle.model.specs.declared.Command.the-variants.{Malformed, Opens, Moves, Enters, Cancels}
-use Rattle.text.specs.Printing.{Wrote}
+use Rattle.model.specs.declared.Command.the-variants.{Malformed, Asks}
+use Rattle.model.specs.declared.Event.the-variants.{Open, Clock, Order, Cancel}
+use Rattle.printing.specs.Printing.{Wrote}
 use Rattle.convert.specs.declared.Pending.{Pending}
 use Rattle.convert.specs.declared.Converted.{Converted}
 use Rattle.convert.specs.Chunkwise.{convertedFrom, lineAfter, remembered}
 
 unfoldable pub isOrder : Command → Bool
 isOrder Malformed = false
-isOrder (Opens close mark) = false
-isOrder (Moves t) = false
-isOrder (Enters a) = true
-isOrder (Cancels account number) = false
+isOrder (Asks (Open close mark)) = false
+isOrder (Asks (Clock t)) = false
+isOrder (Asks (Order a)) = true
+isOrder (Asks (Cancel account number)) = false
 
 -- the bytes of the line that has not ended
 abbrev pub textOf : Pending → List ℕ

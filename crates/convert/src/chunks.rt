@@ -2,7 +2,7 @@
 ghost use mathlib.Core.List.{[], _∷_};
 ghost use Prim.Native.Nat.{_+_, _≤_};
 ghost use lib.ListN.{length};
-ghost use Rattle.text.specs.Printing.{Wrote};
+ghost use Rattle.printing.specs.Printing.{Wrote};
 ghost use Rattle.convert.specs.Chunkwise.{added};
 ghost use Rattle.convert.specs.Promises.{textOf, Converts, Answers};
 use crate::Converted;
@@ -11,7 +11,7 @@ use crate::lines::is_five;
 use crate::lines::start;
 use crate::lines::with_byte;
 
-// Balance 0 behind an order of five numbers.
+// Balance 0 after an order of five numbers.
 fn put_added(line: Pending, out: &mut [u8], at: usize) -> usize
     requires { ⌜ at + 2 ≤ length (now out) ⌝ }
     ensures { λ r. ⌜ Wrote (now (out .entry)) at (added (textOf line)) (now (out .exit)) r ⌝ }
@@ -45,7 +45,7 @@ fn convert_byte(line: Pending, b: u8, out: &mut [u8], at: usize) -> Converted
     }
 }
 
-// Converts a chunk behind the line that has not ended. The output takes up to three bytes for each byte of the chunk; a
+// Converts a chunk after the line that has not ended. The output takes up to three bytes for each byte of the chunk; a
 // shorter one is refused, and stays.
 pub fn convert_chunk(line: Pending, chunk: &[u8], out: &mut [u8]) -> Converted
     ensures { λ r. ⌜ Answers line (now (chunk .entry)) (now (out .entry)) (now (out .exit)) r ⌝ }
@@ -61,9 +61,9 @@ pub fn convert_chunk(line: Pending, chunk: &[u8], out: &mut [u8]) -> Converted
     }
     let mut i: usize = 0;
     while i < chunk.len() {
-        let held = done.line;
+        let pending = done.line;
         let b = chunk[i];
-        done = convert_byte(held, b, &mut *out, done.next);
+        done = convert_byte(pending, b, &mut *out, done.next);
         i = i + 1;
     }
     done

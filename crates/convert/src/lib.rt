@@ -8,7 +8,7 @@ pub struct Pending {
     pub kept: usize,
 }
 
-// What a chunk became: whether the lent output is long enough for it, the place behind what was put there, and the line that
+// What a chunk became: whether the lent output is long enough for it, the place after what was put there, and the line that
 // has not ended.
 pub struct Converted {
     pub fits: bool,

@@ -7,7 +7,12 @@ ghost use Rattle.convert.specs.Chunkwise.{remembered};
 ghost use Rattle.convert.specs.Promises.{textOf, isOrder};
 use crate::Pending;
 use model::Command;
-use text::parsing::command_of;
+use model::Event;
+use parsing::LONGEST_LINE;
+use parsing::command_of;
+
+// The longest line that is still read with a balance of 0 after it.
+const LONGEST_OLD: usize = LONGEST_LINE - 2;
 
 pub fn start() -> Pending
     ensures { λ r. ⌜ textOf r ≡ [] ⌝ }
@@ -22,7 +27,7 @@ pub fn with_byte(line: Pending, b: u8) -> Pending
     ensures { λ r. ⌜ textOf r ≡ remembered (textOf line ++ (b ∷ [])) ⌝ }
 {
     let n = line.kept;
-    if 79 < n {
+    if LONGEST_LINE < n {
         return line;
     }
     let mut next = line;
@@ -36,22 +41,24 @@ fn is_order(c: Command) -> bool
 {
     match c {
         Command::Malformed => false,
-        Command::Opens { close: _, mark: _ } => false,
-        Command::Moves(_) => false,
-        Command::Enters(_) => true,
-        Command::Cancels {
-            account: _,
-            number: _,
-        } => false,
+        Command::Asks(event) => match event {
+            Event::Open { close: _, mark: _ } => false,
+            Event::Clock(_) => false,
+            Event::Order(_) => true,
+            Event::Cancel {
+                account: _,
+                number: _,
+            } => false,
+        },
     }
 }
 
-// Whether the line, at its newline, is an order of five numbers: with balance 0 behind them it is an order.
+// Whether the line, at its newline, is an order of five numbers: with balance 0 after them it is an order.
 pub fn is_five(line: Pending) -> bool
     ensures { λ r. ⌜ r ≡ takenAsFive (record { text = textOf line; ended = true }) ⌝ }
 {
     let n = line.kept;
-    if 77 < n {
+    if LONGEST_OLD < n {
         return false;
     }
     let mut bytes = line.bytes;

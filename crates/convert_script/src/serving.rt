@@ -13,10 +13,12 @@ ghost use Rattle.convert.specs.Chunkwise.{lineAfter, remembered};
 ghost use Rattle.convert.specs.Promises.{textOf};
 
 // Three bytes for each byte of a chunk.
-fn output() -> [u8; 196608]
+const OUTPUT: usize = 196_608;
+
+fn output() -> [u8; OUTPUT]
     ensures { λ r. ⌜ 196608 ≡ length r ⌝ }
 {
-    [0; 196608]
+    [0; OUTPUT]
 }
 
 fn stopped(line: Pending) -> AfterChunk
@@ -38,7 +40,7 @@ fn write_out(text: &[u8]) -> bool {
 }
 
 // Converts the first n bytes of the buffer and writes them out.
-fn serve(line: Pending, n: usize, buf: &[u8], out: &mut [u8]) -> AfterChunk
+fn serve(line: Pending, buf: &[u8], n: usize, out: &mut [u8]) -> AfterChunk
     requires { ⌜ (n ≤ length (now buf)) × (3 * length (now buf) ≤ length (now out)) ⌝ }
     ensures { λ r. ⌜ (r .stops ≡ false → textOf (r .line) ≡ remembered (lineAfter (textOf line) (take n (now (buf .entry))))) ⌝ }
 {
@@ -86,7 +88,7 @@ fn turn(line: Pending, buf: &mut [u8], out: &mut [u8]) -> AfterChunk
     if n == 0 {
         return stopped(line);
     }
-    serve(line, n, buf, out)
+    serve(line, buf, n, out)
 }
 
 // A proved loop has to end, and nothing says that the input does: the turns are counted down from a number that no run uses
@@ -98,10 +100,10 @@ pub fn run() {
     let mut turns = u64::MAX;
     while 0 < turns {
         turns = turns - 1;
-        let held = turn(line, &mut buf, &mut out);
-        if held.stops {
+        let after = turn(line, &mut buf, &mut out);
+        if after.stops {
             return;
         }
-        line = held.line;
+        line = after.line;
     }
 }

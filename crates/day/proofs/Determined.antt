@@ -19,7 +19,7 @@ use Rattle.model.specs.ClockCall.{clockCall}
 use Rattle.model.specs.AuctionCalls.{ListOutcome, reportCall, listCall}
 use Rattle.book.specs.Rows.{orderOf, rowOf, bookOf, rowsOf, tradeOf, tradeRow, tradesOf, tradeRows}
 use Rattle.book.specs.Standing.{Each}
-use Rattle.day.specs.Promises.{openLeft, callLeft, cancelLeft, listLeft}
+use Rattle.book.specs.Promises.{openLeft, callLeft, cancelLeft, listLeft}
 
 -- ---- rows are determined by what they say
 

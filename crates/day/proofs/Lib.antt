@@ -1,13 +1,3 @@
-pub mod AskedRules
-pub mod AuctionHeld
 pub mod AuctionLaws
-pub mod BookRules
-pub mod Boundaries
-pub mod Cancels
-pub mod ClockLaws
 pub mod Determined
 pub mod Openings
-pub mod OrderLaws
-pub mod Entered
-pub mod Readiness
-pub mod Tallies

@@ -11,7 +11,7 @@ use Rattle.model.specs.Sound.{isMark, hasPlaces}
 use Rattle.model.specs.Refusals.{_when_, firstOf}
 use Rattle.model.specs.Calls.{openRules, cleared, openCall}
 use Rattle.book.specs.Rows.{bookOf, rowsOf}
-use Rattle.day.specs.Promises.{openLeft}
+use Rattle.book.specs.Promises.{openLeft}
 use Rattle.book.proofs.Memory.{book-rows}
 
 module _ (close mark : ℕ) (rows : List (List ℕ)) where

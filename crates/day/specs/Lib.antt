@@ -1,5 +1,1 @@
-pub mod Checks
-pub mod Figures
-pub mod Moving
-pub mod Promises
-pub mod Ready
+pub mod Listings

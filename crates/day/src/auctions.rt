@@ -1,8 +1,10 @@
 // What an auction held now would do: the report, and the price list. Neither changes day or book.
-use crate::figures::reference_of;
-use auction::listing::list_prices;
+use auction::Run;
+use auction::listing::run_of;
+use auction::listing::write_run;
 use auction::price::auction_price;
 use auction::report::report_at;
+use figures::reference_of;
 use model::Day;
 use model::ListReply;
 use model::ReportReply;
@@ -10,7 +12,14 @@ use soundness::is_sound;
 ghost use mathlib.Core.Path.{_≡_};
 ghost use Rattle.model.specs.AuctionCalls.{reportCall, listCall};
 ghost use Rattle.book.specs.Rows.{bookOf};
-ghost use Rattle.day.specs.Promises.{listLeft};
+ghost use Rattle.day.specs.Listings.{listRun, listReply};
+ghost use Rattle.book.specs.Promises.{listLeft};
+
+// The price list before it is written anywhere: refused, or the prices as a run.
+pub enum Listing {
+    Refused(u64),
+    Prices(Run),
+}
 
 pub fn report_call(d: Day, rows: &[[u64; 5]]) -> ReportReply
     ensures { λ r. ⌜ r ≡ reportCall d (bookOf (now (rows .entry))) ⌝ }
@@ -22,15 +31,39 @@ pub fn report_call(d: Day, rows: &[[u64; 5]]) -> ReportReply
     report_at(rows, price)
 }
 
+// For a list of so many places, be it of numbers or of bytes.
+pub fn list_run(d: Day, rows: &[[u64; 5]], places: usize, asked: u64) -> Listing
+    ensures { λ r. ⌜ r ≡ listRun d (bookOf (now (rows .entry))) places asked ⌝ }
+{
+    if !is_sound(d, rows) {
+        return Listing::Refused(15);
+    }
+    Listing::Prices(run_of(rows, places, asked))
+}
+
+pub fn list_reply(told: Listing) -> ListReply
+    ensures { λ r. ⌜ r ≡ listReply told ⌝ }
+{
+    match told {
+        Listing::Refused(n) => ListReply::Refused(n),
+        Listing::Prices(run) => ListReply::Listed {
+            count: run.count,
+            next: run.next,
+        },
+    }
+}
+
 pub fn list_call(d: Day, rows: &[[u64; 5]], prices: &mut [u64], asked: u64) -> ListReply
     ensures { λ r. ⌜ listLeft r (now (prices .exit)) ≡ listCall d asked (bookOf (now (rows .entry))) (now (prices .entry)) ⌝ }
 {
-    if !is_sound(d, rows) {
-        return ListReply::Refused(15);
-    }
-    let listed = list_prices(rows, asked, &mut *prices);
-    ListReply::Listed {
-        count: listed.count,
-        next: listed.next,
+    let told = list_run(d, rows, prices.len(), asked);
+    match told {
+        Listing::Refused(_) => {
+            return list_reply(told);
+        }
+        Listing::Prices(run) => {
+            write_run(prices, run);
+            return list_reply(told);
+        }
     }
 }

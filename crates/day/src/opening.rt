@@ -1,6 +1,6 @@
 // The opening of a day.
-use crate::figures::fresh_day;
 use book::settling::clear_rows;
+use figures::fresh_day;
 use limits::is_price;
 use model::OpenReply;
 use soundness::places::has_places;
@@ -10,26 +10,20 @@ ghost use Rattle.model.specs.Limits.{isPrice};
 ghost use Rattle.model.specs.Sound.{isMark, hasPlaces};
 ghost use Rattle.model.specs.Calls.{openCall};
 ghost use Rattle.book.specs.Rows.{bookOf};
-ghost use Rattle.day.specs.Promises.{openLeft};
+ghost use Rattle.book.specs.Promises.{openLeft};
 
 // Previous close, mark and places are what a day can have.
-fn may_open(close: u64, mark: u64, rows: &[[u64; 5]]) -> bool
+fn may_open(rows: &[[u64; 5]], close: u64, mark: u64) -> bool
     ensures { λ r. ⌜ r ≡ (isPrice close && isMark mark && hasPlaces (bookOf (now (rows .entry)))) ⌝ }
 {
-    if !is_price(close) {
-        return false;
-    }
-    if 1 < mark {
-        return false;
-    }
-    has_places(rows)
+    is_price(close) && mark <= 1 && has_places(rows)
 }
 
 // Every place is made free. An opening reads nothing of the old day.
 pub fn open_call(rows: &mut [[u64; 5]], close: u64, mark: u64) -> OpenReply
     ensures { λ r. ⌜ openLeft r (now (rows .exit)) ≡ openCall close mark (bookOf (now (rows .entry))) ⌝ }
 {
-    if !may_open(close, mark, rows) {
+    if !may_open(rows, close, mark) {
         return OpenReply::Refused(14);
     }
     clear_rows(&mut *rows);

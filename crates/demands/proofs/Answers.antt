@@ -6,6 +6,8 @@ use mathlib.Core.List.{List, _∷_}
 use lib.ListN.{length, getD}
 use lib.Dec.{eqb}
 use borrow.Author.Tests.{eqb-false}
+use Rattle.model.specs.declared.Trade.{Trade}
+use Rattle.model.specs.declared.Event as Event
 use Rattle.model.specs.declared.Order.{Order}
 use Rattle.model.specs.declared.Asked.{Asked}
 use Rattle.model.specs.declared.Day.{Day}
@@ -16,8 +18,9 @@ use Rattle.model.specs.Replies.{orderNumbers, cancelNumbers, clockNumbers}
 use Rattle.model.specs.Session.{Desk}
 use Rattle.model.proofs.Rules.{skip}
 use Rattle.book.specs.Standing.{Each}
+use Rattle.model.proofs.Bools.{not-both}
 use Rattle.demands.specs.Pricing.{Sound}
-use Rattle.demands.specs.Running.{Event, Moves, Enters, Cancels, answered, stepped}
+use Rattle.demands.specs.Running.{isOpening, answeredBy, steppedBy}
 use Rattle.demands.proofs.FirstRules.{not-given}
 use Rattle.demands.proofs.Cases.{order-cases, cancel-cases, clock-cases}
 use Rattle.demands.proofs.Pricings.{not-unsound}
@@ -25,11 +28,15 @@ use Rattle.demands.proofs.Cancelled.{cancel-kept}
 use Rattle.demands.proofs.Entered.{order-kept}
 use Rattle.demands.proofs.Moved.{clock-kept}
 
-pub event-sound : (e : Event) (s : Desk) → Sound (s .day) (s .book) → Sound (stepped e s .day) (stepped e s .book)
-unfolding stepped
-event-sound (Moves t lent) s k = clock-kept (s .day) (s .book) k t lent
-event-sound (Enters a lent) s k = order-kept (s .day) a (s .book) lent k
-event-sound (Cancels account number) s k = cancel-kept (s .day) account number (s .book) k
+pub event-sound :
+    (e : Event.Event) → isOpening e ≡ false → (lent : List Trade) (s : Desk)
+    → Sound (s .day) (s .book)
+    → Sound (steppedBy e lent s .day) (steppedBy e lent s .book)
+unfolding isOpening steppedBy
+event-sound (Event.the-variants.Open close mark) o lent s k = absurd (not-both refl o)
+event-sound (Event.the-variants.Clock t) o lent s k = clock-kept (s .day) (s .book) k t lent
+event-sound (Event.the-variants.Order a) o lent s k = order-kept (s .day) a (s .book) lent k
+event-sound (Event.the-variants.Cancel account number) o lent s k = cancel-kept (s .day) account number (s .book) k
 
 -- ---- 15 is the first rule of each, and no other has its number
 
@@ -54,17 +61,22 @@ module _ (d : Day) (book : List Order) (k : Sound d book) where
   unfolding clockRules _when_
   clock-not-15 t room = behind _ (other 1 refl, (other 13 refl, tt))
 
-pub event-not-15 : (e : Event) (s : Desk) → Sound (s .day) (s .book) → getD (answered e s) 0 0 ≡ 15 → ⊥
-unfolding answered orderNumbers cancelNumbers clockNumbers entered
-event-not-15 (Moves t lent) s k =
+pub event-not-15 :
+    (e : Event.Event) → isOpening e ≡ false → (lent : List Trade) (s : Desk)
+    → Sound (s .day) (s .book)
+    → getD (answeredBy e lent s) 0 0 ≡ 15
+    → ⊥
+unfolding isOpening answeredBy orderNumbers cancelNumbers clockNumbers entered
+event-not-15 (Event.the-variants.Open close mark) o lent s k = absurd (not-both refl o)
+event-not-15 (Event.the-variants.Clock t) o lent s k =
     clock-cases (s .day) t (s .book) lent (λ o. getD (clockNumbers (o .answer .reply)) 0 0 ≡ 15 → ⊥)
     (λ _. eqb-false 0 15 refl)
     (λ _. clock-not-15 (s .day) (s .book) k t (length lent))
-event-not-15 (Enters a lent) s k =
+event-not-15 (Event.the-variants.Order a) o lent s k =
     order-cases (s .day) a (s .book) lent (λ o. getD (orderNumbers (o .answer .reply)) 0 0 ≡ 15 → ⊥)
     (λ _. eqb-false 0 15 refl)
     (λ _. order-not-15 (s .day) (s .book) k a (length lent))
-event-not-15 (Cancels account number) s k =
+event-not-15 (Event.the-variants.Cancel account number) o lent s k =
     cancel-cases (s .day) account number (s .book) (λ o. getD (cancelNumbers (o .reply)) 0 0 ≡ 15 → ⊥)
     (λ _. eqb-false 0 15 refl)
     (λ _. cancel-not-15 (s .day) (s .book) k account number)

@@ -6,6 +6,8 @@ use mathlib.Core.Bool.{Bool, true, false, cond}
 use mathlib.Core.List.{List, [], _∷_, _++_, map}
 use native.Mathlib.Omega.{arith}
 use lib.ListN.{length, length-append}
+use Rattle.model.specs.declared.Trade.{Trade}
+use Rattle.model.specs.declared.Event as Event
 use Rattle.model.specs.declared.Boundary.{Boundary}
 use Rattle.model.specs.Lists.{from}
 use Rattle.model.specs.Clock.{passes, boundaries}
@@ -13,7 +15,19 @@ use Rattle.model.specs.Figures.{at, nextNumber, issue, tally}
 use Rattle.model.specs.Calls.{entered}
 use Rattle.model.specs.ClockCall.{Held, hold, pass, through, start, moved}
 use Rattle.model.specs.Session.{Desk}
-use Rattle.demands.specs.Running.{Event, Moves, Enters, Cancels, Owner, ownersBy, accepted, stepped, after, acceptedIn}
+use Rattle.model.proofs.Bools.{not-both}
+use Rattle.demands.specs.Running.{
+  isOpening,
+  Call,
+  Owner,
+  ownersBy,
+  acceptedBy,
+  accepted,
+  steppedBy,
+  stepped,
+  after,
+  acceptedIn,
+}
 use Rattle.demands.proofs.Cases.{order-cases, clock-cases}
 
 abbrev pub numbers : List Owner → List ℕ
@@ -45,17 +59,20 @@ none n m e = record { order = refl; count = omega arith }
 
 -- ---- an event
 
-event-counts : (e : Event) (s : Desk) → Counts (s .day .issued) (stepped e s .day .issued) (accepted e s)
-unfolding stepped accepted ownersBy entered from tally issue nextNumber at moved start
-event-counts (Moves t lent) s =
+event-counts :
+    (e : Event.Event) → isOpening e ≡ false → (lent : List Trade) (s : Desk)
+    → Counts (s .day .issued) (steppedBy e lent s .day .issued) (acceptedBy e lent s)
+unfolding isOpening steppedBy acceptedBy ownersBy entered from tally issue nextNumber at moved start
+event-counts (Event.the-variants.Open close mark) o lent s = absurd (not-both refl o)
+event-counts (Event.the-variants.Clock t) o lent s =
     clock-cases (s .day) t (s .book) lent (λ o. Counts (s .day .issued) (o .answer .day .issued) [])
     (λ _. none (s .day .issued) (moved (s .day) t (s .book) .day .issued) (through-issued (s .day .time) t boundaries (start (s .day) (s .book))))
     (λ _. none (s .day .issued) (s .day .issued) refl)
-event-counts (Enters a lent) s =
+event-counts (Event.the-variants.Order a) o lent s =
     order-cases (s .day) a (s .book) lent (λ o. Counts (s .day .issued) (o .answer .day .issued) (ownersBy a (o .answer .reply)))
     (λ _. record { order = refl; count = omega arith })
     (λ _. none (s .day .issued) (s .day .issued) refl)
-event-counts (Cancels account number) s = none (s .day .issued) (s .day .issued) refl
+event-counts (Event.the-variants.Cancel account number) o lent s = none (s .day .issued) (s .day .issued) refl
 
 -- ---- a run
 
@@ -72,11 +89,11 @@ join n m (w ∷ ws) vs e c f =
     let t : numbers ws ≡ from (suc (suc n)) (length ws) = cc in
     rw (h, join (suc n) m ws vs t (omega arith) f)
 
-pub run-counts : (es : List Event) (s : Desk) → Counts (s .day .issued) (after es s .day .issued) (acceptedIn es s)
+pub run-counts : (es : List Call) (s : Desk) → Counts (s .day .issued) (after es s .day .issued) (acceptedIn es s)
 unfolding after acceptedIn
 run-counts [] s = none (s .day .issued) (s .day .issued) refl
 run-counts (e ∷ es) s =
-    let c = event-counts e s in
+    let c = event-counts (e .event) (e .within) (e .lent) s in
     let r = run-counts es (stepped e s) in
     record {
       order =

@@ -6,6 +6,7 @@ use mathlib.Core.Bool.{Bool, true, false, cond, not, _||_}
 use mathlib.Core.List.{List, [], _∷_, _++_, append-assoc}
 use lib.ListN.{length}
 use lib.Dec.{ltb, eqb}
+use Rattle.model.specs.declared.Event as Event
 use Rattle.model.specs.declared.Order.{Order}
 use Rattle.model.specs.declared.Asked.{Asked}
 use Rattle.model.specs.declared.Trade.{Trade}
@@ -24,7 +25,20 @@ use Rattle.book.specs.Standing.{Each}
 use Rattle.book.proofs.Lists.{each, every, each-keep}
 use Rattle.book.proofs.Kept.{free-number}
 use Rattle.matching.proofs.Trades.{Some}
-use Rattle.demands.specs.Running.{Event, Moves, Enters, Cancels, Owner, Is, ownersBy, accepted, stepped, after, acceptedIn}
+use Rattle.model.proofs.Bools.{not-both}
+use Rattle.demands.specs.Running.{
+  isOpening,
+  Call,
+  Owner,
+  Is,
+  ownersBy,
+  acceptedBy,
+  accepted,
+  steppedBy,
+  stepped,
+  after,
+  acceptedIn,
+}
 use Rattle.demands.proofs.Cases.{order-cases, cancel-cases, clock-cases}
 use Rattle.demands.proofs.Elements.{each-map, some-map, some-left, some-right}
 use Rattle.book.proofs.Arranging.{each-arranged}
@@ -130,24 +144,28 @@ module _ (ws : List Owner) (d : Day) (a : Asked) (book : List Order) (w : Owned 
 
 -- ---- events and runs
 
-event-owned : (ws : List Owner) (e : Event) (s : Desk) → Owned ws (s .book) → Owned (ws ++ accepted e s) (stepped e s .book)
-unfolding stepped accepted ownersBy entered moved start
-event-owned ws (Moves t lent) s w =
+event-owned :
+    (ws : List Owner) (e : Event.Event) → isOpening e ≡ false → (lent : List Trade) (s : Desk)
+    → Owned ws (s .book)
+    → Owned (ws ++ acceptedBy e lent s) (steppedBy e lent s .book)
+unfolding isOpening steppedBy acceptedBy ownersBy entered moved start
+event-owned ws (Event.the-variants.Open close mark) o lent s w = absurd (not-both refl o)
+event-owned ws (Event.the-variants.Clock t) o lent s w =
     clock-cases (s .day) t (s .book) lent (λ o. Owned (ws ++ []) (o .book))
     (λ _. more ws [] (moved (s .day) t (s .book) .book) (through-owned ws (s .day .time) t boundaries (start (s .day) (s .book)) w))
     (λ _. more ws [] (s .book) w)
-event-owned ws (Enters a lent) s w =
+event-owned ws (Event.the-variants.Order a) o lent s w =
     order-cases (s .day) a (s .book) lent (λ o. Owned (ws ++ ownersBy a (o .answer .reply)) (o .book))
     (λ _. entered-owned ws (s .day) a (s .book) w _ _)
     (λ _. more ws [] (s .book) w)
-event-owned ws (Cancels account number) s w =
+event-owned ws (Event.the-variants.Cancel account number) o lent s w =
     cancel-cases (s .day) account number (s .book) (λ o. Owned (ws ++ []) (o .book))
     (λ _. kept-owned (ws ++ []) (λ o. not (isOwn account number o)) (s .book) (more ws [] (s .book) w))
     (λ _. more ws [] (s .book) w)
 
-pub run-owned : (ws : List Owner) (es : List Event) (s : Desk) → Owned ws (s .book) → Owned (ws ++ acceptedIn es s) (after es s .book)
+pub run-owned : (ws : List Owner) (es : List Call) (s : Desk) → Owned ws (s .book) → Owned (ws ++ acceptedIn es s) (after es s .book)
 unfolding after acceptedIn
 run-owned ws [] s w = more ws [] (s .book) w
 run-owned ws (e ∷ es) s w =
     rw (← append-assoc ws (accepted e s) (acceptedIn es (stepped e s)))
-    (run-owned (ws ++ accepted e s) es (stepped e s) (event-owned ws e s w))
+    (run-owned (ws ++ accepted e s) es (stepped e s) (event-owned ws (e .event) (e .within) (e .lent) s w))

@@ -1,49 +1,59 @@
 -- The day's totals after a run are those of all its trades. Assumes nothing.
 use Prim.Native.Nat.{ℕ}
 use mathlib.Core.Path.{_≡_, refl}
-use mathlib.Core.Bool.{cond}
+use mathlib.Core.Bool.{cond, false}
 use mathlib.Core.List.{List, [], _∷_}
 use native.Mathlib.Omega.{arith}
 use lib.Dec.{eqb}
 use borrow.Author.Tests.{ne-eqb}
 use Rattle.book.specs.Standing.{Price}
+use Rattle.model.specs.declared.Event as Event
 use Rattle.model.specs.declared.Trade.{Trade}
 use Rattle.model.specs.declared.Day.{Day}
 use Rattle.model.specs.Matching.{lastPrice}
 use Rattle.model.specs.Figures.{reference, closePrice}
 use Rattle.model.specs.Session.{Desk}
 use Rattle.book.proofs.Lists.{each-append}
+use Rattle.model.proofs.Bools.{not-both}
 use Rattle.demands.specs.Pricing.{Sound}
 use Rattle.demands.specs.Totalling.{Totals}
-use Rattle.demands.specs.Running.{Event, Moves, Enters, Cancels, tradedBy, stepped, after, tradesIn}
+use Rattle.demands.specs.Running.{isOpening, Call, tradesOfEvent, tradedBy, steppedBy, stepped, after, tradesIn}
 use Rattle.demands.proofs.Totals.{Prices, totals-join, totals-none, order-totals, order-prices, clock-totals, clock-prices}
 use Rattle.demands.proofs.Answers.{event-sound}
 
-event-prices : (e : Event) (s : Desk) → Sound (s .day) (s .book) → Prices (tradedBy e s)
-unfolding tradedBy
-event-prices (Moves t lent) s k = clock-prices (s .day) (s .book) k t lent
-event-prices (Enters a lent) s k = order-prices (s .day) a (s .book) lent k
-event-prices (Cancels account number) s k = tt
+event-prices :
+    (e : Event.Event) → isOpening e ≡ false → (lent : List Trade) (s : Desk)
+    → Sound (s .day) (s .book)
+    → Prices (tradesOfEvent e lent s)
+unfolding isOpening tradesOfEvent
+event-prices (Event.the-variants.Open close mark) o lent s k = tt
+event-prices (Event.the-variants.Clock t) o lent s k = clock-prices (s .day) (s .book) k t lent
+event-prices (Event.the-variants.Order a) o lent s k = order-prices (s .day) a (s .book) lent k
+event-prices (Event.the-variants.Cancel account number) o lent s k = tt
 
-event-totals : (e : Event) (s : Desk) → Sound (s .day) (s .book) → Totals (s .day) (stepped e s .day) (tradedBy e s)
-unfolding tradedBy stepped
-event-totals (Moves t lent) s k = clock-totals (s .day) (s .book) k t lent
-event-totals (Enters a lent) s k = order-totals (s .day) a (s .book) lent
-event-totals (Cancels account number) s k = totals-none (s .day)
+event-totals :
+    (e : Event.Event) → isOpening e ≡ false → (lent : List Trade) (s : Desk)
+    → Sound (s .day) (s .book)
+    → Totals (s .day) (steppedBy e lent s .day) (tradesOfEvent e lent s)
+unfolding isOpening tradesOfEvent steppedBy
+event-totals (Event.the-variants.Open close mark) o lent s k = absurd (not-both refl o)
+event-totals (Event.the-variants.Clock t) o lent s k = clock-totals (s .day) (s .book) k t lent
+event-totals (Event.the-variants.Order a) o lent s k = order-totals (s .day) a (s .book) lent
+event-totals (Event.the-variants.Cancel account number) o lent s k = totals-none (s .day)
 
-pub run-prices : (es : List Event) (s : Desk) → Sound (s .day) (s .book) → Prices (tradesIn es s)
+pub run-prices : (es : List Call) (s : Desk) → Sound (s .day) (s .book) → Prices (tradesIn es s)
 unfolding tradesIn
 run-prices [] s k = tt
 run-prices (e ∷ es) s k =
-    each-append (λ (t : Trade). Price (t .price)) (tradedBy e s) (tradesIn es (stepped e s)) (event-prices e s k)
-    (run-prices es (stepped e s) (event-sound e s k))
+    each-append (λ (t : Trade). Price (t .price)) (tradedBy e s) (tradesIn es (stepped e s)) (event-prices (e .event) (e .within) (e .lent) s k)
+    (run-prices es (stepped e s) (event-sound (e .event) (e .within) (e .lent) s k))
 
-pub run-totals : (es : List Event) (s : Desk) → Sound (s .day) (s .book) → Totals (s .day) (after es s .day) (tradesIn es s)
+pub run-totals : (es : List Call) (s : Desk) → Sound (s .day) (s .book) → Totals (s .day) (after es s .day) (tradesIn es s)
 unfolding tradesIn after
 run-totals [] s k = totals-none (s .day)
 run-totals (e ∷ es) s k =
     totals-join (s .day) (stepped e s .day) (after es (stepped e s) .day) (tradedBy e s) (tradesIn es (stepped e s))
-    (event-prices e s k) (event-totals e s k) (run-totals es (stepped e s) (event-sound e s k))
+    (event-prices (e .event) (e .within) (e .lent) s k) (event-totals (e .event) (e .within) (e .lent) s k) (run-totals es (stepped e s) (event-sound (e .event) (e .within) (e .lent) s k))
 
 -- ---- the close
 

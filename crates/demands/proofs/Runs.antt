@@ -20,7 +20,7 @@ use Rattle.matching.proofs.Trades.{Some}
 use Rattle.soundness.proofs.SoundDays.{sound-day}
 use Rattle.demands.specs.Pricing.{Sound}
 use Rattle.demands.specs.Totalling.{Totals}
-use Rattle.demands.specs.Running.{Event, Owner, answers, stepped, after, tradesIn, acceptedIn, Fresh, Is, Running}
+use Rattle.demands.specs.Running.{Call, Owner, answers, stepped, after, tradesIn, acceptedIn, Fresh, Is, Running}
 use Rattle.demands.proofs.Fresh.{open-fresh, open-call}
 use Rattle.demands.proofs.Answers.{event-sound, event-not-15}
 use Rattle.demands.proofs.Issued.{run-counts}
@@ -29,15 +29,15 @@ use Rattle.demands.proofs.RunTotals.{run-prices, run-totals, close-is}
 use Rattle.demands.proofs.Owns.{cancel-own}
 use Rattle.demands.proofs.Elements.{some-map}
 
-run-sound : (es : List Event) (s : Desk) → Sound (s .day) (s .book) → Sound (after es s .day) (after es s .book)
+run-sound : (es : List Call) (s : Desk) → Sound (s .day) (s .book) → Sound (after es s .day) (after es s .book)
 unfolding after
 run-sound [] s k = k
-run-sound (e ∷ es) s k = run-sound es (stepped e s) (event-sound e s k)
+run-sound (e ∷ es) s k = run-sound es (stepped e s) (event-sound (e .event) (e .within) (e .lent) s k)
 
-run-not-15 : (es : List Event) (s : Desk) → Sound (s .day) (s .book) → Each (λ (ns : List ℕ). getD ns 0 0 ≡ 15 → ⊥) (answers es s)
+run-not-15 : (es : List Call) (s : Desk) → Sound (s .day) (s .book) → Each (λ (ns : List ℕ). getD ns 0 0 ≡ 15 → ⊥) (answers es s)
 unfolding answers
 run-not-15 [] s k = tt
-run-not-15 (e ∷ es) s k = (event-not-15 e s k, run-not-15 es (stepped e s) (event-sound e s k))
+run-not-15 (e ∷ es) s k = (event-not-15 (e .event) (e .within) (e .lent) s k, run-not-15 es (stepped e s) (event-sound (e .event) (e .within) (e .lent) s k))
 
 module _ (s : Desk) (f : Fresh s) where
   fresh-sound : Sound (s .day) (s .book)
@@ -59,11 +59,11 @@ module _ (s : Desk) (f : Fresh s) where
       each (λ o. o ≡ free) (Known []) (s .book) (λ o e n. absurd (n (ap (λ (x : Order). x .number) e ∙ free-number)))
       (sound-day (s .day) (s .book) (fresh-sound .1) .early (omega (arith, at-midnight)))
 
-  theirs : (es : List Event) → Owned (acceptedIn es s) (after es s .book)
+  theirs : (es : List Call) → Owned (acceptedIn es s) (after es s .book)
   theirs es = run-owned [] es s nobody
 
   cancels-own :
-      (es : List Event) (account number shares : ℕ)
+      (es : List Call) (account number shares : ℕ)
       → cancelCall (after es s .day) account number (after es s .book) .reply ≡ CancelReply.the-variants.Withdrawn shares
       → Some (λ (w : Owner). (w .number ≡ number) × (w .account ≡ account)) (acceptedIn es s)
   cancels-own es account number shares r =
@@ -81,19 +81,19 @@ module _ (s : Desk) (f : Fresh s) where
     ap (λ (d : Day). d .last) is-fresh,
   )
 
-  totals : (es : List Event) → Totals (s .day) (after es s .day) (tradesIn es s)
+  totals : (es : List Call) → Totals (s .day) (after es s .day) (tradesIn es s)
   totals es = run-totals es s fresh-sound
 
-  first-traded : (es : List Event) → openPrice (after es s .day) ≡ firstPrice 0 (tradesIn es s)
+  first-traded : (es : List Call) → openPrice (after es s .day) ≡ firstPrice 0 (tradesIn es s)
   unfolding openPrice
   first-traded es = totals es .first ∙ rw (untraded .2)
 
-  last-traded : (es : List Event) → closePrice (after es s .day) ≡ lastPrice (after es s .day .close) (tradesIn es s)
+  last-traded : (es : List Call) → closePrice (after es s .day) ≡ lastPrice (after es s .day .close) (tradesIn es s)
   last-traded es =
       close-is (after es s .day) (tradesIn es s) (run-prices es s fresh-sound)
       (totals es .last ∙ ap (λ (p : ℕ). lastPrice p (tradesIn es s)) (untraded .3))
 
-  pub running : (es : List Event) → Running es s
+  pub running : (es : List Call) → Running es s
   running es =
       let k = run-sound es s fresh-sound in
       let c = run-counts es s in

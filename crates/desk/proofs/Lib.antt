@@ -1,6 +1,3 @@
 -- The laws behind the desk's answers.
+pub mod Lent
 pub mod Answers
-pub mod AnyMemory
-pub mod Determined
-pub mod LineByLine
-pub mod SoundDesks

@@ -1,30 +1,26 @@
-// The desk of the rehearsal program: the day and its book, once a day is open, and what a line is answered with.
+// The desk of the rehearsal program: the day, once one is open, and what a line is answered with.
 pub mod answering;
-pub mod chunks;
-pub mod lines;
 
 use model::Day;
+use printing::LONGEST_REPLY;
+use printing::LONGEST_TRADE;
 
-// What an answer leaves: the day, if one is open, and the place behind the text that was put.
+// What the program lends: places of the book, and trades.
+pub const LENT_PLACES: usize = 1_024;
+
+pub const LENT_TRADES: usize = 2_048;
+
+// All the trades, and a reply.
+pub const LONGEST_ANSWER: usize = LENT_TRADES * LONGEST_TRADE + LONGEST_REPLY;
+
+// No day opened yet, or the open day.
+pub enum Desk {
+    Closed,
+    Open(Day),
+}
+
+// What an answer leaves: the desk, and the place after the text that was put.
 pub struct Answered {
-    pub begun: bool,
-    pub day: Day,
+    pub desk: Desk,
     pub next: usize,
-}
-
-// The answer to one line in any memory: given where the memory is as long as the program's, else none.
-pub enum LineAnswer {
-    Unfit,
-    Given(Answered),
-}
-
-// How far a chunk is answered: the desk's mark and day, the place of the next line, whether that line began before the chunk
-// and is too long, the place behind the replies that were put, and whether no line is left.
-pub struct Progress {
-    pub begun: bool,
-    pub day: Day,
-    pub at: usize,
-    pub long: bool,
-    pub next: usize,
-    pub done: bool,
 }

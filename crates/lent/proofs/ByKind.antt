@@ -14,70 +14,73 @@ use Rattle.model.specs.Calls.{OpenOutcome, CancelOutcome, openCall, orderCall, 
 use Rattle.model.specs.ClockCall.{clockCall}
 use Rattle.model.specs.AuctionCalls.{ListOutcome, reportCall, listCall}
 use Rattle.book.specs.Rows.{bookOf, tradesOf}
-use Rattle.day.specs.Promises.{openLeft, callLeft, cancelLeft, listLeft}
-use Rattle.lent.specs.declared.Event.{Event}
-use Rattle.lent.specs.declared.Event.the-variants.{Opens, Moves, Enters, Cancels}
-use Rattle.lent.specs.declared.Answer.the-variants.{Opened, Moved, Entered, Cancelled}
-use Rattle.lent.specs.declared.Question.{Question}
-use Rattle.lent.specs.declared.Question.the-variants.{Report, Prices}
-use Rattle.lent.specs.declared.Told.the-variants.{Reported, Listed}
-use Rattle.lent.specs.Calls.{answered, eventCall, questionCall, questionLeft}
+use Rattle.book.specs.Promises.{openLeft, callLeft, cancelLeft, listLeft}
+use Rattle.model.specs.declared.Event as Event
+use Rattle.lent.specs.declared.Answer as Answer
+use Rattle.lent.specs.declared.OnDay.{OnDay}
+use Rattle.lent.specs.declared.Question as Question
+use Rattle.lent.specs.declared.Told as Told
+use Rattle.lent.specs.Calls.{answered, callOf, eventCall, questionCall, questionLeft}
 
-module _ (event : Event) (rows rows′ trades : List (List ℕ)) where
+module _ (asked : OnDay) (rows rows′ trades : List (List ℕ)) where
   pub opened :
       {close mark : ℕ} {r : OpenReply}
-      → event ≡ Opens close mark
+      → asked .event ≡ Event.the-variants.Open close mark
       → openLeft r rows′ ≡ openCall close mark (bookOf rows)
-      → callLeft (Opened r) rows′ trades ≡ eventCall event (bookOf rows) (tradesOf trades)
-  unfolding eventCall
+      → callLeft (Answer.the-variants.Open r) rows′ trades ≡ eventCall asked (bookOf rows) (tradesOf trades)
+  unfolding callOf
   opened e p =
-      ap (λ (o : OpenOutcome). record { answer = Opened (o .reply); book = o .book; trades = tradesOf trades }) p
-      ∙ ap (λ (v : Event). eventCall v (bookOf rows) (tradesOf trades)) (sym e)
+      ap (λ (o : OpenOutcome). record { answer = Answer.the-variants.Open (o .reply); book = o .book; trades = tradesOf trades }) p
+      ∙ ap (λ (v : Event.Event). callOf v (asked .day) (bookOf rows) (tradesOf trades)) (sym e)
 
   pub cancelled :
-      {d : Day} {account number : ℕ} {r : CancelReply}
-      → event ≡ Cancels d account number
-      → cancelLeft r rows′ ≡ cancelCall d account number (bookOf rows)
-      → callLeft (Cancelled r) rows′ trades ≡ eventCall event (bookOf rows) (tradesOf trades)
-  unfolding eventCall
+      {account number : ℕ} {r : CancelReply}
+      → asked .event ≡ Event.the-variants.Cancel account number
+      → cancelLeft r rows′ ≡ cancelCall (asked .day) account number (bookOf rows)
+      → callLeft (Answer.the-variants.Cancel r) rows′ trades ≡ eventCall asked (bookOf rows) (tradesOf trades)
+  unfolding callOf
   cancelled e p =
-      ap (λ (o : CancelOutcome). record { answer = Cancelled (o .reply); book = o .book; trades = tradesOf trades }) p
-      ∙ ap (λ (v : Event). eventCall v (bookOf rows) (tradesOf trades)) (sym e)
+      ap (λ (o : CancelOutcome). record { answer = Answer.the-variants.Cancel (o .reply); book = o .book; trades = tradesOf trades }) p
+      ∙ ap (λ (v : Event.Event). callOf v (asked .day) (bookOf rows) (tradesOf trades)) (sym e)
 
   module _ (trades′ : List (List ℕ)) where
     pub moved :
-        {d : Day} {time : ℕ} {r : ClockAnswer}
-        → event ≡ Moves d time
-        → callLeft r rows′ trades′ ≡ clockCall d time (bookOf rows) (tradesOf trades)
-        → callLeft (Moved r) rows′ trades′ ≡ eventCall event (bookOf rows) (tradesOf trades)
-    unfolding eventCall
-    moved e p = ap (answered Moved) p ∙ ap (λ (v : Event). eventCall v (bookOf rows) (tradesOf trades)) (sym e)
+        {time : ℕ} {r : ClockAnswer}
+        → asked .event ≡ Event.the-variants.Clock time
+        → callLeft r rows′ trades′ ≡ clockCall (asked .day) time (bookOf rows) (tradesOf trades)
+        → callLeft (Answer.the-variants.Clock r) rows′ trades′ ≡ eventCall asked (bookOf rows) (tradesOf trades)
+    unfolding callOf
+    moved e p =
+        ap (answered Answer.the-variants.Clock) p
+        ∙ ap (λ (v : Event.Event). callOf v (asked .day) (bookOf rows) (tradesOf trades)) (sym e)
 
     pub entered :
-        {d : Day} {a : Asked} {r : OrderAnswer}
-        → event ≡ Enters d a
-        → callLeft r rows′ trades′ ≡ orderCall d a (bookOf rows) (tradesOf trades)
-        → callLeft (Entered r) rows′ trades′ ≡ eventCall event (bookOf rows) (tradesOf trades)
-    unfolding eventCall
-    entered e p = ap (answered Entered) p ∙ ap (λ (v : Event). eventCall v (bookOf rows) (tradesOf trades)) (sym e)
+        {a : Asked} {r : OrderAnswer}
+        → asked .event ≡ Event.the-variants.Order a
+        → callLeft r rows′ trades′ ≡ orderCall (asked .day) a (bookOf rows) (tradesOf trades)
+        → callLeft (Answer.the-variants.Order r) rows′ trades′ ≡ eventCall asked (bookOf rows) (tradesOf trades)
+    unfolding callOf
+    entered e p =
+        ap (answered Answer.the-variants.Order) p
+        ∙ ap (λ (v : Event.Event). callOf v (asked .day) (bookOf rows) (tradesOf trades)) (sym e)
 
-module _ (question : Question) (rows : List (List ℕ)) (prices : List ℕ) where
+module _ (question : Question.Question) (rows : List (List ℕ)) (prices : List ℕ) where
   pub reported :
       {d : Day} {r : ReportReply}
-      → question ≡ Report d
+      → question ≡ Question.the-variants.Report d
       → r ≡ reportCall d (bookOf rows)
-      → questionLeft (Reported r) prices ≡ questionCall question (bookOf rows) prices
+      → questionLeft (Told.the-variants.Report r) prices ≡ questionCall question (bookOf rows) prices
   unfolding questionCall
   reported e p =
-      ap (λ (r : ReportReply). questionLeft (Reported r) prices) p
-      ∙ ap (λ (v : Question). questionCall v (bookOf rows) prices) (sym e)
+      ap (λ (r : ReportReply). questionLeft (Told.the-variants.Report r) prices) p
+      ∙ ap (λ (v : Question.Question). questionCall v (bookOf rows) prices) (sym e)
 
   pub listed :
       {d : Day} {asked : ℕ} {r : ListReply} {prices′ : List ℕ}
-      → question ≡ Prices d asked
+      → question ≡ Question.the-variants.List d asked
       → listLeft r prices′ ≡ listCall d asked (bookOf rows) prices
-      → questionLeft (Listed r) prices′ ≡ questionCall question (bookOf rows) prices
+      → questionLeft (Told.the-variants.List r) prices′ ≡ questionCall question (bookOf rows) prices
   unfolding questionCall
   listed e p =
-      ap (λ (o : ListOutcome). questionLeft (Listed (o .reply)) (o .prices)) p
-      ∙ ap (λ (v : Question). questionCall v (bookOf rows) prices) (sym e)
+      ap (λ (o : ListOutcome). questionLeft (Told.the-variants.List (o .reply)) (o .prices)) p
+      ∙ ap (λ (v : Question.Question). questionCall v (bookOf rows) prices) (sym e)

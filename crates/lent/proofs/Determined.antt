@@ -7,20 +7,20 @@ use Rattle.model.specs.declared.Order.{Order}
 use Rattle.model.specs.Calls.{Outcome}
 use Rattle.book.specs.Rows.{tradesOf}
 use Rattle.day.proofs.Determined.{Trades, same-trades}
-use Rattle.lent.specs.declared.Event.{Event}
+use Rattle.lent.specs.declared.OnDay.{OnDay}
 use Rattle.lent.specs.declared.Answer.{Answer}
 use Rattle.lent.specs.declared.Question.{Question}
 use Rattle.lent.specs.declared.Told.{Told}
 use Rattle.lent.specs.Calls.{eventCall, eventLeft, View, questionCall, questionLeft}
 
 pub event-determined :
-    (event : Event) (before m n : List Order) (lent ts us : List (List ℕ)) (r s : Answer)
+    (asked : OnDay) (before m n : List Order) (lent ts us : List (List ℕ)) (r s : Answer)
     → Trades ts
     → Trades us
-    → eventLeft r m ts ≡ eventCall event before (tradesOf lent)
-    → eventLeft s n us ≡ eventCall event before (tradesOf lent)
+    → eventLeft r m ts ≡ eventCall asked before (tradesOf lent)
+    → eventLeft s n us ≡ eventCall asked before (tradesOf lent)
     → (r ≡ s) × (m ≡ n) × (ts ≡ us)
-event-determined event before m n lent ts us r s pt pu e f = (
+event-determined asked before m n lent ts us r s pt pu e f = (
   ap (λ (o : Outcome Answer). o .answer) (e ∙ sym f),
   ap (λ (o : Outcome Answer). o .book) (e ∙ sym f),
   same-trades ts us pt pu (ap (λ (o : Outcome Answer). o .trades) (e ∙ sym f)),

@@ -18,16 +18,15 @@ use Rattle.model.specs.Calls.{Outcome, openRules, openCall, orderRules, orderCa
 use Rattle.model.specs.ClockCall.{clockRules, clockCall}
 use Rattle.model.specs.AuctionCalls.{reportRules, reportCall, listRules, listCall}
 use Rattle.book.specs.Rows.{orderOf, rowOf, bookOf, tradesOf}
-use Rattle.day.specs.Promises.{callLeft}
+use Rattle.book.specs.Promises.{callLeft}
 use Rattle.soundness.proofs.SoundDays.{few-places}
-use Rattle.lent.specs.declared.Event.{Event}
-use Rattle.lent.specs.declared.Event.the-variants.{Opens, Moves, Enters, Cancels}
+use Rattle.model.specs.declared.Event as Event
+use Rattle.lent.specs.declared.OnDay.{OnDay}
 use Rattle.lent.specs.declared.Answer.{Answer}
-use Rattle.lent.specs.declared.Question.{Question}
-use Rattle.lent.specs.declared.Question.the-variants.{Report, Prices}
+use Rattle.lent.specs.declared.Question as Question
 use Rattle.lent.specs.declared.Told.{Told}
 use Rattle.lent.specs.Copying.{copied, placesOf}
-use Rattle.lent.specs.Calls.{eventCall, eventLeft, questionCall, questionLeft}
+use Rattle.lent.specs.Calls.{callOf, eventCall, eventLeft, questionCall, questionLeft}
 use Rattle.lent.proofs.CopiedLaws.{copied-none}
 use Rattle.lent.proofs.PlacesLaws.{places-are}
 
@@ -73,23 +72,23 @@ unsound-without d book e = rw e
 
 module _ (book : List Order) (many : 4_096 < length book) where
   event-too-many :
-      (event : Event) (lent : List Trade)
-      → eventCall event book lent ≡ record { answer = eventCall event [] lent .answer; book = book; trades = eventCall event [] lent .trades }
-  unfolding eventCall openCall openRules clockCall clockRules orderCall orderRules cancelCall cancelRules firstOf _when_
-  event-too-many (Opens close mark) lent =
+      (event : Event.Event) (day : Day) (lent : List Trade)
+      → callOf event day book lent ≡ record { answer = callOf event day [] lent .answer; book = book; trades = callOf event day [] lent .trades }
+  unfolding callOf openCall openRules clockCall clockRules orderCall orderRules cancelCall cancelRules firstOf _when_
+  event-too-many (Event.the-variants.Open close mark) day lent =
       rw (too-many book many, none, and-false (isPrice close && isMark mark))
-  event-too-many (Moves day time) lent =
+  event-too-many (Event.the-variants.Clock time) day lent =
       rw (unsound-without day book (too-many book many), unsound-without day [] none)
-  event-too-many (Enters day asked) lent =
+  event-too-many (Event.the-variants.Order asked) day lent =
       rw (unsound-without day book (too-many book many), unsound-without day [] none)
-  event-too-many (Cancels day account number) lent =
+  event-too-many (Event.the-variants.Cancel account number) day lent =
       rw (unsound-without day book (too-many book many), unsound-without day [] none)
 
-  question-too-many : (question : Question) (lent : List ℕ) → questionCall question book lent ≡ questionCall question [] lent
+  question-too-many : (question : Question.Question) (lent : List ℕ) → questionCall question book lent ≡ questionCall question [] lent
   unfolding questionCall reportCall reportRules listCall listRules firstOf _when_
-  question-too-many (Report day) lent =
+  question-too-many (Question.the-variants.Report day) lent =
       rw (unsound-without day book (too-many book many), unsound-without day [] none)
-  question-too-many (Prices day asked) lent =
+  question-too-many (Question.the-variants.List day asked) lent =
       rw (unsound-without day book (too-many book many), unsound-without day [] none)
 
 -- ---- what the calls say
@@ -103,28 +102,28 @@ module _ (book : List Order) (rows : List (List ℕ)) (len : length rows ≡ 4_0
 
   -- the rows that were lent are front now, and those behind them are rest
   pub event-said :
-      (front rest trades trades′ : List (List ℕ)) (event : Event) (answer : Answer)
+      (front rest trades trades′ : List (List ℕ)) (asked : OnDay) (answer : Answer)
       → length front ≡ k
-      → callLeft answer front trades′ ≡ eventCall event (bookOf (lent k)) (tradesOf trades)
-      → eventLeft answer (copied orderOf k (front ++ rest) book) trades′ ≡ eventCall event book (tradesOf trades)
-  event-said front rest trades trades′ event answer e p = elim (places-are (length book)) [
+      → callLeft answer front trades′ ≡ eventCall asked (bookOf (lent k)) (tradesOf trades)
+      → eventLeft answer (copied orderOf k (front ++ rest) book) trades′ ≡ eventCall asked book (tradesOf trades)
+  event-said front rest trades trades′ asked answer e p = elim (places-are (length book)) [
     | inl h ↦
         let n : length front ≡ length book = e ∙ h .1 in
         ap (λ (j : ℕ). eventLeft answer (copied orderOf j (front ++ rest) book) trades′) (h .1)
         ∙ ap (λ (os : List Order). eventLeft answer os trades′) (back book front rest n)
         ∙ p
-        ∙ ap (λ (j : ℕ). eventCall event (bookOf (lent j)) (tradesOf trades)) (h .1)
-        ∙ ap (λ (os : List Order). eventCall event os (tradesOf trades)) (there book rows (omega arith))
+        ∙ ap (λ (j : ℕ). eventCall asked (bookOf (lent j)) (tradesOf trades)) (h .1)
+        ∙ ap (λ (os : List Order). eventCall asked os (tradesOf trades)) (there book rows (omega arith))
     | inr h ↦
         ap (λ (j : ℕ). eventLeft answer (copied orderOf j (front ++ rest) book) trades′) (h .1)
         ∙ ap (λ (os : List Order). eventLeft answer os trades′) (copied-none orderOf (front ++ rest) book)
         ∙ ap (λ (o : Outcome Answer). record { answer = o .answer; book = book; trades = o .trades })
-        (p ∙ ap (λ (j : ℕ). eventCall event (bookOf (lent j)) (tradesOf trades)) (h .1))
-        ∙ sym (event-too-many book (h .0) event (tradesOf trades))
+        (p ∙ ap (λ (j : ℕ). eventCall asked (bookOf (lent j)) (tradesOf trades)) (h .1))
+        ∙ sym (event-too-many book (h .0) (asked .event) (asked .day) (tradesOf trades))
   ]
 
   pub question-said :
-      (prices prices′ : List ℕ) (question : Question) (told : Told)
+      (prices prices′ : List ℕ) (question : Question.Question) (told : Told)
       → questionLeft told prices′ ≡ questionCall question (bookOf (lent k)) prices
       → questionLeft told prices′ ≡ questionCall question book prices
   question-said prices prices′ question told p = elim (places-are (length book)) [

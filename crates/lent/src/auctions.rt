@@ -5,6 +5,7 @@ use crate::copying::load;
 use crate::copying::places;
 use day::auctions::list_call;
 use day::auctions::report_call;
+use model::MOST_PLACES;
 use model::Order;
 ghost use mathlib.Core.Path.{_≡_};
 ghost use Rattle.book.specs.Rows.{bookOf};
@@ -15,8 +16,8 @@ fn answer_question(rows: &[[u64; 5]], prices: &mut [u64], question: Question) ->
     ensures { λ r. ⌜ questionLeft r (now (prices .exit)) ≡ questionCall question (bookOf (now (rows .entry))) (now (prices .entry)) ⌝ }
 {
     match question {
-        Question::Report(day) => Told::Reported(report_call(day, rows)),
-        Question::Prices { day, asked } => Told::Listed(list_call(day, rows, prices, asked)),
+        Question::Report(day) => Told::Report(report_call(day, rows)),
+        Question::List { day, asked } => Told::List(list_call(day, rows, prices, asked)),
     }
 }
 
@@ -24,7 +25,7 @@ fn answer_question(rows: &[[u64; 5]], prices: &mut [u64], question: Question) ->
 pub fn ask_auction(book: &[Order], prices: &mut [u64], question: Question) -> Told
     ensures { λ r. ⌜ questionLeft r (now (prices .exit)) ≡ questionCall question (now (book .entry)) (now (prices .entry)) ⌝ }
 {
-    let mut rows = [[0u64; 5]; 4096];
+    let mut rows = [[0u64; 5]; MOST_PLACES];
     let k = places(book.len());
     load(book, &mut rows, k);
     answer_question(&rows[..k], prices, question)

@@ -3,6 +3,7 @@ use crate::place;
 use crate::put;
 use book::order_at;
 use book::put_order;
+use model::MOST_PLACES;
 use model::Order;
 ghost use mathlib.Core.Path.{_≡_};
 ghost use Prim.Native.Nat.{_≤_};
@@ -14,7 +15,7 @@ ghost use Rattle.lent.specs.Copying.{copied, placesOf};
 pub fn places(n: usize) -> usize
     ensures { λ r. ⌜ r ≡ placesOf n ⌝ }
 {
-    if n <= 4096 { n } else { 0 }
+    if n <= MOST_PLACES { n } else { 0 }
 }
 
 // The first n places, as the first n rows. The later rows stay.

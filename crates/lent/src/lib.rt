@@ -9,40 +9,38 @@ ghost use mathlib.Core.Path.{_≡_};
 ghost use Prim.Native.Nat.{_<_};
 ghost use lib.ListN.{length, getD, set};
 ghost use Rattle.model.specs.Book.{free};
-use model::Asked;
 use model::CancelReply;
 use model::ClockAnswer;
 use model::Day;
+use model::Event;
 use model::ListReply;
 use model::OpenReply;
 use model::Order;
 use model::OrderAnswer;
 use model::ReportReply;
 
-// What changes a day, with the day it is asked of. An opening reads nothing of an old day.
-pub enum Event {
-    Opens { close: u64, mark: u64 },
-    Moves { day: Day, time: u64 },
-    Enters { day: Day, asked: Asked },
-    Cancels { day: Day, account: u64, number: u64 },
+// An event, with the day that it comes to. An opening reads nothing of an old day.
+pub struct OnDay {
+    pub day: Day,
+    pub event: Event,
 }
 
 pub enum Answer {
-    Opened(OpenReply),
-    Moved(ClockAnswer),
-    Entered(OrderAnswer),
-    Cancelled(CancelReply),
+    Open(OpenReply),
+    Clock(ClockAnswer),
+    Order(OrderAnswer),
+    Cancel(CancelReply),
 }
 
-// What is asked of an auction held now. Neither question changes anything but the lent price list.
+// What is asked of an auction held now: its report, or its prices from one on. Neither changes anything but the lent price list.
 pub enum Question {
     Report(Day),
-    Prices { day: Day, asked: u64 },
+    List { day: Day, asked: u64 },
 }
 
 pub enum Told {
-    Reported(ReportReply),
-    Listed(ListReply),
+    Report(ReportReply),
+    List(ListReply),
 }
 
 // The order at a place.

@@ -1,7 +1,7 @@
 // A book of sixteen places by value, for code that does not lend: it is handed over with an event, and comes back with the answer,
 // or with a question. Whoever calls this needs no proof by hand.
 use crate::Answer;
-use crate::Event;
+use crate::OnDay;
 use crate::Question;
 use crate::Told;
 use crate::auctions::ask_auction;
@@ -17,11 +17,11 @@ pub struct HandedBack {
     pub answer: Answer,
 }
 
-pub fn take_on_sixteen(book: [Order; 16], trades: &mut [[u64; 6]], event: Event) -> HandedBack
-    ensures { λ r. ⌜ eventLeft (r .answer) (r .book) (now (trades .exit)) ≡ eventCall event book (tradesOf (now (trades .entry))) ⌝ }
+pub fn take_on_sixteen(book: [Order; 16], trades: &mut [[u64; 6]], asked: OnDay) -> HandedBack
+    ensures { λ r. ⌜ eventLeft (r .answer) (r .book) (now (trades .exit)) ≡ eventCall asked book (tradesOf (now (trades .entry))) ⌝ }
 {
     let mut places = book;
-    let answer = take_event(&mut places, trades, event);
+    let answer = take_event(&mut places, trades, asked);
     HandedBack {
         book: places,
         answer,

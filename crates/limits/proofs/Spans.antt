@@ -1,14 +1,14 @@
 -- A number between two others, tested from below, and what the price test says. Assumes nothing.
 use Prim.Native.Nat.{ℕ, _≤_, _<_}
-use mathlib.Core.Path.{_≡_}
-use mathlib.Core.Bool.{Bool, true, false, _&&_}
+use mathlib.Core.Path.{_≡_, _∙_}
+use mathlib.Core.Bool.{Bool, true, _&&_}
 use lib.Dec.{leb}
 use borrow.Author.Tests.{le-leb, lt-leb, leb-true}
 use Rattle.model.specs.Limits.{isPrice}
 use Rattle.model.proofs.Bools.{and-left, and-right, and-no, and-yes}
 
-pub too-low : (a b n : ℕ) → n < a → false ≡ (leb a n && leb n b)
-too-low a b n h = and-no (leb n b) (lt-leb a n h)
+pub too-low : (a b n : ℕ) → n < a → leb a n ≡ (leb a n && leb n b)
+too-low a b n h = lt-leb a n h ∙ and-no (leb n b) (lt-leb a n h)
 
 pub from-low : (a b n : ℕ) {r : Bool} → a ≤ n → r ≡ leb n b → r ≡ (leb a n && leb n b)
 from-low a b n h e = and-yes (leb n b) (le-leb a n h) e

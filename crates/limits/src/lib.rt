@@ -4,35 +4,27 @@
 ghost use mathlib.Core.Path.{_≡_};
 ghost use mathlib.Core.Bool.{_&&_};
 ghost use Rattle.model.specs.Limits.{isPrice, inSize, isOddLot, isQuantity, inBand, buyInRange, sellInRange, inRange};
+use model::HIGHEST_PRICE;
+use model::MOST_SHARES;
 
 // Whole fen, 1 to 999,999.
 pub fn is_price(price: u64) -> bool
     ensures { λ r. ⌜ r ≡ isPrice price ⌝ }
 {
-    if price < 1 {
-        return false;
-    }
-    price <= 999_999
+    1 <= price && price <= HIGHEST_PRICE
 }
 
 fn are_prices(one: u64, another: u64) -> bool
     ensures { λ r. ⌜ r ≡ (isPrice one && isPrice another) ⌝ }
 {
-    if is_price(one) {
-        is_price(another)
-    } else {
-        false
-    }
+    is_price(one) && is_price(another)
 }
 
 // 100 to 1,000,000 shares (3.3.8, 3.3.9).
 fn in_size(quantity: u64) -> bool
     ensures { λ r. ⌜ r ≡ inSize quantity ⌝ }
 {
-    if quantity < 100 {
-        return false;
-    }
-    quantity <= 1_000_000
+    100 <= quantity && quantity <= MOST_SHARES
 }
 
 // 1 to 99 shares, all that the account has (3.3.8).
@@ -42,10 +34,7 @@ fn is_odd_lot(quantity: u64, balance: u64) -> bool
     if quantity < 1 {
         return false;
     }
-    if 99 < quantity {
-        return false;
-    }
-    quantity == balance
+    quantity <= 99 && quantity == balance
 }
 
 // Side 0 buys, and names no balance; any other sells, an odd lot in one go.
@@ -53,15 +42,9 @@ pub fn is_quantity(side: u64, quantity: u64, balance: u64) -> bool
     ensures { λ r. ⌜ r ≡ isQuantity side quantity balance ⌝ }
 {
     if side == 0 {
-        if in_size(quantity) {
-            return balance == 0;
-        }
-        return false;
+        return in_size(quantity) && balance == 0;
     }
-    if in_size(quantity) {
-        return true;
-    }
-    is_odd_lot(quantity, balance)
+    in_size(quantity) || is_odd_lot(quantity, balance)
 }
 
 // At least 70% and at most 130% of the previous close, exactly (3.3.11).
@@ -71,13 +54,7 @@ pub fn in_band(close: u64, price: u64) -> bool
     if !are_prices(close, price) {
         return false;
     }
-    if 100 * price < 70 * close {
-        return false;
-    }
-    if 130 * close < 100 * price {
-        return false;
-    }
-    true
+    70 * close <= 100 * price && 100 * price <= 130 * close
 }
 
 // A buy is at most the higher of 105% of its base and base + 10 (3.3.13).

@@ -29,39 +29,6 @@ use Rattle.matching.proofs.Cuts.{five-best, unbounded}
 
 -- ---- the prices
 
--- a kind's price depends on the best price that the kind takes, and on no other
-module _ (a : Asked) where
-  pub entry-opposite : a .kind ≡ 1 → (own own′ opposite : ℕ) → entryAt a own opposite ≡ entryAt a own′ opposite
-  unfolding entryAt
-  entry-opposite e own own′ opposite = rw (eq-eqb (a .kind) 1 e)
-
-  pub entry-own : a .kind ≡ 2 → (own opposite opposite′ : ℕ) → entryAt a own opposite ≡ entryAt a own opposite′
-  unfolding entryAt
-  entry-own e own opposite opposite′ = rw e
-
-  pub entry-asked : (a .kind ≡ 1 → ⊥) → (a .kind ≡ 2 → ⊥) → (own own′ opposite opposite′ : ℕ) → entryAt a own opposite ≡ entryAt a own′ opposite′
-  unfolding entryAt
-  entry-asked m n own own′ opposite opposite′ = rw (ne-eqb (a .kind) 1 m, ne-eqb (a .kind) 2 n)
-
-  module _ (filled last : ℕ) where
-    pub rest-opposite : a .kind ≡ 1 → (own own′ opposite : ℕ) → restAt a own opposite filled last ≡ restAt a own′ opposite filled last
-    unfolding restAt entryAt
-    rest-opposite e own own′ opposite = rw e
-
-    pub rest-own :
-        (a .kind ≡ 1 → ⊥) → (own opposite opposite′ : ℕ) → restAt a own opposite filled last ≡ restAt a own opposite′ filled last
-    unfolding restAt entryAt
-    rest-own n own opposite opposite′ = rw (ne-eqb (a .kind) 1 n)
-
-    pub rest-asked :
-        (a .kind ≡ 1 → ⊥)
-        → (a .kind ≡ 2 → ⊥)
-        → (a .kind ≡ 4 → ⊥)
-        → (own own′ opposite opposite′ : ℕ)
-        → restAt a own opposite filled last ≡ restAt a own′ opposite′ filled last
-    unfolding restAt entryAt
-    rest-asked m n o own own′ opposite opposite′ = rw (ne-eqb (a .kind) 1 m, ne-eqb (a .kind) 2 n, ne-eqb (a .kind) 4 o)
-
 module _ (a : Asked) (book : List Order) where
   pub entry-price : entryPrice a book ≡ entryAt a (best (a .side) book) (best (other (a .side)) book)
   unfolding entryPrice bestWithin entryAt bestFor
@@ -130,9 +97,9 @@ module _ (d : Day) (a : Asked) (book : List Order) (phase : ℕ) (now : phase �
   pub outside : (s : Swept) (l : List (List ℕ)) → (phase ≡ 4 → ⊥) → s ≡ comesTo [] → Entered s l l
   outside s l n = none-entered s l (other-phase n)
 
-  module _ (price : ℕ) (p : price ≡ entryAt a (best (a .side) book) (best (other (a .side)) book)) where
+  module _ {own opp : ℕ} (eo : own ≡ best (a .side) book) (ex : opp ≡ best (other (a .side)) book) (price : ℕ) (p : price ≡ entryAt a own opp) where
     priced : price ≡ entryPrice a book
-    priced = p ∙ sym (entry-price a book)
+    priced = p ∙ ap (λ (n : ℕ). entryAt a n opp) eo ∙ ap (λ (n : ℕ). entryAt a (best (a .side) book) n) ex ∙ sym (entry-price a book)
 
     pub unpriced : (s : Swept) (l : List (List ℕ)) → price ≡ 0 → s ≡ comesTo [] → Entered s l l
     unpriced s l z = none-entered s l (no-price (sym priced ∙ z))

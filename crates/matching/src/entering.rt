@@ -2,7 +2,8 @@
 ghost use mathlib.Core.Path.{_≡_};
 ghost use Prim.Native.Nat.{_≤_};
 ghost use Rattle.model.specs.Clock.{phaseAt};
-ghost use Rattle.model.specs.Book.{best, other};
+ghost use Rattle.model.specs.Book.{best};
+ghost use Rattle.model.specs.Book as sides;
 ghost use Rattle.model.specs.Matching as matching;
 ghost use Rattle.model.specs.Entry.{entryTrades};
 ghost use Rattle.book.specs.Rows.{bookOf, tradeRows};
@@ -12,12 +13,16 @@ ghost use Rattle.matching.specs.Sweeping.{comesTo};
 ghost use Rattle.matching.specs.Entering.{bestFor, entryAt, restAt, mostPrices};
 use crate::Swept;
 use crate::sweeping::nothing_yet;
-use crate::sweeping::other_side;
 use crate::sweeping::sweep;
-use book::seats::best_price;
 use model::Asked;
 use model::Day;
 use model::Taker;
+
+// Trading on entry happens in this phase alone.
+pub const CONTINUOUS: u64 = 4;
+
+// A book has no more prices than places.
+const MOST_PRICES: u64 = 4_096;
 
 // The price itself, or the limit where the price is beyond it.
 pub fn within(side: u64, limit: u64, price: u64) -> u64
@@ -41,11 +46,11 @@ pub fn best_for(a: Asked, best: u64) -> u64
 }
 
 // The price at which an order enters, 0 where it has none: from the best prices of its own side and of the other side.
-fn entry_price(a: Asked, own: u64, opposite: u64) -> u64
-    ensures { λ r. ⌜ r ≡ entryAt a own opposite ⌝ }
+fn entry_price(a: Asked, own: u64, other: u64) -> u64
+    ensures { λ r. ⌜ r ≡ entryAt a own other ⌝ }
 {
     if a.kind == 1 {
-        return best_for(a, opposite);
+        return best_for(a, other);
     }
     if a.kind == 2 {
         return best_for(a, own);
@@ -54,8 +59,8 @@ fn entry_price(a: Asked, own: u64, opposite: u64) -> u64
 }
 
 // The price at which what is left of it rests, 0 where it is withdrawn. The best prices are those on entry.
-fn rest_price(a: Asked, own: u64, opposite: u64, s: Swept) -> u64
-    ensures { λ r. ⌜ r ≡ restAt a own opposite (s .filled) (s .last) ⌝ }
+pub fn price_of_rest(a: Asked, own: u64, other: u64, s: Swept) -> u64
+    ensures { λ r. ⌜ r ≡ restAt a own other (s .filled) (s .last) ⌝ }
 {
     if a.kind == 3 {
         return 0;
@@ -66,74 +71,39 @@ fn rest_price(a: Asked, own: u64, opposite: u64, s: Swept) -> u64
         }
         return s.last;
     }
-    entry_price(a, own, opposite)
+    entry_price(a, own, other)
 }
 
-// A book has at most 4,096 places, so no more prices than that.
+// How many of the best prices a kind may trade at.
 fn most_prices(kind: u64) -> u64
     ensures { λ r. ⌜ r ≡ mostPrices kind ⌝ }
 {
-    if 3 <= kind { 5 } else { 4_096 }
-}
-
-// That price in the book: no best price is looked for that the kind does not take.
-fn price_on_entry(rows: &[[u64; 5]], a: Asked) -> u64
-    requires { ⌜ Ranked (bookOf (now rows)) ⌝ }
-    requires { ⌜ a .side ≤ 1 ⌝ }
-    ensures { λ r. ⌜ r ≡ entryAt a (best (a .side) (bookOf (now (rows .entry)))) (best (other (a .side)) (bookOf (now (rows .entry)))) ⌝ }
-{
-    if a.kind == 1 {
-        let opposite = best_price(rows, other_side(a.side));
-        return entry_price(a, 0, opposite);
-    }
-    if a.kind == 2 {
-        let own = best_price(rows, a.side);
-        return entry_price(a, own, 0);
-    }
-    entry_price(a, 0, 0)
-}
-
-// And the price of the rest, from the book on entry.
-pub fn price_of_rest(rows: &[[u64; 5]], a: Asked, s: Swept) -> u64
-    requires { ⌜ Ranked (bookOf (now rows)) ⌝ }
-    requires { ⌜ a .side ≤ 1 ⌝ }
-    ensures { λ r. ⌜ r ≡ restAt a (best (a .side) (bookOf (now (rows .entry)))) (best (other (a .side)) (bookOf (now (rows .entry)))) (s .filled) (s .last) ⌝ }
-{
-    if a.kind == 1 {
-        let opposite = best_price(rows, other_side(a.side));
-        return rest_price(a, 0, opposite, s);
-    }
-    if a.kind == 2 {
-        let own = best_price(rows, a.side);
-        return rest_price(a, own, 0, s);
-    }
-    if a.kind == 4 {
-        let own = best_price(rows, a.side);
-        return rest_price(a, own, 0, s);
-    }
-    rest_price(a, 0, 0, s)
+    if 3 <= kind { 5 } else { MOST_PRICES }
 }
 
 // The trades of an order on entry: none outside continuous trading, none without a price. All are counted; a list that is too short
-// gets the first.
+// gets the first. The best prices of its own side and of the other are handed in.
 pub fn enter_trades(
+    d: Day,
     rows: &[[u64; 5]],
     trades: &mut [[u64; 6]],
-    d: Day,
-    phase: u64,
     a: Asked,
+    phase: u64,
+    own: u64,
+    other: u64,
 ) -> Swept
     requires { ⌜ Ranked (bookOf (now rows)) ⌝ }
-    requires { ⌜ a .side ≤ 1 ⌝ }
     requires { ⌜ phase ≡ phaseAt (d .time) ⌝ }
+    requires { ⌜ own ≡ best (a .side) (bookOf (now rows)) ⌝ }
+    requires { ⌜ other ≡ best (sides.other (a .side)) (bookOf (now rows)) ⌝ }
     requires { ⌜ d .issued ≤ 999_999 ⌝ }
     ensures { λ r. ⌜ r ≡ comesTo (entryTrades d a (bookOf (now (rows .entry)))) ⌝ }
     ensures { λ r. ⌜ now (trades .exit) ≡ fitted (tradeRows (entryTrades d a (bookOf (now (rows .entry))))) (now (trades .entry)) ⌝ }
 {
-    if phase != 4 {
+    if phase != CONTINUOUS {
         return nothing_yet();
     }
-    let price = price_on_entry(rows, a);
+    let price = entry_price(a, own, other);
     if price == 0 {
         return nothing_yet();
     }

@@ -1,6 +1,5 @@
 // Continuous trading: an order meets the other side of the book, best price first, then the earlier number.
 pub mod entering;
-pub mod remainders;
 pub mod settling;
 pub mod sweeping;
 

@@ -8,14 +8,15 @@ use lib.ListN.{length}
 use lib.Dec.{leb, ltb, eqb}
 use Rattle.model.specs.declared.Trade.{Trade}
 use Rattle.model.specs.declared.Command.{Command}
-use Rattle.model.specs.declared.Command.the-variants.{Malformed, Opens, Moves, Enters, Cancels}
+use Rattle.model.specs.declared.Command.the-variants.{Malformed, Asks}
+use Rattle.model.specs.declared.Event.the-variants.{Open, Clock, Order, Cancel}
 use Rattle.model.specs.declared.OpenReply as OpenReply
 use Rattle.model.specs.declared.OrderReply as OrderReply
 use Rattle.model.specs.declared.CancelReply as CancelReply
 use Rattle.model.specs.declared.ClockReply as ClockReply
 use Rattle.model.specs.Choice.{if_then_else_}
 use Rattle.model.specs.Lists.{all}
-use Rattle.model.specs.Replies.{entryNumbers}
+use Rattle.model.specs.Replies.{openNumbers, clockNumbers, orderNumbers, cancelNumbers}
 
 abbrev newline : ℕ
 newline = code "\n"
@@ -81,17 +82,18 @@ numbersOf (w ∷ ws) =
 -- a letter, with as many numbers as it wants
 unfoldable pub commandOf : ℕ → List ℕ → Command
 commandOf c [] = Malformed
-commandOf c (time ∷ []) = if eqb c (code "T") then Moves time else Malformed
+commandOf c (time ∷ []) = if eqb c (code "T") then Asks (Clock time) else Malformed
 commandOf c (m ∷ n ∷ []) =
-    if eqb c (code "D") then Opens m n else if eqb c (code "C") then Cancels m n else Malformed
+    if eqb c (code "D") then Asks (Open m n) else if eqb c (code "C") then Asks (Cancel m n) else Malformed
 commandOf c (x ∷ y ∷ z ∷ []) = Malformed
 commandOf c (x ∷ y ∷ z ∷ u ∷ []) = Malformed
 commandOf c (x ∷ y ∷ z ∷ u ∷ v ∷ []) = Malformed
 commandOf c (side ∷ kind ∷ account ∷ quantity ∷ price ∷ balance ∷ []) =
     if eqb c (code "O")
     then
-    Enters
-    (record { side = side; kind = kind; account = account; quantity = quantity; price = price; balance = balance })
+    Asks
+    (Order
+    (record { side = side; kind = kind; account = account; quantity = quantity; price = price; balance = balance }))
     else Malformed
 commandOf c (x ∷ y ∷ z ∷ u ∷ v ∷ w ∷ t ∷ ns) = Malformed
 
@@ -130,19 +132,24 @@ tradeLines [] = []
 tradeLines (t ∷ ts) =
     reply (code "M") (t .price ∷ t .quantity ∷ t .buyer ∷ t .seller ∷ t .buyerleft ∷ t .sellerleft ∷ []) ++ tradeLines ts
 
+-- a reply by its numbers, of which the refusal's stands first: X and that one, or the letter and the values
+unfoldable pub replyLine : ℕ → List ℕ → List ℕ
+replyLine c [] = reply c []
+replyLine c (n ∷ values) = if eqb n 0 then reply c values else refusalLine n
+
 unfoldable pub openLine : OpenReply.OpenReply → List ℕ
-openLine (OpenReply.the-variants.Refused n) = refusalLine n
-openLine (OpenReply.the-variants.Opened d) = reply (code "D") []
+openLine r = replyLine (code "D") (openNumbers r)
 
 unfoldable pub clockLine : ClockReply.ClockReply → List ℕ
-clockLine (ClockReply.the-variants.Refused n) = refusalLine n
-clockLine (ClockReply.the-variants.Moved phase trades) = reply (code "K") (phase ∷ trades ∷ [])
+clockLine r = replyLine (code "K") (clockNumbers r)
 
 unfoldable pub orderLine : OrderReply.OrderReply → List ℕ
-orderLine (OrderReply.the-variants.Refused n) = refusalLine n
-orderLine (OrderReply.the-variants.Accepted e) = reply (code "A") (entryNumbers e)
+orderLine r = replyLine (code "A") (orderNumbers r)
 
--- the number that was asked for, and the shares withdrawn
+-- the number that was asked for, in front of the values
+unfoldable pub withNumber : ℕ → List ℕ → List ℕ
+withNumber number [] = []
+withNumber number (n ∷ values) = n ∷ number ∷ values
+
 unfoldable pub cancelLine : ℕ → CancelReply.CancelReply → List ℕ
-cancelLine number (CancelReply.the-variants.Refused n) = refusalLine n
-cancelLine number (CancelReply.the-variants.Withdrawn q) = reply (code "W") (number ∷ q ∷ [])
+cancelLine number r = replyLine (code "W") (withNumber number (cancelNumbers r))

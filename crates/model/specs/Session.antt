@@ -8,7 +8,8 @@ use Rattle.model.specs.declared.Asked.{Asked}
 use Rattle.model.specs.declared.Trade.{Trade}
 use Rattle.model.specs.declared.Day.{Day}
 use Rattle.model.specs.declared.Command.{Command}
-use Rattle.model.specs.declared.Command.the-variants.{Malformed, Opens, Moves, Enters, Cancels}
+use Rattle.model.specs.declared.Command.the-variants.{Malformed, Asks}
+use Rattle.model.specs.declared.Event as Event
 use Rattle.model.specs.declared.OpenReply as OpenReply
 use Rattle.model.specs.declared.OrderAnswer.{OrderAnswer}
 use Rattle.model.specs.declared.ClockAnswer.{ClockAnswer}
@@ -84,13 +85,16 @@ unfoldable pub onDesk : (Desk → Answered) → Option Desk → Answered
 onDesk f none = record { text = refusalLine 17; desk = none }
 onDesk f (some s) = f s
 
+unfoldable pub eventAnswer : Event.Event → Option Desk → Answered
+eventAnswer (Event.the-variants.Open close mark) desk = openAnswer close mark desk
+eventAnswer (Event.the-variants.Clock t) desk = onDesk (clockAnswer t) desk
+eventAnswer (Event.the-variants.Order a) desk = onDesk (orderAnswer a) desk
+eventAnswer (Event.the-variants.Cancel account number) desk = onDesk (cancelAnswer account number) desk
+
 -- 16: line not of the form; it precedes 17
 unfoldable pub answer : Command → Option Desk → Answered
 answer Malformed desk = record { text = refusalLine 16; desk = desk }
-answer (Opens close mark) desk = openAnswer close mark desk
-answer (Moves t) desk = onDesk (clockAnswer t) desk
-answer (Enters a) desk = onDesk (orderAnswer a) desk
-answer (Cancels account number) desk = onDesk (cancelAnswer account number) desk
+answer (Asks e) desk = eventAnswer e desk
 
 unfoldable pub answers : List Line → Option Desk → List ℕ
 answers [] desk = []

@@ -1,6 +1,17 @@
 // The words of the day: what stands at a place of the book, an order as it comes in, a trade, the day's own figures,
 // the rows of the clock, and the answers of the calls. What they mean is defined in specs/.
 
+// The bounds of document 01: places of a book, fen of a price, shares of an order, numbers of a day, and its last second.
+pub const MOST_PLACES: usize = 4_096;
+
+pub const HIGHEST_PRICE: u64 = 999_999;
+
+pub const MOST_SHARES: u64 = 1_000_000;
+
+pub const LAST_NUMBER: u64 = 999_999;
+
+pub const LAST_SECOND: u64 = 86_399;
+
 // One place of the book. A free place is all zeros.
 pub struct Order {
     pub side: u64,
@@ -127,11 +138,16 @@ pub struct ClockAnswer {
     pub day: Day,
 }
 
+// What happens on a day. An opening starts it, or starts over.
+pub enum Event {
+    Open { close: u64, mark: u64 },
+    Clock(u64),
+    Order(Asked),
+    Cancel { account: u64, number: u64 },
+}
+
 // What a line of the rehearsal program asks for.
 pub enum Command {
     Malformed,
-    Opens { close: u64, mark: u64 },
-    Moves(u64),
-    Enters(Asked),
-    Cancels { account: u64, number: u64 },
+    Asks(Event),
 }

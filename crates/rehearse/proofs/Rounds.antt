@@ -6,20 +6,21 @@ use mathlib.Core.List.{List}
 use mathlib.Core.Option.{Option}
 use native.Mathlib.Omega.{arith}
 use lib.ListN.{length, take, drop, length-take}
-use Rattle.model.specs.declared.Day.{Day}
 use Rattle.model.specs.Lines.{linesOf}
-use Rattle.model.specs.Session.{Desk}
+use Rattle.model.specs.Session as Session
 use Rattle.text.specs.declared.Carry.{Carry}
 use Rattle.text.specs.Chunks.{CarriedOver, asksOf}
 use Rattle.text.specs.Answers.{carryAfter, keptAfter}
-use Rattle.text.specs.Printing.{Wrote}
+use Rattle.printing.specs.Printing.{Wrote}
 use Rattle.text.proofs.Carrying.{drop-take}
 use Rattle.text.proofs.Sessions.{carried-after, carry-few}
-use Rattle.desk.specs.Desks.{deskOf, SoundDesk}
-use Rattle.desk.specs.declared.Progress.{Progress}
-use Rattle.desk.specs.Chunks.{pointOf, Onward, Through}
-use Rattle.desk.proofs.LineByLine.{through-desk}
-use Rattle.desk.proofs.SoundDesks.{sound-after}
+use Rattle.desk.specs.Desks.{deskOf}
+use Rattle.chunks.specs.SoundDesk.{SoundDesk}
+use Rattle.desk.specs.declared.Desk as Desk
+use Rattle.chunks.specs.declared.Progress.{Progress}
+use Rattle.chunks.specs.Points.{pointOf, Onward, Through}
+use Rattle.chunks.proofs.SoundDesks.{sound-after}
+use Rattle.chunks.proofs.LineByLine.{through-desk}
 use Rattle.rehearse.specs.declared.AfterChunk.{AfterChunk}
 use Rattle.rehearse.specs.declared.Input.{Input}
 use Rattle.rehearse.specs.declared.Input.the-variants.{Bytes}
@@ -36,8 +37,8 @@ pub put-count : {before after : List ℕ} {n : ℕ} → Wrote before 0 (take n a
 put-count w = omega (arith, w .place)
 
 module _
-    (buf after : List ℕ) (n : ℕ) (begun long : Bool) (d : Day) (rows rows′ : List (List ℕ)) (p : Progress) (c : Carry)
-    (o : Onward (take n buf) (record { desk = deskOf begun d rows; at = 0; long = long }) (pointOf p rows′))
+    (buf after : List ℕ) (n : ℕ) (k₀ : Desk.Desk) (long : Bool) (rows rows′ : List (List ℕ)) (p : Progress) (c : Carry)
+    (o : Onward (take n buf) (record { desk = deskOf k₀ rows; at = 0; long = long }) (pointOf p rows′))
     (t : Through (take n buf) (pointOf p rows′))
     (k : CarriedOver buf (take (n - p .at) (drop (p .at) buf)) (p .long) after c) where
   carried : (c ≡ carryAfter long (take n buf)) × (take (c .kept) after ≡ keptAfter long (take n buf))
@@ -46,7 +47,7 @@ module _
       (sym (drop-take (p .at) n buf) ∙ sym (o .tail ∙ t .tail))
       (sym (o .still ∙ t .still))
 
-  pub steps : Steps (take n buf) long (deskOf begun d rows) rows′ after (record { begun = p .begun; day = p .day; kept = c .kept; long = c .long; stops = false })
+  pub steps : Steps (take n buf) long (deskOf k₀ rows) rows′ after (record { desk = p .desk; kept = c .kept; long = c .long; stops = false })
   steps = record {
     desk = through-desk (take n buf) o t;
     carry = carried .0;
@@ -55,14 +56,14 @@ module _
 
 -- a chunk that was served leaves a sound desk, and keeps 79 bytes at most
 pub steps-sound :
-    {chunk : List ℕ} {long : Bool} {old : Option Desk} {rows : List (List ℕ)} {buf : List ℕ} {r : AfterChunk}
+    {chunk : List ℕ} {long : Bool} {old : Option Session.Desk} {rows : List (List ℕ)} {buf : List ℕ} {r : AfterChunk}
     → Steps chunk long old rows buf r
     → SoundDesk old
-    → SoundDesk (deskOf (r .begun) (r .day) rows)
+    → SoundDesk (deskOf (r .desk) rows)
 steps-sound {chunk} {long} {old} s k = subst SoundDesk (sym (s .desk)) (sound-after (asksOf long (linesOf chunk)) old k)
 
 pub steps-few :
-    {chunk : List ℕ} {long : Bool} {old : Option Desk} {rows : List (List ℕ)} {buf : List ℕ} {r : AfterChunk}
+    {chunk : List ℕ} {long : Bool} {old : Option Session.Desk} {rows : List (List ℕ)} {buf : List ℕ} {r : AfterChunk}
     → Steps chunk long old rows buf r
     → r .kept ≤ 79
 steps-few {chunk} {long} s = rw (ap (λ (c : Carry). c .kept) (s .carry)) (carry-few long chunk)

@@ -14,9 +14,9 @@ use Rattle.rehearse.specs.declared.AfterChunk.{AfterChunk}
 use Rattle.rehearse.specs.declared.Input.{Input}
 use Rattle.rehearse.specs.declared.Input.the-variants.{Failed, Ended, Bytes}
 
--- the desk behind the lines that end in the chunk, the carry, and the bytes that it keeps at the buffer's front
+-- the desk after the lines that end in the chunk, the carry, and the bytes that it keeps at the buffer's front
 pub record Steps (chunk : List ℕ) (long : Bool) (old : Option Desk) (rows : List (List ℕ)) (buf : List ℕ) (r : AfterChunk) : Type 0 where
-  pub desk : deskOf (r .begun) (r .day) rows ≡ deskAfter (asksOf long (linesOf chunk)) old
+  pub desk : deskOf (r .desk) rows ≡ deskAfter (asksOf long (linesOf chunk)) old
   pub carry : record { kept = r .kept; long = r .long } ≡ carryAfter long chunk
   pub kept : take (r .kept) buf ≡ keptAfter long chunk
 

@@ -3,12 +3,11 @@
 mod memory;
 mod serving;
 
-use model::Day;
+use desk::Desk;
 
-// What goes from chunk to chunk: the desk's mark and day, the carry, and whether the program stops here.
+// What goes from chunk to chunk: the desk, the carry, and whether the program stops here.
 pub struct AfterChunk {
-    pub begun: bool,
-    pub day: Day,
+    pub desk: Desk,
     pub kept: usize,
     pub long: bool,
     pub stops: bool,

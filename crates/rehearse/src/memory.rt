@@ -1,37 +1,26 @@
 // The memory that the program lends. Only the lengths matter: lending an array as a slice needs its own.
-use model::Day;
+use desk::LENT_PLACES;
+use desk::LENT_TRADES;
 ghost use mathlib.Core.Path.{_≡_};
 ghost use lib.ListN.{length};
 
-pub fn places() -> [[u64; 5]; 1024]
+// Room for the replies to many lines, and always for the longest answer.
+const OUTPUT: usize = 393_216;
+
+pub fn places() -> [[u64; 5]; LENT_PLACES]
     ensures { λ r. ⌜ 1024 ≡ length r ⌝ }
 {
-    [[0; 5]; 1024]
+    [[0; 5]; LENT_PLACES]
 }
 
-pub fn trade_list() -> [[u64; 6]; 2048]
+pub fn trade_list() -> [[u64; 6]; LENT_TRADES]
     ensures { λ r. ⌜ 2048 ≡ length r ⌝ }
 {
-    [[0; 6]; 2048]
+    [[0; 6]; LENT_TRADES]
 }
 
-// Room for the replies to many lines, and always for one more: 262,254 bytes.
-pub fn output() -> [u8; 393216]
+pub fn output() -> [u8; OUTPUT]
     ensures { λ r. ⌜ 393216 ≡ length r ⌝ }
 {
-    [0; 393216]
-}
-
-// Stands for the day until one is open.
-pub fn no_day() -> Day {
-    Day {
-        close: 0,
-        limited: 0,
-        time: 0,
-        issued: 0,
-        shares: 0,
-        turnover: 0,
-        first: 0,
-        last: 0,
-    }
+    [0; OUTPUT]
 }

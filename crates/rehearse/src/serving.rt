@@ -2,22 +2,23 @@
 // written; what lies between is the definitions' step from chunk to chunk.
 use crate::AfterChunk;
 use crate::Input;
-use crate::memory::no_day;
 use crate::memory::output;
 use crate::memory::places;
 use crate::memory::trade_list;
-use desk::Progress;
-use desk::chunks::answer_lines;
+use chunks::Progress;
+use chunks::answer_lines;
+use desk::Desk;
+use printing::put_refusal;
 use text::Carry;
-use text::printing::put_refusal;
 use text::reading::carry_over;
 use text::reading::is_left;
 ghost use mathlib.Core.Path.{_≡_};
 ghost use mathlib.Core.Bool.{true, false};
 ghost use Prim.Native.Nat.{_≤_};
 ghost use lib.ListN.{length, take};
-ghost use Rattle.desk.specs.Desks.{deskOf, SoundDesk};
-ghost use Rattle.desk.specs.Chunks.{pointOf, Onward, Through};
+ghost use Rattle.desk.specs.Desks.{deskOf};
+ghost use Rattle.chunks.specs.SoundDesk.{SoundDesk};
+ghost use Rattle.chunks.specs.Points.{pointOf, Onward, Through};
 ghost use Rattle.rehearse.specs.Serving.{Steps, filled};
 
 fn stopped(h: AfterChunk) -> AfterChunk
@@ -48,7 +49,7 @@ fn answer_chunk(
     chunk: &[u8],
     out: &mut [u8],
 ) -> Progress
-    requires { ⌜ (length (now rows) ≡ 1024) × (length (now trades) ≡ 2048) × (262254 ≤ length (now out)) × (from .at ≤ length (now chunk)) × SoundDesk (deskOf (from .begun) (from .day) (now rows)) ⌝ }
+    requires { ⌜ (length (now rows) ≡ 1024) × (length (now trades) ≡ 2048) × (262254 ≤ length (now out)) × (from .at ≤ length (now chunk)) × SoundDesk (deskOf (from .desk) (now rows)) ⌝ }
     ensures { λ r. ⌜ (r .done ≡ true → Onward (now (chunk .entry)) (pointOf from (now (rows .entry))) (pointOf r (now (rows .exit))) × Through (now (chunk .entry)) (pointOf r (now (rows .exit)))) ⌝ }
 {
     let mut p = from;
@@ -68,19 +69,18 @@ fn answer_chunk(
 // Serves the first n bytes of the buffer as a chunk, and keeps its tail at the buffer's front.
 fn serve(
     h: AfterChunk,
-    n: usize,
     rows: &mut [[u64; 5]],
     trades: &mut [[u64; 6]],
     buf: &mut [u8],
+    n: usize,
     out: &mut [u8],
 ) -> AfterChunk
-    requires { ⌜ (length (now rows) ≡ 1024) × (length (now trades) ≡ 2048) × (262254 ≤ length (now out)) × (n ≤ length (now buf)) × SoundDesk (deskOf (h .begun) (h .day) (now rows)) ⌝ }
-    ensures { λ r. ⌜ (r .stops ≡ false → Steps (take n (now (buf .entry))) (h .long) (deskOf (h .begun) (h .day) (now (rows .entry))) (now (rows .exit)) (now (buf .exit)) r) ⌝ }
+    requires { ⌜ (length (now rows) ≡ 1024) × (length (now trades) ≡ 2048) × (262254 ≤ length (now out)) × (n ≤ length (now buf)) × SoundDesk (deskOf (h .desk) (now rows)) ⌝ }
+    ensures { λ r. ⌜ (r .stops ≡ false → Steps (take n (now (buf .entry))) (h .long) (deskOf (h .desk) (now (rows .entry))) (now (rows .exit)) (now (buf .exit)) r) ⌝ }
 {
-    let day = h.day;
+    let desk = h.desk;
     let from = Progress {
-        begun: h.begun,
-        day,
+        desk,
         at: 0,
         long: h.long,
         next: 0,
@@ -92,17 +92,16 @@ fn serve(
     }
     let at = p.at;
     let c = carry_over(buf, at, n, p.long);
-    let next = p.day;
+    let next = p.desk;
     AfterChunk {
-        begun: p.begun,
-        day: next,
+        desk: next,
         kept: c.kept,
         long: c.long,
         stops: false,
     }
 }
 
-// Reads once, behind what was kept.
+// Reads once, after what was kept.
 fn fill(buf: &mut [u8], kept: usize) -> Input
     requires { ⌜ kept ≤ length (now buf) ⌝ }
     ensures { λ r. ⌜ filled (length (now (buf .exit))) r ⌝ }
@@ -130,7 +129,7 @@ fn finish(h: AfterChunk, out: &mut [u8]) -> AfterChunk
     if !is_left(carry) {
         return stopped(h);
     }
-    let n = put_refusal(out, 0, 16);
+    let n = put_refusal(16, out, 0);
     reply(&out[..n]);
     stopped(h)
 }
@@ -143,8 +142,8 @@ fn turn(
     buf: &mut [u8],
     out: &mut [u8],
 ) -> AfterChunk
-    requires { ⌜ (length (now rows) ≡ 1024) × (length (now trades) ≡ 2048) × (262254 ≤ length (now out)) × (h .kept ≤ 79) × (80 ≤ length (now buf)) × SoundDesk (deskOf (h .begun) (h .day) (now rows)) ⌝ }
-    ensures { λ r. ⌜ (r .stops ≡ false → (r .kept ≤ 79) × SoundDesk (deskOf (r .begun) (r .day) (now (rows .exit)))) ⌝ }
+    requires { ⌜ (length (now rows) ≡ 1024) × (length (now trades) ≡ 2048) × (262254 ≤ length (now out)) × (h .kept ≤ 79) × (80 ≤ length (now buf)) × SoundDesk (deskOf (h .desk) (now rows)) ⌝ }
+    ensures { λ r. ⌜ (r .stops ≡ false → (r .kept ≤ 79) × SoundDesk (deskOf (r .desk) (now (rows .exit)))) ⌝ }
 {
     let kept = h.kept;
     let input = fill(buf, kept);
@@ -157,7 +156,7 @@ fn turn(
             stopped(h)
         }
         Input::Ended => finish(h, out),
-        Input::Bytes(n) => serve(h, n, rows, trades, buf, out),
+        Input::Bytes(n) => serve(h, rows, trades, buf, n, out),
     }
 }
 
@@ -169,8 +168,7 @@ pub fn run() {
     let mut buf = io::large_buffer();
     let mut out = output();
     let mut h = AfterChunk {
-        begun: false,
-        day: no_day(),
+        desk: Desk::Closed,
         kept: 0,
         long: false,
         stops: false,

@@ -1,18 +1,17 @@
--- What is printed fits the buffer: a line of a letter and up to five numbers, also behind sixteen trades. Assumes nothing.
+-- What is printed fits the buffer: a line of a letter and up to five numbers, also after sixteen trades. Assumes nothing.
 use Prim.Native.Nat.{ℕ, _+_, _≤_}
 use mathlib.Core.Path.{_≡_}
 use mathlib.Core.List.{List}
 use native.Mathlib.Omega.{arith}
-use lib.ListN.{length, take, length-take}
+use lib.ListN.{length, take}
 use Rattle.model.specs.Lines.{reply, tradeLines}
 use Rattle.book.specs.Rows.{tradesOf}
-use Rattle.text.specs.Printing.{Wrote}
-use Rattle.text.proofs.Printed.{put-long, reply-fits}
-use Rattle.text.proofs.Replied.{trades-room}
+use Rattle.printing.specs.Printing.{Wrote}
+use Rattle.printing.proofs.Printed.{put-long, reply-fits}
+use Rattle.printing.proofs.Replied.{trades-room}
 
-pub reply-short : (letter n : ℕ) (numbers : List ℕ) → n ≤ 5 → length (reply letter (take n numbers)) ≤ 110
-reply-short letter n numbers h =
-    omega (arith, reply-fits letter (take n numbers), length-take n numbers, h)
+pub reply-short : (letter : ℕ) (numbers : List ℕ) → length numbers ≤ 5 → length (reply letter numbers) ≤ 110
+reply-short letter numbers h = omega (arith, reply-fits letter numbers, h)
 
 pub room-behind :
     (rows : List (List ℕ)) (n : ℕ) {out out′ : List ℕ} {p : ℕ}

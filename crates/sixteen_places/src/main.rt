@@ -1,23 +1,24 @@
 // Document 01's session on a book of sixteen order records. Each reply is printed as the rehearsal program prints it; besides, the
 // book after the orders of the opening call with the auction's report and prices then, before the cancels, and at the end.
-mod printing;
+mod showing;
 
 use book::places::free_place;
 use lent::Answer;
-use lent::Event;
+use lent::OnDay;
 use lent::Question;
 use lent::sixteen::ask_on_sixteen;
 use lent::sixteen::take_on_sixteen;
 use model::Asked;
 use model::Day;
+use model::Event;
 use model::OpenReply;
 use model::Order;
-use printing::print_answer;
-use printing::print_book;
-use printing::print_told;
+use showing::print_answer;
+use showing::print_book;
+use showing::print_told;
 ghost use mathlib.Core.Path.{_≡_};
 ghost use Rattle.book.specs.Rows.{tradesOf};
-ghost use Rattle.lent.specs.Calls.{eventCall};
+ghost use Rattle.lent.specs.Calls.{callOf};
 ghost use Rattle.sixteen_places.specs.Lists.{noTrades};
 
 // The day and its book.
@@ -29,23 +30,24 @@ pub struct Stand {
 // The day as an answer leaves it.
 fn day_after(day: Day, answer: Answer) -> Day {
     match answer {
-        Answer::Opened(reply) => match reply {
+        Answer::Open(reply) => match reply {
             OpenReply::Refused(_) => day,
             OpenReply::Opened(fresh) => fresh,
         },
-        Answer::Moved(moved) => moved.day,
-        Answer::Entered(entered) => entered.day,
-        Answer::Cancelled(_) => day,
+        Answer::Clock(moved) => moved.day,
+        Answer::Order(entered) => entered.day,
+        Answer::Cancel(_) => day,
     }
 }
 
 // One event: it is answered, the answer is printed, and day and book are those after it.
 fn step(s: Stand, event: Event) -> Stand
-    ensures { λ r. ⌜ r .book ≡ eventCall event (s .book) (tradesOf noTrades) .book ⌝ }
+    ensures { λ r. ⌜ r .book ≡ callOf event (s .day) (s .book) (tradesOf noTrades) .book ⌝ }
 {
     let mut trades = [[0u64; 6]; 16];
+    let day = s.day;
     let book = s.book;
-    let handed = take_on_sixteen(book, &mut trades, event);
+    let handed = take_on_sixteen(book, &mut trades, OnDay { day, event });
     let answer = handed.answer;
     print_answer(event, answer, &trades);
     let after = handed.book;
@@ -56,29 +58,19 @@ fn step(s: Stand, event: Event) -> Stand
 }
 
 fn open(s: Stand, close: u64, mark: u64) -> Stand {
-    step(s, Event::Opens { close, mark })
+    step(s, Event::Open { close, mark })
 }
 
-fn wait(s: Stand, time: u64) -> Stand {
-    let day = s.day;
-    step(s, Event::Moves { day, time })
+fn clock(s: Stand, time: u64) -> Stand {
+    step(s, Event::Clock(time))
 }
 
-fn enter(s: Stand, asked: Asked) -> Stand {
-    let day = s.day;
-    step(s, Event::Enters { day, asked })
+fn order(s: Stand, asked: Asked) -> Stand {
+    step(s, Event::Order(asked))
 }
 
 fn cancel(s: Stand, account: u64, number: u64) -> Stand {
-    let day = s.day;
-    step(
-        s,
-        Event::Cancels {
-            day,
-            account,
-            number,
-        },
-    )
+    step(s, Event::Cancel { account, number })
 }
 
 // What an auction held now would do, with room for eight prices.
@@ -89,14 +81,14 @@ fn ask(s: Stand, question: Question) {
     print_told(told, &prices);
 }
 
-fn ask_report(s: Stand) {
+fn report(s: Stand) {
     let day = s.day;
     ask(s, Question::Report(day));
 }
 
-fn ask_prices(s: Stand, asked: u64) {
+fn list(s: Stand, asked: u64) {
     let day = s.day;
-    ask(s, Question::Prices { day, asked });
+    ask(s, Question::List { day, asked });
 }
 
 // The session's orders name no balance.
@@ -130,19 +122,19 @@ fn before_the_day() -> Stand {
 
 fn main() {
     let mut s = open(before_the_day(), 1000, 1);
-    s = wait(s, 33_300);
-    s = enter(s, asked(0, 0, 7, 200, 1010));
-    s = enter(s, asked(1, 0, 8, 300, 990));
+    s = clock(s, 33_300);
+    s = order(s, asked(0, 0, 7, 200, 1010));
+    s = order(s, asked(1, 0, 8, 300, 990));
     print_book(s);
-    ask_report(s);
-    ask_prices(s, 1);
-    s = wait(s, 33_600);
+    report(s);
+    list(s, 1);
+    s = clock(s, 33_600);
     s = cancel(s, 7, 1);
-    s = wait(s, 34_200);
-    s = enter(s, asked(0, 1, 9, 150, 1300));
+    s = clock(s, 34_200);
+    s = order(s, asked(0, 1, 9, 150, 1300));
     print_book(s);
     s = cancel(s, 9, 3);
     s = cancel(s, 9, 3);
-    s = wait(s, 54_000);
+    s = clock(s, 54_000);
     print_book(s);
 }

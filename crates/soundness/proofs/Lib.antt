@@ -7,3 +7,4 @@ pub mod Onward
 pub mod Totals
 pub mod Numbers
 pub mod Stages
+pub mod Readiness

@@ -107,7 +107,7 @@ module _ (d : Day) (used : List ℕ) (o : Order) (os : List Order) where
       (says-still d used (o ∷ os))
 
 -- a place bears no number that is not issued
-issued-number : (d : Day) (o : Order) → Place d o → o .number ≤ d .issued
+pub issued-number : (d : Day) (o : Order) → Place d o → o .number ≤ d .issued
 issued-number d o p =
     ⊎-elim (λ e. omega (arith, ap (λ (x : Order). x .number) e, free-number)) (λ (r : Rests d o). r .issued) p
 

@@ -20,6 +20,7 @@ use Rattle.book.proofs.Lists.{each, both}
 use Rattle.book.proofs.Kept.{New, fair-free, free-number}
 use Rattle.book.proofs.Orderly.{told-ordered, ordered-told}
 use Rattle.soundness.specs.SoundDay.{Rests, Place, Empty, SoundDay}
+use Rattle.soundness.proofs.Numbers.{issued-number}
 use Rattle.soundness.proofs.Says.{Says, says-and, says-unless, says-too, says-not, says-all}
 use Rattle.soundness.proofs.Clauses.{says-place, says-between, says-empty, says-apart, says-crosses, says-figures, says-fit, says-traded, says-turnover}
 
@@ -159,13 +160,10 @@ ranked d book e =
 
 -- ---- the next number is new
 
-issued-by : (d : Day) (o : Order) → Place d o → o .number ≤ d .issued
-issued-by d o p = ⊎-elim (λ e. omega (arith, no-number o e)) (λ (r : Rests d o). r .issued) p
-
 pub next-new : (d : Day) (book : List Order) → SoundDay d book → New (nextNumber d) book
 unfolding nextNumber
 next-new d book s =
     record {
       real = λ z. omega arith;
-      fresh = each (Place d) (λ o. o .number ≡ suc (d .issued) → ⊥) book (λ o h z. omega (arith, issued-by d o h)) (s .places);
+      fresh = each (Place d) (λ o. o .number ≡ suc (d .issued) → ⊥) book (λ o h z. omega (arith, issued-number d o h)) (s .places);
     }

@@ -6,6 +6,10 @@ ghost use lib.Dec.{leb, eqb};
 ghost use Rattle.model.specs.Sound.{soundFigures, between, pricesFit, turnoverFits};
 use limits::is_price;
 use model::Day;
+use model::HIGHEST_PRICE;
+use model::LAST_NUMBER;
+use model::LAST_SECOND;
+use model::MOST_SHARES;
 
 pub fn sound_figures(day: Day) -> bool
     ensures { λ r. ⌜ r ≡ soundFigures day ⌝ }
@@ -16,29 +20,20 @@ pub fn sound_figures(day: Day) -> bool
     if day.limited > 1 {
         return false;
     }
-    if day.time > 86_399 {
-        return false;
-    }
-    day.issued <= 999_999
+    day.time <= LAST_SECOND && day.issued <= LAST_NUMBER
 }
 
 pub fn is_between(least: u64, most: u64, n: u64) -> bool
     ensures { λ r. ⌜ r ≡ between least most n ⌝ }
 {
-    if n < least {
-        return false;
-    }
-    n <= most
+    least <= n && n <= most
 }
 
 // A book in which shares rest stands from 33,300 up to 54,000 only.
 pub fn fits_hours(time: u64, resting: u64) -> bool
     ensures { λ r. ⌜ r ≡ (between 33_300 53_999 time || eqb resting 0) ⌝ }
 {
-    if is_between(33_300, 53_999, time) {
-        return true;
-    }
-    resting == 0
+    is_between(33_300, 53_999, time) || resting == 0
 }
 
 // Twice the shares traded plus all resting shares is at most 1,000,000 times the numbers issued. More than half of that
@@ -50,7 +45,7 @@ pub fn shares_fit(day: Day, resting: u64) -> bool
     if 500_000 * day.issued < day.shares {
         return false;
     }
-    2 * day.shares + resting <= 1_000_000 * day.issued
+    2 * day.shares + resting <= MOST_SHARES * day.issued
 }
 
 // Last and first trade are both 0 when no share traded, else both prices.
@@ -74,8 +69,5 @@ pub fn turnover_fits(day: Day) -> bool
     requires { ⌜ day .shares ≤ 500_000_000_000 ⌝ }
     ensures { λ r. ⌜ r ≡ turnoverFits day ⌝ }
 {
-    if day.turnover < day.shares {
-        return false;
-    }
-    day.turnover <= 999_999 * day.shares
+    day.shares <= day.turnover && day.turnover <= HIGHEST_PRICE * day.shares
 }

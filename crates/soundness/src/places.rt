@@ -17,16 +17,15 @@ use book::seats::best_price;
 use limits::in_band;
 use limits::is_price;
 use model::Day;
+use model::MOST_PLACES;
+use model::MOST_SHARES;
 use model::Order;
 
 // 1 to 4,096 places.
 pub fn has_places(rows: &[[u64; 5]]) -> bool
     ensures { λ r. ⌜ r ≡ hasPlaces (bookOf (now (rows .entry))) ⌝ }
 {
-    if rows.len() < 1 {
-        return false;
-    }
-    rows.len() <= 4_096
+    1 <= rows.len() && rows.len() <= MOST_PLACES
 }
 
 // A price, and in the band on limited days.
@@ -73,7 +72,7 @@ fn is_order(day: Day, o: Order) -> bool
     if o.account == 0 {
         return false;
     }
-    if !is_between(1, 1_000_000, o.left) {
+    if !is_between(1, MOST_SHARES, o.left) {
         return false;
     }
     if !may_stand(day, o.price) {
@@ -86,23 +85,27 @@ fn place_is_sound(day: Day, o: Order) -> bool
     requires { ⌜ isPrice (day .close) ≡ true ⌝ }
     ensures { λ r. ⌜ r ≡ (isFree o || isOrder day o) ⌝ }
 {
-    if is_free(o) {
-        return true;
-    }
-    is_order(day, o)
+    is_free(o) || is_order(day, o)
 }
 
-// Maps with no number in them: of 0 to 65,535, and of 0 to 999,999.
-fn few_numbers() -> [u64; 1_024]
+// Maps of numbers, 64 to a word: of 0 to 65,535, and of all.
+const FEW_WORDS: usize = 1_024;
+
+const ALL_WORDS: usize = 15_625;
+
+const LAST_OF_FEW: u64 = 65_535;
+
+// They start with no number in them.
+fn few_numbers() -> [u64; FEW_WORDS]
     ensures { λ r. ⌜ r ≡ noNumbers 1_024 ⌝ }
 {
-    [0; 1_024]
+    [0; FEW_WORDS]
 }
 
-fn all_numbers() -> [u64; 15_625]
+fn all_numbers() -> [u64; ALL_WORDS]
     ensures { λ r. ⌜ r ≡ noNumbers 15_625 ⌝ }
 {
-    [0; 15_625]
+    [0; ALL_WORDS]
 }
 
 // Whether an order's number was used at a place before.
@@ -141,7 +144,7 @@ pub fn sound_places(day: Day, rows: &[[u64; 5]]) -> bool
     requires { ⌜ soundFigures day ≡ true ⌝ }
     ensures { λ r. ⌜ r ≡ (all (λ o. isFree o || isOrder day o) (bookOf (now (rows .entry))) && ownNumbers (bookOf (now (rows .entry)))) ⌝ }
 {
-    if day.issued <= 65_535 {
+    if day.issued <= LAST_OF_FEW {
         let mut used = few_numbers();
         return places_with(&mut used[..], day, rows);
     }

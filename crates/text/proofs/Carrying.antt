@@ -14,8 +14,8 @@ use Rattle.model.specs.declared.Command.{Command}
 use Rattle.model.specs.declared.Command.the-variants.{Malformed}
 use Rattle.model.specs.Lines.{linesOf, lineCommand}
 use Rattle.text.specs.declared.Carry.{Carry}
-use Rattle.text.specs.Chunks.{carryOf, CarriedOver, isLeft, behindFirst, commandsFrom}
-use Rattle.text.proofs.Forms.{unended-is, long-is}
+use Rattle.text.specs.Chunks.{carryOf, CarriedOver, isLeft, afterFirst, commandsFrom}
+use Rattle.parsing.proofs.Forms.{unended-is, long-is}
 use Rattle.text.proofs.Chunks.{Unended, ontoAll, grown-first, firstText, firstEnded, lines-grow}
 
 -- ---- bytes moved to the front
@@ -93,7 +93,7 @@ module _ (more : List ℕ) where
   long-now [] u h = absurd (omega arith)
   long-now (b ∷ t) u h =
       rw (lines-grow (b ∷ t) more u, grown-first b t (linesOf more))
-      (ap (λ (c : Command). c ∷ map lineCommand (behindFirst (linesOf more)))
+      (ap (λ (c : Command). c ∷ map lineCommand (afterFirst (linesOf more)))
       (sym (long-is ((b ∷ t) ++ firstText (linesOf more)) (firstEnded (linesOf more)) (rw length-append (omega arith)))))
 
   pub carried :

@@ -17,7 +17,7 @@ use Rattle.model.specs.Lines.{Line, onto, linesOf, lineCommand}
 use Rattle.book.specs.Standing.{Each}
 use Rattle.text.specs.declared.Bounds as Bounds
 use Rattle.text.specs.declared.NextCommand as NextCommand
-use Rattle.text.specs.Chunks.{asksOf, tailOf, tailLong, boundsAt, nextLine, asksAfter, commandAt, nextCommand, behindFirst}
+use Rattle.text.specs.Chunks.{asksOf, tailOf, tailLong, boundsAt, nextLine, asksAfter, commandAt, nextCommand, afterFirst}
 
 -- ---- looking for the newline, byte by byte
 
@@ -78,13 +78,13 @@ firstEnded (l ∷ ls) = l .ended
 abbrev pub grown : List ℕ → List Line → Line
 grown t ls = record { text = t ++ firstText ls; ended = firstEnded ls }
 
-pub grown-first : (b : ℕ) (t : List ℕ) (ls : List Line) → ontoAll (b ∷ t) ls ≡ grown (b ∷ t) ls ∷ behindFirst ls
+pub grown-first : (b : ℕ) (t : List ℕ) (ls : List Line) → ontoAll (b ∷ t) ls ≡ grown (b ∷ t) ls ∷ afterFirst ls
 unfolding ontoAll onto
 grown-first b [] [] = refl
 grown-first b [] (l ∷ ls) = refl
 grown-first b (d ∷ t) ls = rw (grown-first d t ls)
 
--- an input cut at its newlines: each line's bytes, and those behind the last newline
+-- an input cut at its newlines: each line's bytes, and those after the last newline
 pub data Cut : List ℕ → Type 0 where
   cut : {s : List ℕ} (t rest : List ℕ) → Unended t → s ≡ t ++ 10 ∷ rest → Cut rest → Cut s
   uncut : {s : List ℕ} → Unended s → Cut s
@@ -153,7 +153,7 @@ module _ (chunk : List ℕ) (at : ℕ) where
     unfolding nextCommand commandAt
     command-cut long = rw (nextCommand, first-ended)
 
-    -- the text is the part of the chunk from `at` on, and the newline behind it stands in the chunk
+    -- the text is the part of the chunk from `at` on, and the newline after it stands in the chunk
     first-text : take (length t) there ≡ t
     first-text = ap (λ (l : List ℕ). take (length t) l) e ∙ take-at t (10 ∷ rest) (length t) refl
 
@@ -162,8 +162,8 @@ module _ (chunk : List ℕ) (at : ℕ) where
         let h : length there ≡ length t + suc (length rest) = ap length e ∙ length-append t (10 ∷ rest) in
         omega (arith, length-drop at chunk)
 
-    first-behind : drop (at + length t + 1) chunk ≡ rest
-    first-behind =
+    after-first : drop (at + length t + 1) chunk ≡ rest
+    after-first =
         let n : at + length t + 1 ≡ at + (length t + 1) = omega arith in
         ap (λ (k : ℕ). drop k chunk) n
         ∙ sym (drop-drop (length t + 1) at chunk)
@@ -231,7 +231,7 @@ module _ (chunk : List ℕ) (at : ℕ) where
       go (cut t rest u e _) = let q = sym (line-cut t rest u e) ∙ p in let z : _≡_ {A = ℕ} 0 1 = cc in absurd (omega arith)
       go (uncut u) = command-uncut long u
 
-  -- a line that was taken: the chunk asks for it, and then for what stands behind it
+  -- a line that was taken: the chunk asks for it, and then for what stands after it
   pub record Taken (long : Bool) (command : Command) (place : ℕ) : Type 0 where
     pub onward : at < place
     pub inside : place ≤ length chunk
@@ -254,7 +254,7 @@ module _ (chunk : List ℕ) (at : ℕ) where
           let w = first-within t rest u e in
           let l : linesOf there ≡ first t rest u e ∷ linesOf (drop place chunk) =
           first-ended t rest u e
-          ∙ ap (λ (s : List ℕ). first t rest u e ∷ linesOf s) (sym (first-behind t rest u e) ∙ ap (λ (k : ℕ). drop k chunk) g)
+          ∙ ap (λ (s : List ℕ). first t rest u e ∷ linesOf s) (sym (after-first t rest u e) ∙ ap (λ (k : ℕ). drop k chunk) g)
           in
           record {
             onward = omega arith;

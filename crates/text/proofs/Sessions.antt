@@ -15,7 +15,7 @@ use Rattle.text.specs.Answers.{repliesTo, deskAfter, carryAfter, keptAft
 use Rattle.text.proofs.Chunks.{Unended, Cut, cut, uncut, cut-up, ontoAll, lines-ended, lines-open, open-asks, open-tail, open-long}
 use Rattle.text.proofs.Carrying.{kept-fits, kept-few, carried, ended}
 
--- ---- answers one behind the other
+-- ---- answers one after the other
 
 pub replies-append :
     (cs ds : List Command) (desk : Option Desk)
@@ -36,20 +36,6 @@ unfolding session commandsFrom
 session-is input = answers-are (linesOf input) none
 
 -- ---- an input in two parts
-
-at-newline : (b s : List ℕ) → Cut s → linesOf (s ++ 10 ∷ b) ≡ linesOf (s ++ 10 ∷ []) ++ linesOf b
-unfolding linesOf
-at-newline b s (cut t rest u e c) =
-    front b
-    ∙ ap (λ (ls : List Line). record { text = t; ended = true } ∷ ls) (at-newline b rest c)
-    ∙ sym (ap (λ (ls : List Line). ls ++ linesOf b) (front []))
-  where
-    front : (x : List ℕ) → linesOf (s ++ 10 ∷ x) ≡ record { text = t; ended = true } ∷ linesOf (rest ++ 10 ∷ x)
-    front x =
-        ap (λ (l : List ℕ). linesOf (l ++ 10 ∷ x)) e
-        ∙ ap linesOf (append-assoc t (10 ∷ rest) (10 ∷ x))
-        ∙ lines-ended t (rest ++ 10 ∷ x) u
-at-newline b s (uncut u) = lines-ended s b u ∙ sym (ap (λ (ls : List Line). ls ++ linesOf b) (lines-ended s [] u))
 
 from-ended :
     (long : Bool) (t rest : List ℕ)

@@ -30,7 +30,7 @@ carryAfter long chunk = carryOf (tailLong long (linesOf chunk)) (tailOf (linesOf
 unfoldable pub keptAfter : Bool → List ℕ → List ℕ
 keptAfter long chunk = take (carryAfter long chunk .kept) (tailOf (linesOf chunk))
 
--- each chunk is read behind what was kept; at the end an unended line is one refusal
+-- each chunk is read after what was kept; at the end an unended line is one refusal
 unfoldable pub chunkwise : Carry → List ℕ → Option Desk → List (List ℕ) → List ℕ
 chunkwise c kept desk [] = repliesTo (if isLeft c then Malformed ∷ [] else []) desk
 chunkwise c kept desk (b ∷ bs) =

@@ -52,14 +52,14 @@ pub record CarriedOver (before tail : List ℕ) (long : Bool) (after : List ℕ)
 abbrev pub isLeft : Carry → Bool
 isLeft c = c .long || ltb 0 (c .kept)
 
-abbrev pub behindFirst : List Line → List Line
-behindFirst [] = []
-behindFirst (l ∷ ls) = ls
+abbrev pub afterFirst : List Line → List Line
+afterFirst [] = []
+afterFirst (l ∷ ls) = ls
 
 -- what the rest of an input asks for, of whose first line a part that was too long may be gone
 unfoldable pub commandsFrom : Bool → List ℕ → List Command
 commandsFrom false input = map lineCommand (linesOf input)
-commandsFrom true input = Malformed ∷ map lineCommand (behindFirst (linesOf input))
+commandsFrom true input = Malformed ∷ map lineCommand (afterFirst (linesOf input))
 
 -- ---- a chunk as a whole
 

@@ -1,5 +1,3 @@
--- What the program's functions on text say, in terms of the definitions' lines.
-pub mod Words
-pub mod Printing
+-- What the reading of chunks says, in terms of the definitions' lines.
 pub mod Chunks
 pub mod Answers

@@ -1,16 +1,7 @@
-// The lines of the rehearsal program: what a line asks for, how replies are printed, and where lines end in the chunks that
-// are read.
-pub mod parsing;
-pub mod printing;
+// The chunks that are read: where their lines end, what a line asks for, and what goes over to the next chunk.
 pub mod reading;
 
 use model::Command;
-
-// A word as a decimal, if it is one.
-pub enum Number {
-    Is(u64),
-    Bad,
-}
 
 // Where the next line of a chunk stands, without its newline; the chunk's tail has none.
 pub enum Bounds {
@@ -18,7 +9,7 @@ pub enum Bounds {
     Tail,
 }
 
-// What the next line of a chunk asks for, and the place behind its newline.
+// What the next line of a chunk asks for, and the place after its newline.
 pub enum NextCommand {
     Found { command: Command, place: usize },
     Tail,

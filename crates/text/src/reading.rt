@@ -7,8 +7,9 @@ ghost use Rattle.text.specs.Chunks.{nextLine, nextCommand, isLeft, Carri
 use crate::Bounds;
 use crate::Carry;
 use crate::NextCommand;
-use crate::parsing::command_of;
 use model::Command;
+use parsing::LONGEST_LINE;
+use parsing::command_of;
 
 // Looks for the next newline.
 fn scan(chunk: &[u8], at: usize) -> Bounds
@@ -85,14 +86,8 @@ pub fn carry_over(buf: &mut [u8], start: usize, end: usize, long: bool) -> Carry
     requires { ⌜ (start ≤ end) × (end ≤ length (now buf)) ⌝ }
     ensures { λ r. ⌜ CarriedOver (now (buf .entry)) (take (end - start) (drop start (now (buf .entry)))) long (now (buf .exit)) r ⌝ }
 {
-    let left = end - start;
-    if long {
-        return Carry {
-            kept: 0,
-            long: true,
-        };
-    }
-    if 79 < left {
+    let rest = end - start;
+    if long || LONGEST_LINE < rest {
         return Carry {
             kept: 0,
             long: true,
@@ -100,7 +95,7 @@ pub fn carry_over(buf: &mut [u8], start: usize, end: usize, long: bool) -> Carry
     }
     to_front(buf, start, end);
     Carry {
-        kept: left,
+        kept: rest,
         long: false,
     }
 }
@@ -109,8 +104,5 @@ pub fn carry_over(buf: &mut [u8], start: usize, end: usize, long: bool) -> Carry
 pub fn is_left(carry: Carry) -> bool
     ensures { λ r. ⌜ r ≡ isLeft carry ⌝ }
 {
-    if carry.long {
-        return true;
-    }
-    0 < carry.kept
+    carry.long || 0 < carry.kept
 }

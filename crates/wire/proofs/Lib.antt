@@ -1,16 +1,6 @@
--- The laws of the layout, and of the calls on bytes.
-pub mod Digits
-pub mod Runs
-pub mod Sizes
-pub mod Rows
-pub mod Stored
-pub mod Back
-pub mod Signs
+-- The laws of the calls on bytes of any length.
 pub mod Refused
-pub mod Rooms
-pub mod Cancels
-pub mod Openings
-pub mod Reports
-pub mod PriceList
-pub mod Traded
+pub mod Trades
+pub mod Changes
+pub mod Readings
 pub mod Determined

@@ -1,13 +1,10 @@
 -- What each call leaves in memory, as bytes: the number that it returns, and every slice that it may write. A day of another
 -- length than 64 bytes is refused before anything else.
-use Prim.Native.Nat.{ℕ, suc, _/_, _-_, _^_}
-use mathlib.Core.Path.{_≡_}
+use Prim.Native.Nat.{ℕ}
 use mathlib.Core.Bool.{Bool}
-use mathlib.Core.List.{List, map}
-use lib.ListN.{length, getD, take}
-use lib.IntN.{ℤ, pos, negsuc}
+use mathlib.Core.List.{List}
+use lib.ListN.{length}
 use lib.Dec.{eqb}
-use Rattle.model.specs.declared.Order.{Order}
 use Rattle.model.specs.declared.Asked.{Asked}
 use Rattle.model.specs.declared.Day.{Day}
 use Rattle.model.specs.declared.OrderReply as OrderReply
@@ -22,35 +19,12 @@ use Rattle.model.specs.Choice.{if_then_else_}
 use Rattle.model.specs.Calls.{Outcome, orderCall, OpenOutcome, openCall, CancelOutcome, cancelCall}
 use Rattle.model.specs.ClockCall.{clockCall}
 use Rattle.model.specs.AuctionCalls.{reportCall, ListOutcome, listCall}
-use Rattle.model.specs.Replies.{openNumbers, orderNumbers, cancelNumbers, clockNumbers, reportNumbers, listNumbers}
-use Rattle.book.specs.Writing.{fitted}
-use Rattle.auction.specs.declared.Listed.{Listed}
-use Rattle.auction.specs.Fitting.{listed}
-use Rattle.wire.specs.Layout.{bytes, dayIn, dayBytes, bookIn, bookBytes, tradesIn, tradesBytes, pricesIn, over}
-
--- a reply in its buffer: as many whole numbers as it holds, the rest of it stays
-unfoldable pub replied : List ℕ → List ℕ → List ℕ
-replied ns reply = over (bytes (take (length reply / 8) ns)) reply
-
--- the refusal's number comes first, and is also what a call returns
-abbrev pub returned : List ℕ → ℕ
-returned ns = getD ns 0 0
-
--- a number with a sign as 64 bits, in two's complement
-unfoldable pub word : ℤ → ℕ
-word (pos n) = n
-word (negsuc n) = 2 ^ 64 - suc n
-
-unfoldable pub reportWords : ReportReply.ReportReply → List ℕ
-reportWords r = map word (reportNumbers r)
+use Rattle.model.specs.Replies.{openNumbers, orderNumbers, cancelNumbers, clockNumbers, listNumbers}
+use Rattle.records.specs.Layout.{bytes, dayIn, dayBytes, bookIn, bookBytes, tradesIn, tradesBytes, pricesIn, over, returned, replied}
+use Rattle.replies.specs.Words.{reportWords}
 
 abbrev pub hasDay : List ℕ → Bool
 hasDay day = eqb (length day) 64
-
--- what a call has answered and left of a book's bytes, before its reply is put: the answer and the book of an outcome
-pub record Stored {A : Type 0} (r : A) (left : List ℕ) (answer : A) (book : List Order) (old : List ℕ) : Type 0 where
-  pub told : r ≡ answer
-  pub kept : left ≡ over (bookBytes book) old
 
 -- ---- an opening
 
@@ -85,12 +59,6 @@ openLeaves o day book reply =
 
 -- ---- an order, and a move of the clock
 
--- what a call has answered and left of the bytes of book and trade list, before day and reply are put
-pub record Traded {A : Type 0} (r : A) (left list : List ℕ) (o : Outcome A) (book trades : List ℕ) : Type 0 where
-  pub told : r ≡ o .answer
-  pub places : left ≡ over (bookBytes (o .book)) book
-  pub written : list ≡ over (tradesBytes (o .trades)) trades
-
 pub record TradeLeft : Type 0 where
   pub returns : ℕ
   pub day : List ℕ
@@ -102,28 +70,25 @@ abbrev pub tradeLeft : ℕ → List ℕ → List ℕ → List ℕ → List ℕ �
 tradeLeft r day book trades reply =
     record { returns = r; day = day; book = book; trades = trades; reply = reply }
 
--- the numbers of the reply, the day, and the outcome's book and trades
-unfoldable pub tradeLeaves : {A : Type 0} → List ℕ → Day → Outcome A → List ℕ → List ℕ → List ℕ → List ℕ → TradeLeft
-tradeLeaves ns d o day book trades reply =
+-- the numbers of the reply, the day, and an outcome's book and trades; without a day nothing but the numbers of that refusal
+unfoldable pub tradeLeaves : {A : Type 0} → List ℕ → List ℕ → Day → Outcome A → List ℕ → List ℕ → List ℕ → List ℕ → TradeLeft
+tradeLeaves without ns d o day book trades reply =
+    if hasDay day
+    then
     tradeLeft (returned ns) (over (dayBytes d) day) (over (bookBytes (o .book)) book)
     (over (tradesBytes (o .trades)) trades)
     (replied ns reply)
+    else tradeLeft (returned without) day book trades (replied without reply)
 
 unfoldable pub orderLeaves : Asked → List ℕ → List ℕ → List ℕ → List ℕ → TradeLeft
 orderLeaves a day book trades reply =
     let o : Outcome OrderAnswer = orderCall (dayIn day) a (bookIn book) (tradesIn trades) in
-    let no : List ℕ = orderNumbers (OrderReply.the-variants.Refused 15) in
-    if hasDay day
-    then tradeLeaves (orderNumbers (o .answer .reply)) (o .answer .day) o day book trades reply
-    else tradeLeft (returned no) day book trades (replied no reply)
+    tradeLeaves (orderNumbers (OrderReply.the-variants.Refused 15)) (orderNumbers (o .answer .reply)) (o .answer .day) o day book trades reply
 
 unfoldable pub clockLeaves : ℕ → List ℕ → List ℕ → List ℕ → List ℕ → TradeLeft
 clockLeaves time day book trades reply =
     let o : Outcome ClockAnswer = clockCall (dayIn day) time (bookIn book) (tradesIn trades) in
-    let no : List ℕ = clockNumbers (ClockReply.the-variants.Refused 15) in
-    if hasDay day
-    then tradeLeaves (clockNumbers (o .answer .reply)) (o .answer .day) o day book trades reply
-    else tradeLeft (returned no) day book trades (replied no reply)
+    tradeLeaves (clockNumbers (ClockReply.the-variants.Refused 15)) (clockNumbers (o .answer .reply)) (o .answer .day) o day book trades reply
 
 -- ---- a cancel
 
@@ -172,16 +137,6 @@ listOn day asked book prices =
     if hasDay day
     then listCall (dayIn day) asked (bookIn book) (pricesIn prices)
     else record { reply = ListReply.the-variants.Refused 15; prices = pricesIn prices }
-
--- a list of prices at the front of the lent bytes, as many as fit, and what is handed back of it
-pub record Put (ps old : List ℕ) (r : Listed) (left : List ℕ) : Type 0 where
-  pub told : r ≡ listed ps (pricesIn old)
-  pub kept : left ≡ over (bytes (fitted ps (pricesIn old))) old
-
--- what the call has answered and left of the list's bytes, before its reply is put
-pub record ListStored (r : ListReply.ListReply) (left : List ℕ) (o : ListOutcome) (old : List ℕ) : Type 0 where
-  pub told : r ≡ o .reply
-  pub kept : left ≡ over (bytes (o .prices)) old
 
 pub record ListLeft : Type 0 where
   pub returns : ℕ

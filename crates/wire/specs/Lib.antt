@@ -1,3 +1,3 @@
--- The calls on bytes: how numbers, records and lists lie in memory, and what each call leaves there.
-pub mod Layout
+-- The calls on bytes: what each leaves in memory, and two of them as one.
 pub mod Exports
+pub mod Pairs

@@ -1,9 +1,4 @@
-// The calls for a test bench in C: day, book, trades and price list are lent as bytes.
-pub mod auctions;
-pub mod cancelling;
-pub mod listing;
-pub mod numbers;
-pub mod opening;
-pub mod records;
-pub mod replies;
+// The calls for a test bench in C: day, book, trades, price list and reply are lent as bytes.
+pub mod changing;
+pub mod reading;
 pub mod trading;

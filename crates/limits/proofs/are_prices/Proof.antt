@@ -16,7 +16,7 @@ returns c =
     and-yes _ (sym (c .before .before .is-price .ensures) ∙ c .before .if1 .taken) (c .is-price2 .ensures)
 
 returns-2 : tie.Need-returns-2
-returns-2 c = and-no _ (sym (c .before .is-price .ensures) ∙ c .if1 .left)
+returns-2 c = c .if1 .left ∙ and-no _ (sym (c .before .is-price .ensures) ∙ c .if1 .left)
 
 pub are-prices-spec : {M : Type 1} → statement M
 are-prices-spec = tie.close (tie.spec is-price-requires is-price-requires-2 returns returns-2)

@@ -7,7 +7,7 @@ use native.Mathlib.Omega.{arith}
 use Rattle.model.specs.Limits.{isPrice}
 use Rattle.model.proofs.Bools.{and-no, and-yes}
 use Rattle.limits.proofs.Spans.{small-both}
-use Rattle.limits.proofs.Ranges.{below-band, above-band, within-band}
+use Rattle.limits.proofs.Ranges.{below-band, from-below-band}
 use Rattle.limits.proofs.in_band.Statement.{statement}
 use Rattle.limits.proofs.in_band.Tie as tie
 
@@ -27,28 +27,23 @@ mul-if2 c = omega (arith, small-both _ _ (prices c))
 mul-if2-2 : tie.Need-mul-if2-2
 mul-if2-2 c = omega (arith, small-both _ _ (prices c))
 
+mul-result : tie.Need-mul-result
+mul-result c = omega (arith, small-both _ _ (prices (c .before)))
+
+mul-result-2 : tie.Need-mul-result-2
+mul-result-2 c = omega (arith, small-both _ _ (prices (c .before)))
+
 returns-2 : tie.Need-returns-2
 returns-2 c =
     let a = c .before .before .before .args in
-    and-yes _ (prices (c .before)) (below-band (a .close) (a .price) (omega arith))
-
-mul-if3 : tie.Need-mul-if3
-mul-if3 c = omega (arith, small-both _ _ (prices (c .before)))
-
-mul-if3-2 : tie.Need-mul-if3-2
-mul-if3-2 c = omega (arith, small-both _ _ (prices (c .before)))
+    and-yes _ (prices (c .before)) (from-below-band (a .close) (a .price) (c .if2 .taken))
 
 returns-3 : tie.Need-returns-3
 returns-3 c =
-    let a = c .before .before .before .before .args in
-    and-yes _ (prices (c .before .before)) (above-band (a .close) (a .price) (omega arith) (omega arith))
-
-returns-4 : tie.Need-returns-4
-returns-4 c =
-    let a = c .before .before .before .before .args in
-    and-yes _ (prices (c .before .before)) (within-band (a .close) (a .price) (omega arith) (omega arith))
+    let a = c .before .before .before .args in
+    and-yes _ (prices (c .before)) (below-band (a .close) (a .price) (c .if2 .left))
 
 pub in-band-spec : {M : Type 1} → statement M
 in-band-spec =
     tie.close
-    (tie.spec are-prices-requires returns mul-if2 mul-if2-2 returns-2 mul-if3 mul-if3-2 returns-3 returns-4)
+    (tie.spec are-prices-requires returns mul-if2 mul-if2-2 mul-result mul-result-2 returns-2 returns-3)

@@ -14,14 +14,14 @@ returns c =
 
 returns-2 : tie.Need-returns-2
 returns-2 c =
-    buy-out-of-size _ _ _ (c .before .before .if1 .taken) (sym (c .before .in-size .ensures) ∙ c .if2 .left)
+    c .if2 .left ∙ buy-out-of-size _ _ _ (c .before .before .if1 .taken) (sym (c .before .in-size .ensures) ∙ c .if2 .left)
 
 in-size-requires-2 : tie.Need-in-size-requires-2
 in-size-requires-2 c κs = search needs
 
 returns-3 : tie.Need-returns-3
 returns-3 c =
-    sell-in-size _ _ _ (c .before .before .if1 .left) (sym (c .before .in-size2 .ensures) ∙ c .if3 .taken)
+    c .if3 .taken ∙ sell-in-size _ _ _ (c .before .before .if1 .left) (sym (c .before .in-size2 .ensures) ∙ c .if3 .taken)
 
 is-odd-lot-requires : tie.Need-is-odd-lot-requires
 is-odd-lot-requires c κs = search needs
@@ -39,6 +39,6 @@ is-quantity-spec =
     returns
     returns-2
     in-size-requires-2
-    returns-3
     is-odd-lot-requires
+    returns-3
     returns-4)

@@ -1,26 +1,19 @@
 -- The first i of the prices stand in front of the rest of the lent list.
 use Prim.Native.Nat.{_-_}
 use native.Mathlib.Omega.{arith}
-use lib.ListN.{length}
-use Rattle.auction.proofs.Writing.{Filled, filled-start, filled-next, filled-full, filled-out}
+use Rattle.auction.proofs.Writing.{Filled, filled-start, filled-next, filled-end}
 use borrow.Author.Needs.{needs}
 use Rattle.auction.proofs.listing.write_run.Statement.{statement}
 use Rattle.auction.proofs.listing.write_run.Tie as tie
 
 abbrev Inv-loop : tie.InvT-loop
-Inv-loop first hi prices₀ i₀ p₀ prices i p = Filled first hi prices₀ prices i p
+Inv-loop prices₀ count p₀ i₀ prices p i = Filled p₀ count prices₀ prices i p
 
 abbrev μ-loop : tie.MeasureT-loop
-μ-loop first hi prices₀ i₀ p₀ prices i p = length prices₀ - i
+μ-loop prices₀ count p₀ i₀ prices p i = count - i
 
 loop-holds : tie.Need-loop-holds Inv-loop μ-loop
-loop-holds c = filled-start _ _ _
-
-same-length : tie.Need-same-length Inv-loop μ-loop
-same-length c = search needs
-
-returns : tie.Need-returns Inv-loop μ-loop
-returns c = filled-full _ _ _ (c .before .before .loop .inv) (c .if1 .taken)
+loop-holds c = filled-start _ _ _ (c .pre .0)
 
 mul-prices : tie.Need-mul-prices Inv-loop μ-loop
 mul-prices c = omega arith
@@ -38,19 +31,13 @@ loop-less : tie.Need-loop-less Inv-loop μ-loop
 loop-less c = omega arith
 
 loop-again : tie.Need-loop-again Inv-loop μ-loop
-loop-again c = filled-next _ _ _ (c .before .before .loop .inv) (omega arith) (c .if1 .left)
+loop-again c = filled-next _ _ _ (c .before .loop .inv) (c .loop-test .taken)
 
-same-length-2 : tie.Need-same-length-2 Inv-loop μ-loop
-same-length-2 c = search needs
+same-length : tie.Need-same-length Inv-loop μ-loop
+same-length c = search needs
 
-returns-2 : tie.Need-returns-2 Inv-loop μ-loop
-returns-2 c = filled-out _ _ _ (c .before .before .loop .inv) (omega arith) (c .if2 .taken)
-
-same-length-3 : tie.Need-same-length-3 Inv-loop μ-loop
-same-length-3 c = search needs
-
-returns-3 : tie.Need-returns-3 Inv-loop μ-loop
-returns-3 c = filled-full _ _ _ (c .before .before .loop .inv) (c .if2 .left)
+returns : tie.Need-returns Inv-loop μ-loop
+returns c = filled-end _ _ _ (c .before .loop .inv) (c .loop-test .left)
 
 pub write-run-spec : {M : Type 1} → statement M
 write-run-spec =
@@ -59,15 +46,11 @@ write-run-spec =
     Inv-loop
     μ-loop
     loop-holds
-    same-length
-    returns
     mul-prices
     slice-write-prices
     add-p
     add-i
     loop-less
     loop-again
-    same-length-2
-    returns-2
-    same-length-3
-    returns-3)
+    same-length
+    returns)

@@ -3,7 +3,7 @@ use Prim.Native.Nat.{_*_, _-_, _≤_}
 use mathlib.Core.Path.{_≡_, refl, sym, _∙_}
 use native.Mathlib.Omega.{arith}
 use lib.ListN.{length, take}
-use Rattle.text.proofs.Printed.{put-long}
+use Rattle.printing.proofs.Printed.{put-long}
 use Rattle.convert.specs.Promises.{textOf, Converts}
 use Rattle.convert.proofs.Pendings.{text-remembered}
 use Rattle.convert.proofs.Steps.{converts-none, next-room, converts-on, refused-short, converted-whole}

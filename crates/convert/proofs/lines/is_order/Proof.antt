@@ -7,6 +7,9 @@ use Rattle.convert.proofs.lines.is_order.Tie as tie
 enum-told : tie.Need-enum-told
 enum-told c = search needs
 
+enum-known-c : tie.Need-enum-known-c
+enum-known-c c = search needs
+
 enum-told-2 : tie.Need-enum-told-2
 enum-told-2 c = search needs
 
@@ -25,25 +28,26 @@ returns c = rw (c .enum-told .given .1)
 
 returns-2 : tie.Need-returns-2
 unfolding isOrder
-returns-2 c = rw (c .enum-told2 .given .1)
+returns-2 c = rw (c .before .before .before .c .given .1, c .enum-told2 .given .1)
 
 returns-3 : tie.Need-returns-3
 unfolding isOrder
-returns-3 c = rw (c .enum-told3 .given .1)
+returns-3 c = rw (c .before .before .before .c .given .1, c .enum-told3 .given .1)
 
 returns-4 : tie.Need-returns-4
 unfolding isOrder
-returns-4 c = rw (c .enum-told4 .given .1)
+returns-4 c = rw (c .before .before .before .c .given .1, c .enum-told4 .given .1)
 
 returns-5 : tie.Need-returns-5
 unfolding isOrder
-returns-5 c = rw (c .enum-told5 .given .1)
+returns-5 c = rw (c .before .before .before .c .given .1, c .enum-told5 .given .1)
 
 pub is-order-spec : {M : Type 1} → statement M
 is-order-spec =
     tie.close
     (tie.spec
     enum-told
+    enum-known-c
     enum-told-2
     enum-told-3
     enum-told-4

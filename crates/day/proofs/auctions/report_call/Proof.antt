@@ -2,9 +2,10 @@
 use borrow.Author.Needs.{needs}
 use borrow.Author.Tests.{not-true, not-false}
 use Rattle.book.specs.Rows.{bookOf}
-use Rattle.day.specs.Ready.{Ready}
-use Rattle.day.proofs.Readiness.{is-unsound, not-unsound, ready}
-use Rattle.day.proofs.AuctionLaws.{price-found, report-refused, report-accepted}
+use Rattle.soundness.specs.Ready.{Ready}
+use Rattle.soundness.proofs.Readiness.{is-unsound, not-unsound, ready}
+use Rattle.moves.proofs.AuctionHeld.{price-found}
+use Rattle.day.proofs.AuctionLaws.{report-refused, report-accepted}
 use Rattle.day.proofs.auctions.report_call.Statement.{statement}
 use Rattle.day.proofs.auctions.report_call.Tie as tie
 

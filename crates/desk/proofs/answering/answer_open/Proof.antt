@@ -25,7 +25,7 @@ same-length-2 c = search needs
 returns : tie.Need-returns
 returns c =
     let s = c .before .before .before .before .before .before .before .before .before .before in
-    opening-refused (s .args .begun) (s .args .d) (s .args .rows .now) _ _ (s .args .close) (s .args .mark) _ (s .pre .0)
+    opening-refused (s .args .desk) (s .args .rows .now) _ _ (s .args .close) (s .args .mark) _ (s .pre .0)
     (c .before .before .before .before .before .before .before .open-call .ensures) (c .before .before .before .before .put-open .ensures) (s .pre .1) _ (c .enum-told .given .1)
 
 same-length-3 : tie.Need-same-length-3
@@ -37,7 +37,7 @@ same-length-4 c = search needs
 returns-2 : tie.Need-returns-2
 returns-2 c =
     let s = c .before .before .before .before .before .before .before .before .before .before .before in
-    opening-made (s .args .begun) (s .args .d) (s .args .rows .now) _ _ (s .args .close) (s .args .mark) _ (s .pre .0)
+    opening-made (s .args .desk) (s .args .rows .now) _ _ (s .args .close) (s .args .mark) _ (s .pre .0)
     (c .before .before .before .before .before .before .before .before .open-call .ensures) (c .before .before .before .before .before .put-open .ensures) (s .pre .1) _ (c .before .reply .given .1)
 
 pub answer-open-spec : {M : Type 1} → statement M

@@ -33,8 +33,8 @@ same-length c = search needs
 
 returns : tie.Need-returns
 returns c =
-    let a = c .before .before .before .before .before .before .args in
-    opened (a .event) (a .rows .now) (c .before .open-call .last .0) (a .trades .now) (c .before .before .before .before .event .given .1)
+    let a = c .before .before .before .before .before .before .before .args in
+    opened (a .asked) (a .rows .now) (c .before .open-call .last .0) (a .trades .now) (c .before .before .before .before .event .given .1)
     (c .before .open-call .ensures)
 
 same-length-2 : tie.Need-same-length-2
@@ -45,8 +45,8 @@ same-length-3 c = search needs
 
 returns-2 : tie.Need-returns-2
 returns-2 c =
-    let a = c .before .before .before .before .before .before .before .before .args in
-    moved (a .event) (a .rows .now) (c .before .before .clock-call .last .1 .0) (a .trades .now) (c .before .before .clock-call .last .1 .1 .0)
+    let a = c .before .before .before .before .before .before .before .before .before .args in
+    moved (a .asked) (a .rows .now) (c .before .before .clock-call .last .1 .0) (a .trades .now) (c .before .before .clock-call .last .1 .1 .0)
     (c .before .before .before .before .before .before .event2 .given .1) (c .before .before .clock-call .ensures)
 
 same-length-4 : tie.Need-same-length-4
@@ -57,8 +57,8 @@ same-length-5 c = search needs
 
 returns-3 : tie.Need-returns-3
 returns-3 c =
-    let a = c .before .before .before .before .before .before .before .before .args in
-    entered (a .event) (a .rows .now) (c .before .before .order-call .last .1 .0) (a .trades .now)
+    let a = c .before .before .before .before .before .before .before .before .before .args in
+    entered (a .asked) (a .rows .now) (c .before .before .order-call .last .1 .0) (a .trades .now)
     (c .before .before .order-call .last .1 .1 .0) (c .before .before .before .before .before .before .event3 .given .1)
     (c .before .before .order-call .ensures)
 
@@ -67,8 +67,8 @@ same-length-6 c = search needs
 
 returns-4 : tie.Need-returns-4
 returns-4 c =
-    let a = c .before .before .before .before .before .before .args in
-    cancelled (a .event) (a .rows .now) (c .before .cancel-call .last .1 .0) (a .trades .now) (c .before .before .before .before .event4 .given .1)
+    let a = c .before .before .before .before .before .before .before .args in
+    cancelled (a .asked) (a .rows .now) (c .before .cancel-call .last .1 .0) (a .trades .now) (c .before .before .before .before .event4 .given .1)
     (c .before .cancel-call .ensures)
 
 pub answer-event-spec : {M : Type 1} → statement M

@@ -33,6 +33,7 @@ use denote.Laws.{Is, shows}
 use denote.Array.{Array}
 use denote.Builtin.{u64}
 use denote.Enum.Laws as EL
+use denote.Struct.Laws as LL
 use denote.Index.{row, opens-slice, closes-slice}
 use denote.Lend.{Held}
 use denote.Ref.{RefT, now}
@@ -47,13 +48,13 @@ use denote.Triple.Walked.{says, Stays, stay-slice, gave-slice, stay-dropped, wal
 use Rattle.model.specs.declared.Order.{Order}
 use Rattle.model.proofs.Order as T
 use Rattle.book.specs.Rows.{bookOf, orderOf, tradesOf}
-use Rattle.day.specs.Promises.{callLeft}
+use Rattle.book.specs.Promises.{callLeft}
 use Rattle.lent.specs.Copying.{copied}
-use Rattle.lent.specs.declared.Event.{Event}
+use Rattle.lent.specs.declared.OnDay.{OnDay}
 use Rattle.lent.specs.declared.Answer.{Answer}
 use Rattle.lent.specs.Calls.{eventCall, eventLeft}
-use Rattle.lent.proofs.Event as Q
-use Rattle.lent.proofs.Event.Laws as Q′
+use Rattle.lent.proofs.OnDay as Q
+use Rattle.lent.proofs.OnDay.Laws as Q′
 use Rattle.lent.proofs.Answer as B
 use Rattle.lent.proofs.Answer.Laws as B′
 use Rattle.lent.proofs.Big.{big}
@@ -81,8 +82,8 @@ use Rattle.lent.proofs.events.take_event.Statement as stated
 use Rattle.lent.proofs.events.take_event.Code as code
 
 -- what the call on rows does
-abbrev Does : List (List ℕ) → List (List ℕ) → Event → Answer → List (List ℕ) → List (List ℕ) → Type 0
-Does rows trades event answer rows′ trades′ = callLeft answer rows′ trades′ ≡ eventCall event (bookOf rows) (tradesOf trades)
+abbrev Does : List (List ℕ) → List (List ℕ) → OnDay → Answer → List (List ℕ) → List (List ℕ) → Type 0
+Does rows trades asked answer rows′ trades′ = callLeft answer rows′ trades′ ≡ eventCall asked (bookOf rows) (tradesOf trades)
 
 abbrev stayed : Stays (this.ended .signature .params) (this.ended .kept)
 stayed = (stay-slice (0 ∷ []) tt (plain (λ _. T.the-row)), (gave-slice (1 ∷ []) tt (plain (λ _. Array u64 6)), (stay-dropped (plain (λ _. Q.the-row)) yes, tt)))
@@ -91,14 +92,14 @@ abbrev OnRows : {M : Type 1} (𝓤 : URA M) (H : Heap 𝓤) (A : Atoms 𝓤) →
 OnRows 𝓤 H A = Call Rows (Array u64 6) Q.the-row B.the-row Does 𝓤 H A
 
 module _ {M : Type 1} (𝓤 : URA M) (H : Heap 𝓤) (A : Atoms 𝓤) (W : Given 𝓤 H A) where
-  typed-question : (y : Event) (v : Val) → Is Q.the-row y (v ∷ []) → Holds (hasTy Q′.mir v) × WT v
-  typed-question y v is = EL.lawful Q.the-type Q′.the-laws 𝓤 H A W tt .typed y (v ∷ []) is .0
+  typed-question : (y : OnDay) (v : Val) → Is Q.the-row y (v ∷ []) → Holds (hasTy Q′.mir v) × WT v
+  typed-question y v is = LL.lawful Q.the-type Q′.the-laws 𝓤 H A W .typed y (v ∷ []) is .0
 
   typed-answer : (r : Answer) (v : Val) → Is B.the-row r (v ∷ []) → Holds (hasTy B′.mir v) × WT v
   typed-answer r v is = EL.lawful B.the-type B′.the-laws 𝓤 H A W tt .typed r (v ∷ []) is .0
 
 module _ {M : Type 1} (𝓤 : URA M) (H : Heap 𝓤) (A : Atoms 𝓤) (W : Given 𝓤 H A) (at-mem : Memory → SProp 𝓤)
-    (run : Routine → Fun 𝓤) (κ κ₁ : Lft) (q q₁ : Share) (b o : ℕ) (γ : GName) (ys : List Order) (x : RefT (List (List ℕ))) (y : Event) (v : Val)
+    (run : Routine → Fun 𝓤) (κ κ₁ : Lft) (q q₁ : Share) (b o : ℕ) (γ : GName) (ys : List Order) (x : RefT (List (List ℕ))) (y : OnDay) (v : Val)
     (gb : Room T.the-row (length ys)) (gl : Room (Array u64 6) (length (now x))) (is-q : Is Q.the-row y (v ∷ [])) where
   abbrev n : ℕ
   n = length ys
@@ -270,10 +271,10 @@ module _ {M : Type 1} (𝓤 : URA M) (H : Heap 𝓤) (A : Atoms 𝓤) (W : Given
 module _ {M : Type 1} (𝓤 : URA M) (H : Heap 𝓤) (A : Atoms 𝓤) (W : Given 𝓤 H A) (at-mem : Memory → SProp 𝓤)
     (run : Routine → Fun 𝓤) (𝓣 : Tables 𝓤 H) (known-places : Triple 𝓤 (𝓣 .C #places) (Places 𝓤 H A)) (known-load : Triple 𝓤 (𝓣 .C #load) (Load 𝓤 H A))
     (known-work : Triple 𝓤 (𝓣 .C #work) (OnRows 𝓤 H A)) (known-store : Triple 𝓤 (𝓣 .C #store) (Store 𝓤 H A)) where
-  abbrev value : Event → Val
-  value = EL.val Q.the-type Q′.the-laws
+  abbrev value : OnDay → Val
+  value = LL.val Q.the-type Q′.the-laws
 
-  entry : (κ κ₁ : Lft) (q q₁ : Share) (z : RefT (List Order)) (x : RefT (List (List ℕ))) (y : Event) (gb : Room T.the-row (length (now z)))
+  entry : (κ κ₁ : Lft) (q q₁ : Share) (z : RefT (List Order)) (x : RefT (List (List ℕ))) (y : OnDay) (gb : Room T.the-row (length (now z)))
       (gl : Room (Array u64 6) (length (now x))) (is-q : Is Q.the-row y (value y ∷ []))
       → ent 𝓤 (onEntry 𝓤 H A this.signature (κ, (κ₁, tt)) (q, (q₁, tt)) (z, (x, (y, tt))) (slice-vals z, (slice-vals x, (value y ∷ [], tt))))
       (WpFn 𝓤 H (𝓣 .C) (𝓣 .Λ) code.function (sliceVal (z .ptr) (length (now z)) ∷ sliceVal (x .ptr) (length (now x)) ∷ value y ∷ [])
@@ -289,7 +290,7 @@ module _ {M : Type 1} (𝓤 : URA M) (H : Heap 𝓤) (A : Atoms 𝓤) (W : Given
   take-event-walks : Walks 𝓤 H A this.ended stayed (WpFn 𝓤 H (𝓣 .C) (𝓣 .Λ) code.function) (this.clauses 𝓤 H A at-mem run)
   take-event-walks = walked 𝓤 H A this.ended stayed (this.clauses 𝓤 H A at-mem run) (WpFn 𝓤 H (𝓣 .C) (𝓣 .Λ) code.function)
       (λ κs. (slice-vals, (slice-vals, ((λ y. value y ∷ []), tt))))
-      (λ κs. (mut-slice-tells (named 0) (κs .0) T.the-row, (mut-slice-tells (named 1) (κs .1 .0) (Array u64 6), (EL.tells Q.the-type Q′.the-laws, tt))))
+      (λ κs. (mut-slice-tells (named 0) (κs .0) T.the-row, (mut-slice-tells (named 1) (κs .1 .0) (Array u64 6), (LL.tells Q.the-type Q′.the-laws, tt))))
       (λ κs qs bounds a g are. via 𝓤 _ (fst∗ 𝓤 _ (emp 𝓤))
       (entry (κs .0) (κs .1 .0) (qs .0) (qs .1 .0) (a .0) (a .1 .0) (a .1 .1 .0) (are .0 .0 .1) (are .1 .0 .0 .1) (are .1 .1 .0)))
 

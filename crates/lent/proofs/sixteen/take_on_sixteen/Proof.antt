@@ -46,12 +46,12 @@ use Rattle.model.specs.declared.Order.{Order}
 use Rattle.model.proofs.Order as T
 use Rattle.model.proofs.Order.Laws as T′
 use Rattle.book.specs.Rows.{tradesOf}
-use Rattle.lent.specs.declared.Event.{Event}
+use Rattle.lent.specs.declared.OnDay.{OnDay}
 use Rattle.lent.specs.declared.Answer.{Answer}
 use Rattle.lent.specs.declared.sixteen.HandedBack.{HandedBack}
 use Rattle.lent.specs.Calls.{eventCall, eventLeft}
-use Rattle.lent.proofs.Event as Q
-use Rattle.lent.proofs.Event.Laws as Q′
+use Rattle.lent.proofs.OnDay as Q
+use Rattle.lent.proofs.OnDay.Laws as Q′
 use Rattle.lent.proofs.Answer as B
 use Rattle.lent.proofs.Answer.Laws as B′
 use Rattle.lent.proofs.sixteen.HandedBack as O
@@ -72,15 +72,15 @@ abbrev Trade : RattleType
 Trade = Array u64 6
 
 module _ {M : Type 1} (𝓤 : URA M) (H : Heap 𝓤) (A : Atoms 𝓤) (W : Given 𝓤 H A) where
-  typed-event : (y : Event) (v : Val) → Is Q.the-row y (v ∷ []) → Holds (hasTy Q′.mir v) × WT v
-  typed-event y v is = EL.lawful Q.the-type Q′.the-laws 𝓤 H A W tt .typed y (v ∷ []) is .0
+  typed-event : (y : OnDay) (v : Val) → Is Q.the-row y (v ∷ []) → Holds (hasTy Q′.mir v) × WT v
+  typed-event y v is = LL.lawful Q.the-type Q′.the-laws 𝓤 H A W .typed y (v ∷ []) is .0
 
   typed-answer : (r : Answer) (v : Val) → Is B.the-row r (v ∷ []) → Holds (hasTy B′.mir v) × WT v
   typed-answer r v is = EL.lawful B.the-type B′.the-laws 𝓤 H A W tt .typed r (v ∷ []) is .0
 
 -- what `take_event` does
-abbrev Does : List Order → List (List ℕ) → Event → Answer → List Order → List (List ℕ) → Type 0
-Does book trades event answer book′ trades′ = eventLeft answer book′ trades′ ≡ eventCall event book (tradesOf trades)
+abbrev Does : List Order → List (List ℕ) → OnDay → Answer → List Order → List (List ℕ) → Type 0
+Does book trades asked answer book′ trades′ = eventLeft answer book′ trades′ ≡ eventCall asked book (tradesOf trades)
 
 abbrev Take : {M : Type 1} (𝓤 : URA M) (H : Heap 𝓤) (A : Atoms 𝓤) → Contract 𝓤
 Take 𝓤 H A = Call T.the-row Trade Q.the-row B.the-row Does 𝓤 H A
@@ -118,7 +118,7 @@ abbrev stayed : Stays (this.ended .signature .params) (this.ended .kept)
 stayed = (stay-dropped (plain (λ _. Places)) yes, (gave-slice (0 ∷ []) tt (plain (λ _. Trade)), (stay-dropped (plain (λ _. Q.the-row)) yes, tt)))
 
 module _ {M : Type 1} (𝓤 : URA M) (H : Heap 𝓤) (A : Atoms 𝓤) (W : Given 𝓤 H A) (at-mem : Memory → SProp 𝓤)
-    (run : Routine → Fun 𝓤) (κ : Lft) (q : Share) (ys : List Order) (x : RefT (List (List ℕ))) (y : Event) (v : Val)
+    (run : Routine → Fun 𝓤) (κ : Lft) (q : Share) (ys : List Order) (x : RefT (List (List ℕ))) (y : OnDay) (v : Val)
     (is-ys : Is Places ys (vals ys)) (gl : Room Trade (length (now x))) (is-y : Is Q.the-row y (v ∷ [])) where
   len : length ys ≡ 16
   len = is-ys .1 .0 .1
@@ -203,10 +203,10 @@ module _ {M : Type 1} (𝓤 : URA M) (H : Heap 𝓤) (A : Atoms 𝓤) (W : Given
 
 module _ {M : Type 1} (𝓤 : URA M) (H : Heap 𝓤) (A : Atoms 𝓤) (W : Given 𝓤 H A) (at-mem : Memory → SProp 𝓤)
     (run : Routine → Fun 𝓤) (𝓣 : Tables 𝓤 H) (known : Triple 𝓤 (𝓣 .C #take) (Take 𝓤 H A)) where
-  abbrev value : Event → Val
-  value = EL.val Q.the-type Q′.the-laws
+  abbrev value : OnDay → Val
+  value = LL.val Q.the-type Q′.the-laws
 
-  entry : (κ : Lft) (q : Share) (ys : List Order) (x : RefT (List (List ℕ))) (y : Event) (is-ys : Is Places ys (vals ys))
+  entry : (κ : Lft) (q : Share) (ys : List Order) (x : RefT (List (List ℕ))) (y : OnDay) (is-ys : Is Places ys (vals ys))
       (gl : Room Trade (length (now x))) (is-y : Is Q.the-row y (value y ∷ []))
       → ent 𝓤 (onEntry 𝓤 H A this.signature (κ, tt) (q, tt) (ys, (x, (y, tt))) (vals ys, (slice-vals x, (value y ∷ [], tt))))
       (WpFn 𝓤 H (𝓣 .C) (𝓣 .Λ) code.function (m ys ∷ sliceVal (x .ptr) (length (now x)) ∷ value y ∷ []) (Post 𝓤 H A W at-mem run κ q ys x y (value y) is-ys gl is-y))
@@ -218,7 +218,7 @@ module _ {M : Type 1} (𝓤 : URA M) (H : Heap 𝓤) (A : Atoms 𝓤) (W : Given
 
   take-on-sixteen-walks : Walks 𝓤 H A this.ended stayed (WpFn 𝓤 H (𝓣 .C) (𝓣 .Λ) code.function) (this.clauses 𝓤 H A at-mem run)
   take-on-sixteen-walks = walked 𝓤 H A this.ended stayed (this.clauses 𝓤 H A at-mem run) (WpFn 𝓤 H (𝓣 .C) (𝓣 .Λ) code.function)
-      (λ κs. (vals, (slice-vals, ((λ y. value y ∷ []), tt)))) (λ κs. (told-book, (mut-slice-tells (named 0) (κs .0) Trade, (EL.tells Q.the-type Q′.the-laws, tt))))
+      (λ κs. (vals, (slice-vals, ((λ y. value y ∷ []), tt)))) (λ κs. (told-book, (mut-slice-tells (named 0) (κs .0) Trade, (LL.tells Q.the-type Q′.the-laws, tt))))
       (λ κs qs bounds a g are. via 𝓤 _ (fst∗ 𝓤 _ (emp 𝓤)) (entry (κs .0) (qs .0) (a .0) (a .1 .0) (a .1 .1 .0) (are .0) (are .1 .0 .0 .1) (are .1 .1 .0)))
 
   take-on-sixteen-meets : Meets 𝓤 H A this.signature (WpFn 𝓤 H (𝓣 .C) (𝓣 .Λ) code.function) (this.spec 𝓤 H A at-mem run)

@@ -11,10 +11,10 @@ nothing-yet-requires c κs = search needs
 returns : tie.Need-returns
 returns c =
     let b = c .before .before in
-    outside (b .args .d) (b .args .a) _ _ (b .pre .1 .1 .0) _ _ (c .before .if1 .taken) (c .nothing-yet .ensures)
+    outside (b .args .d) (b .args .a) _ _ (b .pre .1 .0) _ _ (c .before .if1 .taken) (c .nothing-yet .ensures)
 
-price-on-entry-requires : tie.Need-price-on-entry-requires
-price-on-entry-requires c κs = search needs
+entry-price-requires : tie.Need-entry-price-requires
+entry-price-requires c κs = search needs
 
 nothing-yet-requires-2 : tie.Need-nothing-yet-requires-2
 nothing-yet-requires-2 c κs = search needs
@@ -23,7 +23,7 @@ returns-2 : tie.Need-returns-2
 returns-2 c =
     let e = c .before .before in
     let b = e .before .before in
-    unpriced (b .args .d) (b .args .a) _ _ (b .pre .1 .1 .0) _ (e .price-on-entry .ensures) _ _ (c .before .if2 .taken)
+    unpriced (b .args .d) (b .args .a) _ _ (b .pre .1 .0) (b .pre .1 .1 .0) (b .pre .1 .1 .1 .0) _ (e .entry-price .ensures) _ _ (c .before .if2 .taken)
     (c .nothing-yet2 .ensures)
 
 add-sweep : tie.Need-add-sweep
@@ -44,7 +44,7 @@ returns-3 c =
     let f = m .before .before .before in
     let e = f .before in
     let b = e .before .before in
-    entered (b .args .d) (b .args .a) _ _ (b .pre .1 .1 .0) _ (e .price-on-entry .ensures) _ _ (b .args .trades .now) _ _
+    entered (b .args .d) (b .args .a) _ _ (b .pre .1 .0) (b .pre .1 .1 .0) (b .pre .1 .1 .1 .0) _ (e .entry-price .ensures) _ _ (b .args .trades .now) _ _
     (b .pre .0) (e .before .if1 .left) (f .if2 .left) refl (m .most-prices .ensures) (c .before .sweep .ensures)
 
 pub enter-trades-spec : {M : Type 1} → statement M
@@ -53,7 +53,7 @@ enter-trades-spec =
     (tie.spec
     nothing-yet-requires
     returns
-    price-on-entry-requires
+    entry-price-requires
     nothing-yet-requires-2
     returns-2
     add-sweep

@@ -3,8 +3,8 @@ use Prim.Native.Nat.{_-_}
 use mathlib.Core.Path.{_≡_, refl, _∙_}
 use native.Mathlib.Omega.{arith}
 use lib.ListN.{length}
-use Rattle.desk.specs.Chunks.{pointOf, Onward}
-use Rattle.desk.proofs.LineByLine.{onward-none, onward-more}
+use Rattle.chunks.specs.Points.{pointOf, Onward}
+use Rattle.chunks.proofs.LineByLine.{onward-none, onward-more}
 use Rattle.model.proofs.Bools.{not-both}
 use Rattle.rehearse.proofs.Rounds.{put-within, put-count}
 use borrow.Author.Needs.{needs}

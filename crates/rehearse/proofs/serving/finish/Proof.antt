@@ -2,8 +2,8 @@
 use mathlib.Core.Path.{sym}
 use native.Mathlib.Omega.{arith}
 use lib.Seq.{length-take-le}
-use Rattle.text.proofs.Printed.{put-long}
-use Rattle.text.proofs.Replied.{refusal-fits}
+use Rattle.printing.proofs.Printed.{put-long}
+use Rattle.printing.proofs.Replied.{refusal-fits}
 use borrow.Author.Needs.{needs}
 use Rattle.rehearse.proofs.serving.finish.Statement.{statement}
 use Rattle.rehearse.proofs.serving.finish.Tie as tie
@@ -28,7 +28,7 @@ slice-reshare-prefix-reply c =
 slice-aggregate-reply : tie.Need-slice-aggregate-reply
 slice-aggregate-reply c =
     let r = c .before .before .before .put-refusal in
-    sym (length-take-le (r .result) (r .last .0) (omega (arith, r .ensures .place, refusal-fits 16, put-long (r .ensures))))
+    sym (length-take-le (r .result) (r .last .1 .0) (omega (arith, r .ensures .place, refusal-fits 16, put-long (r .ensures))))
 
 reply-requires : tie.Need-reply-requires
 reply-requires c κs = search needs

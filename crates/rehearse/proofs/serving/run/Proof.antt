@@ -2,14 +2,15 @@
 use Prim.Native.Nat.{_≤_}
 use mathlib.Core.Path.{_≡_}
 use lib.ListN.{length}
-use Rattle.desk.specs.Desks.{deskOf, SoundDesk}
+use Rattle.desk.specs.Desks.{deskOf}
+use Rattle.chunks.specs.SoundDesk.{SoundDesk}
 use borrow.Author.Needs.{needs}
 use Rattle.rehearse.proofs.serving.run.Statement.{statement}
 use Rattle.rehearse.proofs.serving.run.Tie as tie
 
 abbrev Inv-loop : tie.InvT-loop
 Inv-loop rows₀ trades₀ buf₀ out₀ h₀ turns₀ rows trades buf out h turns =
-    (length rows ≡ 1024) × (length trades ≡ 2048) × (length buf ≡ 65536) × (length out ≡ 393216) × (h .kept ≤ 79) × SoundDesk (deskOf (h .begun) (h .day) rows)
+    (length rows ≡ 1024) × (length trades ≡ 2048) × (length buf ≡ 65536) × (length out ≡ 393216) × (h .kept ≤ 79) × SoundDesk (deskOf (h .desk) rows)
 
 abbrev μ-loop : tie.MeasureT-loop
 μ-loop rows₀ trades₀ buf₀ out₀ h₀ turns₀ rows trades buf out h turns = turns
@@ -25,9 +26,6 @@ large-buffer-requires c κs = search needs
 
 output-requires : tie.Need-output-requires Inv-loop μ-loop
 output-requires c κs = search needs
-
-no-day-requires : tie.Need-no-day-requires Inv-loop μ-loop
-no-day-requires c κs = search needs
 
 loop-holds : tie.Need-loop-holds Inv-loop μ-loop
 loop-holds c = search needs
@@ -74,7 +72,6 @@ run-spec =
     trade-list-requires
     large-buffer-requires
     output-requires
-    no-day-requires
     loop-holds
     sub-turns
     slice-aggregate-turn

@@ -15,7 +15,7 @@ slice-reshare-prefix-answer-chunk c = search needs
 
 slice-aggregate-answer-chunk : tie.Need-slice-aggregate-answer-chunk
 slice-aggregate-answer-chunk c =
-    let s = c .before .before .before .before .before .before in
+    let s = c .before .before .before .before .before in
     sym (length-take-le (s .args .n) (s .args .buf .now) (s .pre .3))
 
 answer-chunk-requires : tie.Need-answer-chunk-requires
@@ -41,8 +41,9 @@ returns c = λ e. absurd (not-both (c .stopped .ensures) e)
 
 carry-over-requires : tie.Need-carry-over-requires
 carry-over-requires c κs =
-    let s = c .before .before .before .before .before .before .before .before .before .before .before .before .before .before .before in
-    let o = c .before .before .before .before .before .before .before .answer-chunk .ensures (not-false _ (c .before .if1 .left)) in
+    let k = c .before .before .before .before .before .before .before in
+    let s = k .before .before .before .before .before .before .before in
+    let o = k .answer-chunk .ensures (not-false _ (c .before .if1 .left)) in
     let l = length-take (s .args .n) (s .args .buf .now) in
     (omega (arith, o .0 .inside), s .pre .3)
 
@@ -60,11 +61,11 @@ same-length-8 c = search needs
 
 returns-2 : tie.Need-returns-2
 returns-2 c =
-    let s = c .before .before .before .before .before .before .before .before .before .before .before .before .before .before .before .before .before .before .before .args in
-    let k = c .before .before .before .before .before .before .before .before .before .before .before .answer-chunk in
-    let o = k .ensures (not-false _ (c .before .before .before .before .before .if1 .left)) in
-    let v = c .before .before .before .carry-over in
-    λ e. steps (s .buf .now) (v .last .0) (s .n) (s .h .begun) (s .h .long) (s .h .day) (s .rows .now) (k .last .1 .0) (k .result) (v .result) (o .0) (o .1) (v .ensures)
+    let k = c .before .before .before .before .before .before .before .before .before .before in
+    let s = k .before .before .before .before .before .before .before .args in
+    let o = k .answer-chunk .ensures (not-false _ (c .before .before .before .before .if1 .left)) in
+    let v = c .before .before .carry-over in
+    λ e. steps (s .buf .now) (v .last .0) (s .n) (s .h .desk) (s .h .long) (s .rows .now) (k .answer-chunk .last .1 .0) (k .answer-chunk .result) (v .result) (o .0) (o .1) (v .ensures)
 
 pub serve-spec : {M : Type 1} → statement M
 serve-spec =

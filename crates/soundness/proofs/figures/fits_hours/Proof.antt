@@ -9,7 +9,7 @@ is-between-requires : tie.Need-is-between-requires
 is-between-requires c κs = search needs
 
 returns : tie.Need-returns
-returns c = or-yes _ (sym (c .before .is-between .ensures) ∙ c .if1 .taken)
+returns c = c .if1 .taken ∙ or-yes _ (sym (c .before .is-between .ensures) ∙ c .if1 .taken)
 
 returns-2 : tie.Need-returns-2
 returns-2 c = or-no _ (sym (c .before .is-between .ensures) ∙ c .if1 .left) refl

@@ -7,11 +7,11 @@ use Rattle.soundness.proofs.figures.is_between.Tie as tie
 
 returns : tie.Need-returns
 unfolding between
-returns c = too-low _ _ _ (c .if1 .taken)
+returns c = from-low _ _ _ (c .if1 .taken) refl
 
 returns-2 : tie.Need-returns-2
 unfolding between
-returns-2 c = from-low _ _ _ (c .if1 .left) refl
+returns-2 c = too-low _ _ _ (c .if1 .left)
 
 pub is-between-spec : {M : Type 1} → statement M
 is-between-spec = tie.close (tie.spec returns returns-2)

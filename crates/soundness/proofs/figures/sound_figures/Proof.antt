@@ -23,18 +23,18 @@ returns-2 c =
 returns-3 : tie.Need-returns-3
 unfolding soundFigures isMark isTime
 returns-3 c =
-    let c2 = c .before .before in
-    let c1 = c2 .before .before in
-    rw (sym (c1 .before .is-price .ensures) ∙ not-false _ (c1 .if1 .left), le-leb _ 1 (c2 .if2 .left), lt-leb _ 86_399 (c .if3 .taken))
-
-returns-4 : tie.Need-returns-4
-unfolding soundFigures isMark isTime
-returns-4 c =
     let c3 = c .before in
     let c2 = c3 .before .before in
     let c1 = c2 .before .before in
     rw
-    (sym (c1 .before .is-price .ensures) ∙ not-false _ (c1 .if1 .left), le-leb _ 1 (c2 .if2 .left), le-leb _ 86_399 (c3 .if3 .left))
+    (sym (c1 .before .is-price .ensures) ∙ not-false _ (c1 .if1 .left), le-leb _ 1 (c2 .if2 .left), le-leb _ 86_399 (c3 .if3 .taken))
+
+returns-4 : tie.Need-returns-4
+unfolding soundFigures isMark isTime
+returns-4 c =
+    let c2 = c .before .before in
+    let c1 = c2 .before .before in
+    rw (sym (c1 .before .is-price .ensures) ∙ not-false _ (c1 .if1 .left), le-leb _ 1 (c2 .if2 .left), lt-leb _ 86_399 (c .if3 .left))
 
 pub sound-figures-spec : {M : Type 1} → statement M
 sound-figures-spec = tie.close (tie.spec is-price-requires returns returns-2 returns-3 returns-4)

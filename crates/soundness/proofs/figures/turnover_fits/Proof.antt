@@ -6,16 +6,16 @@ use Rattle.limits.proofs.Spans.{too-low, from-low}
 use Rattle.soundness.proofs.figures.turnover_fits.Statement.{statement}
 use Rattle.soundness.proofs.figures.turnover_fits.Tie as tie
 
-returns : tie.Need-returns
-unfolding turnoverFits
-returns c = too-low _ _ _ (c .if1 .taken)
-
 mul-result : tie.Need-mul-result
 mul-result c = search needs
 
+returns : tie.Need-returns
+unfolding turnoverFits
+returns c = from-low _ _ _ (c .before .before .if1 .taken) refl
+
 returns-2 : tie.Need-returns-2
 unfolding turnoverFits
-returns-2 c = from-low _ _ _ (c .before .before .if1 .left) refl
+returns-2 c = too-low _ _ _ (c .if1 .left)
 
 pub turnover-fits-spec : {M : Type 1} → statement M
-turnover-fits-spec = tie.close (tie.spec returns mul-result returns-2)
+turnover-fits-spec = tie.close (tie.spec mul-result returns returns-2)

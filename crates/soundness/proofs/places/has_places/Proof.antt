@@ -9,11 +9,11 @@ use Rattle.soundness.proofs.places.has_places.Tie as tie
 
 returns : tie.Need-returns
 unfolding hasPlaces
-returns c = rw (length-map (c .before .args .rows .now) orderOf) (too-low _ _ _ (c .if1 .taken))
+returns c = rw (length-map (c .before .args .rows .now) orderOf) (from-low _ _ _ (c .if1 .taken) refl)
 
 returns-2 : tie.Need-returns-2
 unfolding hasPlaces
-returns-2 c = rw (length-map (c .before .args .rows .now) orderOf) (from-low _ _ _ (c .if1 .left) refl)
+returns-2 c = rw (length-map (c .before .args .rows .now) orderOf) (too-low _ _ _ (c .if1 .left))
 
 pub has-places-spec : {M : Type 1} → statement M
 has-places-spec = tie.close (tie.spec returns returns-2)

@@ -1,0 +1,37 @@
+-- What a call left behind, as an outcome of the definitions. Each call promises that this outcome is the definitions' one.
+use Prim.Native.Nat.{ℕ}
+use mathlib.Core.List.{List}
+use Rattle.model.specs.declared.Day.{Day}
+use Rattle.model.specs.declared.OpenReply as OpenReply
+use Rattle.model.specs.declared.OrderReply as OrderReply
+use Rattle.model.specs.declared.OrderAnswer.{OrderAnswer}
+use Rattle.model.specs.declared.ClockReply as ClockReply
+use Rattle.model.specs.declared.ClockAnswer.{ClockAnswer}
+use Rattle.model.specs.declared.CancelReply as CancelReply
+use Rattle.model.specs.declared.ListReply as ListReply
+use Rattle.model.specs.Calls.{Outcome, OpenOutcome, CancelOutcome}
+use Rattle.model.specs.AuctionCalls.{ListOutcome}
+use Rattle.book.specs.Rows.{bookOf, tradesOf}
+
+-- an opening: its reply, and the rows of the book
+abbrev pub openLeft : OpenReply.OpenReply → List (List ℕ) → OpenOutcome
+openLeft reply rows = record { reply = reply; book = bookOf rows }
+
+-- an order or a move of the clock: what it handed back, the rows of the book, and those of the trade list
+abbrev pub callLeft : {A : Type 0} → A → List (List ℕ) → List (List ℕ) → Outcome A
+callLeft answer rows trades = record { answer = answer; book = bookOf rows; trades = tradesOf trades }
+
+-- such a call, refused: no trade is made, and the day stays
+abbrev pub orderRefused : Day → ℕ → OrderAnswer
+orderRefused d n = record { reply = OrderReply.the-variants.Refused n; made = 0; day = d }
+
+abbrev pub clockRefused : Day → ℕ → ClockAnswer
+clockRefused d n = record { reply = ClockReply.the-variants.Refused n; made = 0; day = d }
+
+-- a cancel: its reply, and the rows of the book
+abbrev pub cancelLeft : CancelReply.CancelReply → List (List ℕ) → CancelOutcome
+cancelLeft reply rows = record { reply = reply; book = bookOf rows }
+
+-- a price list: its reply, and the lent list
+abbrev pub listLeft : ListReply.ListReply → List ℕ → ListOutcome
+listLeft reply prices = record { reply = reply; prices = prices }

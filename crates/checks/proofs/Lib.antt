@@ -1,0 +1,3 @@
+pub mod AskedRules
+pub mod BookRules
+pub mod Refusals

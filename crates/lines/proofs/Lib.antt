@@ -1,0 +1,3 @@
+-- The laws behind one line's answer in any memory.
+pub mod AnyMemory
+pub mod Determined

@@ -1,0 +1,244 @@
+-- A move of the clock: the places for its trades, which of its rules is the first to hold, the state that it has reached in memory, and
+-- what a move that no rule refuses comes to. Assumes nothing.
+use Prim.Native.Nat.{ℕ, zero, suc, _+_, _-_, _≤_, _<_}
+use mathlib.Core.Path.{_≡_, refl, sym, ap, _∙_}
+use mathlib.Core.Bool.{Bool, true, false, cond}
+use mathlib.Core.List.{List, [], _∷_, _++_, map-append}
+use native.Mathlib.Omega.{arith}
+use lib.ListN.{length, take, drop, getD, length-map, take-append-drop}
+use lib.Seq.{length-take-le, drop-drop}
+use lib.Dec.{ltb}
+use borrow.Author.Tests.{eq-eqb, ne-eqb, eqb-false, le-leb, lt-leb, le-ltb, ltb-false}
+use Rattle.model.specs.declared.Order.{Order}
+use Rattle.model.specs.declared.Trade.{Trade}
+use Rattle.model.specs.declared.Day.{Day}
+use Rattle.model.specs.declared.Boundary.{Boundary}
+use Rattle.model.specs.declared.ClockReply.the-variants.{Refused, Moved}
+use Rattle.model.specs.Clock.{isTime, phaseAt, boundaries}
+use Rattle.model.specs.Figures.{at}
+use Rattle.model.specs.Refusals.{_when_, firstOf, unsound}
+use Rattle.model.specs.Calls.{written}
+use Rattle.model.specs.ClockCall.{auctionTrades, Held, pass, through, start, moved, clockRules, clockCall}
+use Rattle.model.proofs.Rules.{hit, skip, Numbered, NoneHolds, none-holds}
+use Rattle.book.specs.Rows.{orderOf, bookOf, tradeOf, tradesOf}
+use Rattle.book.specs.Standing.{Ranked}
+use Rattle.book.specs.Promises.{callLeft}
+use Rattle.pairing.proofs.Moves.{moved-few}
+use Rattle.soundness.specs.Ready.{Ready}
+use Rattle.moves.specs.declared.Dealt.{Dealt}
+use Rattle.moves.specs.declared.Passage.{Passage}
+use Rattle.moves.specs.Moving.{passesAny, dealt, soFar, Underway, Reached}
+use Rattle.moves.proofs.Boundaries.{
+  start-underway,
+  pass-grows,
+  through-underway,
+  few-grow,
+  through-next,
+  through-all,
+  moved-trades,
+}
+
+-- ---- the places for its trades
+
+module _ (d : Day) (t : ℕ) (rows : List (List ℕ)) (s : Ranked (bookOf rows)) (places : ℕ) where
+  -- no move has more trades than the book has places
+  pub list-holds-move : length rows ≤ places → false ≡ ltb places (length (moved d t (bookOf rows) .trades))
+  list-holds-move h =
+      sym
+      (le-ltb places (length (moved d t (bookOf rows) .trades))
+      (omega (arith, moved-few (bookOf rows) (s .stands) d t, length-map rows orderOf)))
+
+  module _ {p : Bool} (e : p ≡ passesAny (d .time) t boundaries) where
+    counted : moved d t (bookOf rows) .trades ≡ cond p (auctionTrades d (bookOf rows)) []
+    counted =
+        moved-trades d t (bookOf rows) s
+        ∙ ap (λ (q : Bool). cond q (auctionTrades d (bookOf rows)) []) (sym e)
+
+    pub none-lacks : p ≡ false → false ≡ ltb places (length (moved d t (bookOf rows) .trades))
+    none-lacks n =
+        sym
+        (ap (λ (ts : List Trade). ltb places (length ts)) counted
+        ∙ ap (λ (q : Bool). ltb places (length (cond q (auctionTrades d (bookOf rows)) []))) n
+        ∙ le-ltb places 0 (omega arith))
+
+    pub auction-lacks :
+        {r : Dealt}
+        → p ≡ true
+        → r ≡ dealt (auctionTrades d (bookOf rows))
+        → ltb places (r .made) ≡ ltb places (length (moved d t (bookOf rows) .trades))
+    unfolding dealt
+    auction-lacks n f =
+        ap (λ (x : Dealt). ltb places (x .made)) f
+        ∙ sym
+        (ap (λ (ts : List Trade). ltb places (length ts)) counted
+        ∙ ap (λ (q : Bool). ltb places (length (cond q (auctionTrades d (bookOf rows)) []))) n)
+
+-- ---- which rule is the first
+
+module _ (d : Day) (t : ℕ) (book : List Order) (room : ℕ) where
+  abbrev rules : ℕ
+  rules = firstOf (clockRules d t book room)
+
+  pub clock-unsound : unsound d book ≡ true → 15 ≡ rules
+  unfolding clockRules
+  clock-unsound u = sym (hit 15 _ u)
+
+  module _ (u : unsound d book ≡ false) where
+    pub clock-late : 86_399 < t → 1 ≡ rules
+    unfolding clockRules isTime
+    clock-late h = sym (skip 15 _ u ∙ hit 1 _ (rw (lt-leb t 86_399 h)))
+
+    module _ (h : t ≤ 86_399) where
+      pub clock-back : ltb t (d .time) ≡ true → 1 ≡ rules
+      unfolding clockRules isTime
+      clock-back l = sym (skip 15 _ u ∙ hit 1 _ (rw (le-leb t 86_399 h, l)))
+
+      module _ (l : ltb t (d .time) ≡ false) where
+        -- neither soundness nor the time is in the way
+        by-list : rules ≡ firstOf (13 when (ltb room (length (moved d t book .trades))) ∷ [])
+        unfolding clockRules isTime
+        by-list = skip 15 _ u ∙ skip 1 _ (rw (le-leb t 86_399 h, l))
+
+        pub clock-list : ltb room (length (moved d t book .trades)) ≡ true → 13 ≡ rules
+        clock-list e = sym (by-list ∙ hit 13 [] e)
+
+        pub clock-none : ltb room (length (moved d t book .trades)) ≡ false → 0 ≡ rules
+        unfolding firstOf
+        clock-none e = sym (by-list ∙ skip 13 [] e)
+
+  pub clock-numbered : Numbered (clockRules d t book room)
+  unfolding clockRules _when_
+  clock-numbered = (eqb-false 15 0 refl, (eqb-false 1 0 refl, (eqb-false 13 0 refl, tt)))
+
+  module _ {n : ℕ} (e : n ≡ rules) (z : n ≡ 0) where
+    none : NoneHolds (clockRules d t book room)
+    none = none-holds (clockRules d t book room) clock-numbered (sym e ∙ z)
+
+    pub move-fits : length (moved d t book .trades) ≤ room
+    unfolding clockRules _when_
+    move-fits = ltb-false room (length (moved d t book .trades)) (none .1 .1 .0)
+
+-- ---- the state in memory
+
+further : (n m : ℕ) (xs ys : List (List ℕ)) → n ≤ m → drop n xs ≡ drop n ys → drop m xs ≡ drop m ys
+further n m xs ys h e =
+    let k : n + (m - n) ≡ m = omega arith in
+    ap (λ (j : ℕ). drop j xs) (sym k)
+    ∙ sym (drop-drop (m - n) n xs)
+    ∙ ap (drop (m - n)) e
+    ∙ drop-drop (m - n) n ys
+    ∙ ap (λ (j : ℕ). drop j ys) k
+
+trades-drop : (n : ℕ) (l : List (List ℕ)) → tradesOf (drop n l) ≡ drop n (tradesOf l)
+trades-drop zero l = refl
+trades-drop (suc n) [] = refl
+trades-drop (suc n) (x ∷ l) = trades-drop n l
+
+module _ {h : Held} {lent : List (List ℕ)} {p : Passage} {rows trades : List (List ℕ)} (r : Reached h lent p rows trades) where
+  pub reached-made : p .made ≡ length (h .trades)
+  reached-made =
+      sym (length-map (take (p .made) trades) tradeOf ∙ length-take-le (p .made) trades (r .within))
+      ∙ ap (λ (k : Held). length (k .trades)) (r .state)
+
+  reached-written : tradesOf trades ≡ written (h .trades) (tradesOf lent)
+  unfolding written
+  reached-written =
+      ap tradesOf (sym (take-append-drop (p .made) trades))
+      ∙ map-append tradeOf (take (p .made) trades) (drop (p .made) trades)
+      ∙ ap (λ (ts : List Trade). ts ++ tradesOf (drop (p .made) trades)) (ap (λ (k : Held). k .trades) (r .state))
+      ∙ ap (λ (l : List (List ℕ)). h .trades ++ tradesOf l) (r .past)
+      ∙ ap (λ (ts : List Trade). h .trades ++ ts) (trades-drop (p .made) lent)
+      ∙ ap (λ (n : ℕ). h .trades ++ drop n (tradesOf lent)) reached-made
+
+  -- a step from here
+  module _ (old new : ℕ) (b : Boundary) {q : Passage} {rows₁ after : List (List ℕ)} (s : Reached (pass old new b (soFar p rows trades)) trades q rows₁ after) where
+    made-grows : p .made ≤ q .made
+    made-grows =
+        omega (
+          arith,
+          made-here s,
+          length-map (take (p .made) trades) tradeOf,
+          length-take-le (p .made) trades (r .within),
+          pass-grows old new b (soFar p rows trades),
+        )
+      where
+        made-here : Reached (pass old new b (soFar p rows trades)) trades q rows₁ after → q .made ≡ length (pass old new b (soFar p rows trades) .trades)
+        made-here x =
+            sym (length-map (take (q .made) after) tradeOf ∙ length-take-le (q .made) after (x .within))
+            ∙ ap (λ (k : Held). length (k .trades)) (x .state)
+
+    step : Reached (pass old new b h) lent q rows₁ after
+    step =
+        record {
+          state = s .state ∙ ap (pass old new b) (r .state);
+          within = s .within;
+          past = s .past ∙ further (p .made) (q .made) trades lent made-grows (r .past);
+        }
+
+-- ---- from boundary to boundary
+
+pub reached-start : (d : Day) (rows lent : List (List ℕ)) → Reached (start d (bookOf rows)) lent (record { day = d; made = 0 }) rows lent
+unfolding start
+reached-start d rows lent = record { state = refl; within = omega arith; past = refl }
+
+module _ (d : Day) (t : ℕ) (rows lent : List (List ℕ)) (bs : List Boundary) (k : ℕ) where
+  -- after the first k of these boundaries
+  abbrev pub After : Passage → List (List ℕ) → List (List ℕ) → Type 0
+  After p rows₁ trades = Reached (through (d .time) t (take k bs) (start d (bookOf rows))) lent p rows₁ trades
+
+  module _ {p : Passage} {rows₁ trades : List (List ℕ)} (r : After p rows₁ trades) where
+    pub after-underway : Ready d (bookOf rows) → Underway (soFar p rows₁ trades)
+    after-underway s = rw (r .state) (through-underway (d .time) t (take k bs) (start d (bookOf rows)) (start-underway d (bookOf rows) s))
+
+    module _ (b : Boundary) (l : k < length bs) where
+      then-state : pass (d .time) t (getD bs k b) (soFar p rows₁ trades) ≡ through (d .time) t (take (k + 1) bs) (start d (bookOf rows))
+      then-state = ap (pass (d .time) t (getD bs k b)) (r .state) ∙ through-next (d .time) t bs b k (start d (bookOf rows)) l
+
+      pub after-fits :
+          length (through (d .time) t bs (start d (bookOf rows)) .trades) ≤ length lent
+          → length trades ≡ length lent
+          → length (pass (d .time) t (getD bs k b) (soFar p rows₁ trades) .trades) ≤ length trades
+      after-fits f e =
+          omega (
+            arith,
+            ap (λ (h : Held). length (h .trades)) then-state,
+            few-grow (d .time) t bs (k + 1) (start d (bookOf rows)),
+          )
+
+      pub after-next :
+          {q : Passage} {rows₂ after : List (List ℕ)}
+          → Reached (pass (d .time) t (getD bs k b) (soFar p rows₁ trades)) trades q rows₂ after
+          → Reached (through (d .time) t (take (k + 1) bs) (start d (bookOf rows))) lent q rows₂ after
+      after-next {q} {rows₂} {after} s =
+          rw (through-next (d .time) t bs b k (start d (bookOf rows)) l) at (step r (d .time) t (getD bs k b) s)
+
+    pub after-all : length bs ≤ k → Reached (through (d .time) t bs (start d (bookOf rows))) lent p rows₁ trades
+    after-all l = rw (through-all (d .time) t bs k (start d (bookOf rows)) l) at r
+
+-- ---- what the call comes to
+
+module _ (d : Day) (t : ℕ) (rows lent : List (List ℕ)) {n : ℕ} (e : n ≡ firstOf (clockRules d t (bookOf rows) (length lent))) where
+  first : firstOf (clockRules d t (bookOf rows) (length (tradesOf lent))) ≡ n
+  first = ap (λ (k : ℕ). firstOf (clockRules d t (bookOf rows) k)) (length-map lent tradeOf) ∙ sym e
+
+  pub clock-refused :
+      (n ≡ 0 → ⊥)
+      → callLeft (record { reply = Refused n; made = 0; day = d }) rows lent ≡ clockCall d t (bookOf rows) (tradesOf lent)
+  unfolding clockCall
+  clock-refused z = rw (first, ne-eqb n 0 z)
+
+  pub clock-accepted :
+      (p : Passage) (rows₁ after : List (List ℕ)) {phase : ℕ} {day : Day}
+      → n ≡ 0
+      → Reached (moved d t (bookOf rows)) lent p rows₁ after
+      → phase ≡ phaseAt t
+      → day ≡ at t (p .day)
+      → callLeft (record { reply = Moved phase (p .made); made = p .made; day = day }) rows₁ after
+      ≡ clockCall d t (bookOf rows) (tradesOf lent)
+  unfolding clockCall
+  clock-accepted p rows₁ after {phase} {day} z r f g =
+      let m : p .made ≡ length (moved d t (bookOf rows) .trades) = reached-made r in
+      let b : bookOf rows₁ ≡ moved d t (bookOf rows) .book = ap (λ (h : Held). h .book) (r .state) in
+      let w : tradesOf after ≡ written (moved d t (bookOf rows) .trades) (tradesOf lent) = reached-written r in
+      let e : day ≡ at t (moved d t (bookOf rows) .day) = g ∙ ap (λ (h : Held). at t (h .day)) (r .state) in
+      rw (first, eq-eqb n 0 z, f, m, b, w, e)

@@ -1,0 +1,3 @@
+pub mod AuctionHeld
+pub mod Boundaries
+pub mod ClockLaws

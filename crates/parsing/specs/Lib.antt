@@ -1,0 +1,2 @@
+-- What reading a line says, in terms of the definitions' lines.
+pub mod Words

@@ -1,0 +1,2 @@
+-- What every function that prints promises.
+pub mod Printing

@@ -1,0 +1,34 @@
+-- How many bytes each record has. Assumes nothing.
+use Prim.Native.Nat.{ℕ, _*_}
+use mathlib.Core.Path.{_≡_}
+use mathlib.Core.List.{List}
+use lib.ListN.{length}
+use Rattle.model.specs.declared.Order.{Order}
+use Rattle.model.specs.declared.Trade.{Trade}
+use Rattle.model.specs.declared.Day.{Day}
+use Rattle.book.specs.Rows.{rowOf, tradeRow}
+use Rattle.records.specs.Layout.{digits, bytes, orderBytes, tradeBytes, bookBytes, tradesBytes, dayRow, dayBytes}
+use Rattle.records.proofs.Digits.{length-digits}
+use Rattle.records.proofs.Runs.{length-flat}
+
+pub length-bytes : (ns : List ℕ) → length (bytes ns) ≡ 8 * length ns
+unfolding bytes
+length-bytes ns = length-flat (digits 8) 8 (length-digits 8) ns
+
+pub length-order : (o : Order) → length (orderBytes o) ≡ 40
+length-order o = length-bytes (rowOf o)
+
+pub length-trade : (t : Trade) → length (tradeBytes t) ≡ 48
+length-trade t = length-bytes (tradeRow t)
+
+pub length-day : (d : Day) → length (dayBytes d) ≡ 64
+unfolding dayBytes
+length-day d = length-bytes (dayRow d)
+
+pub length-book : (book : List Order) → length (bookBytes book) ≡ 40 * length book
+unfolding bookBytes
+length-book book = length-flat orderBytes 40 length-order book
+
+pub length-trades : (ts : List Trade) → length (tradesBytes ts) ≡ 48 * length ts
+unfolding tradesBytes
+length-trades ts = length-flat tradeBytes 48 length-trade ts

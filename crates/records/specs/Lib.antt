@@ -1,0 +1,2 @@
+-- How numbers, records and lists lie in memory.
+pub mod Layout

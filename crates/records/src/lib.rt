@@ -1,0 +1,15 @@
+// Numbers, days, orders and trades as bytes, books and trade lists of them, and replies.
+pub mod days;
+pub mod lists;
+pub mod numbers;
+pub mod replies;
+pub mod rooms;
+
+// How many bytes each of them has.
+pub const NUMBER_BYTES: usize = 8;
+
+pub const DAY_BYTES: usize = 64;
+
+pub const ORDER_BYTES: usize = 40;
+
+pub const TRADE_BYTES: usize = 48;

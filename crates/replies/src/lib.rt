@@ -1,0 +1,113 @@
+// A reply as its numbers: the refusal's number first, 0 where the call is accepted, then the values. Lines and bytes are written
+// from these alone.
+use model::CancelReply;
+use model::ClockReply;
+use model::ListReply;
+use model::OpenReply;
+use model::OrderReply;
+use model::Remainder;
+use model::ReportReply;
+ghost use mathlib.Core.Path.{_≡_};
+ghost use Rattle.model.specs.Replies.{restingOf, withdrawnOf, openNumbers, clockNumbers, orderNumbers, cancelNumbers, listNumbers};
+ghost use Rattle.replies.specs.Words.{word, reportWords};
+
+pub fn open_numbers(told: OpenReply) -> [u64; 1]
+    ensures { λ r. ⌜ r ≡ openNumbers told ⌝ }
+{
+    match told {
+        OpenReply::Refused(n) => [n],
+        OpenReply::Opened(_) => [0],
+    }
+}
+
+pub fn clock_numbers(told: ClockReply) -> [u64; 3]
+    ensures { λ r. ⌜ r ≡ clockNumbers told ⌝ }
+{
+    match told {
+        ClockReply::Refused(n) => [n, 0, 0],
+        ClockReply::Moved { phase, trades } => [0, phase, trades as u64],
+    }
+}
+
+// The shares of a remainder that rest, and those that are withdrawn.
+fn resting(r: Remainder) -> u64
+    ensures { λ q. ⌜ q ≡ restingOf r ⌝ }
+{
+    match r {
+        Remainder::Nothing => 0,
+        Remainder::Rests(q) => q,
+        Remainder::Withdrawn(_) => 0,
+    }
+}
+
+fn withdrawn(r: Remainder) -> u64
+    ensures { λ q. ⌜ q ≡ withdrawnOf r ⌝ }
+{
+    match r {
+        Remainder::Nothing => 0,
+        Remainder::Rests(_) => 0,
+        Remainder::Withdrawn(q) => q,
+    }
+}
+
+pub fn order_numbers(told: OrderReply) -> [u64; 6]
+    ensures { λ r. ⌜ r ≡ orderNumbers told ⌝ }
+{
+    match told {
+        OrderReply::Refused(n) => [n, 0, 0, 0, 0, 0],
+        OrderReply::Accepted(e) => {
+            let rest = e.remainder;
+            [
+                0,
+                e.number,
+                e.filled,
+                resting(rest),
+                withdrawn(rest),
+                e.levels,
+            ]
+        }
+    }
+}
+
+pub fn cancel_numbers(told: CancelReply) -> [u64; 2]
+    ensures { λ r. ⌜ r ≡ cancelNumbers told ⌝ }
+{
+    match told {
+        CancelReply::Refused(n) => [n, 0],
+        CancelReply::Withdrawn(q) => [0, q],
+    }
+}
+
+pub fn list_numbers(told: ListReply) -> [u64; 3]
+    ensures { λ r. ⌜ r ≡ listNumbers told ⌝ }
+{
+    match told {
+        ListReply::Refused(n) => [n, 0, 0],
+        ListReply::Listed { count, next } => [0, count as u64, next],
+    }
+}
+
+// A number with a sign as 64 bits, in two's complement.
+fn word_of(z: i64) -> u64
+    ensures { λ r. ⌜ r ≡ word z ⌝ }
+{
+    if z < 0 {
+        let below = (-1) - z;
+        return 18446744073709551615 - (below as u64);
+    }
+    z as u64
+}
+
+// The report's surplus has a sign, so its numbers are words.
+pub fn report_numbers(told: ReportReply) -> [u64; 4]
+    ensures { λ r. ⌜ r ≡ reportWords told ⌝ }
+{
+    match told {
+        ReportReply::Refused(n) => [n, 0, 0, 0],
+        ReportReply::Priced {
+            price,
+            volume,
+            surplus,
+        } => [0, price, volume, word_of(surplus)],
+    }
+}

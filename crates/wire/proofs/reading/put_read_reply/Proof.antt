@@ -1,0 +1,72 @@
+-- `wire::reading::put_read_reply` meets its contract: the numbers of either reply are put. Assumes nothing.
+use mathlib.Core.Path.{sym, ap, _∙_}
+use Rattle.model.specs.Replies.{listNumbers}
+use Rattle.wire.specs.Pairs.{readNumbers}
+use Rattle.wire.proofs.Refused.{answered}
+use borrow.Author.Needs.{needs}
+use Rattle.wire.proofs.reading.put_read_reply.Statement.{statement}
+use Rattle.wire.proofs.reading.put_read_reply.Tie as tie
+
+enum-known-told : tie.Need-enum-known-told
+enum-known-told c = search needs
+
+report-numbers-requires : tie.Need-report-numbers-requires
+report-numbers-requires c κs = search needs
+
+slice-aggregate-put-reply : tie.Need-slice-aggregate-put-reply
+slice-aggregate-put-reply c = search needs
+
+put-reply-requires : tie.Need-put-reply-requires
+put-reply-requires c κs = search needs
+
+same-length : tie.Need-same-length
+same-length c = search needs
+
+returns : tie.Need-returns
+unfolding readNumbers
+returns c =
+    let n = c .before .before .before .before .before in
+    answered _ (n .report-numbers .ensures ∙ sym (ap readNumbers (n .before .before .told .given .1))) (c .before .before .put-reply .ensures)
+
+enum-known-told-2 : tie.Need-enum-known-told-2
+enum-known-told-2 c = search needs
+
+list-reply-requires : tie.Need-list-reply-requires
+list-reply-requires c κs = search needs
+
+list-numbers-requires : tie.Need-list-numbers-requires
+list-numbers-requires c κs = search needs
+
+slice-aggregate-put-reply-2 : tie.Need-slice-aggregate-put-reply-2
+slice-aggregate-put-reply-2 c = search needs
+
+put-reply-requires-2 : tie.Need-put-reply-requires-2
+put-reply-requires-2 c κs = search needs
+
+same-length-2 : tie.Need-same-length-2
+same-length-2 c = search needs
+
+returns-2 : tie.Need-returns-2
+unfolding readNumbers
+returns-2 c =
+    let n = c .before .before .before .before .before in
+    let l = n .before in
+    answered _ (n .list-numbers .ensures ∙ ap listNumbers (l .list-reply .ensures) ∙ sym (ap readNumbers (l .before .before .told2 .given .1))) (c .before .before .put-reply2 .ensures)
+
+pub put-read-reply-spec : {M : Type 1} → statement M
+put-read-reply-spec =
+    tie.close
+    (tie.spec
+    enum-known-told
+    report-numbers-requires
+    slice-aggregate-put-reply
+    put-reply-requires
+    same-length
+    returns
+    enum-known-told-2
+    list-reply-requires
+    list-numbers-requires
+    slice-aggregate-put-reply-2
+    put-reply-requires-2
+    same-length-2
+    returns-2)
