@@ -1,6 +1,6 @@
 /* The fuzz target: an input is read as a small book and a list of steps. Each step is a call, made by both engines and compared,
  * or it sets a length or a number, or it damages day or book for one call. A difference aborts. The proved library is linked as
- * `rt staticlib` builds it, so libFuzzer counts the branches of the independent engine. bench/corpus_maker spells the steps. */
+ * doors/library builds it, so libFuzzer counts the branches of the independent engine. bench/corpus_maker spells the steps. */
 #include "compare.h"
 #include <stdio.h>
 #include <stdlib.h>

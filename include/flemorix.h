@@ -1,15 +1,23 @@
-/* The calls of Flemorix for C. What each promises is proved; docs/C.md says how day, book, trades, prices and replies lie in memory.
+/* The calls of Flemorix for C and C++. What each promises is proved; docs/C.md has an example, and says how day, book, trades,
+ * prices and replies lie in memory.
  *
  * Every slice is a pointer and a length in bytes. Any length is taken, also 0. The slices of one call must not overlap.
  * Every call returns its refusal number, 0 where it is accepted, and writes its reply to the lent reply buffer as numbers of
  * 8 bytes, as many whole ones as the buffer holds: the refusal number first, then the values named below, zeros after a
  * refusal. A refused call leaves day, book, trades and prices as they were. A call takes up to half a megabyte of stack, and
- * nothing from the heap. */
+ * nothing from the heap. There are no globals: calls on different memory may run at once in different threads. */
 #ifndef FLEMORIX_H
 #define FLEMORIX_H
 
 #include <stddef.h>
 #include <stdint.h>
+
+#ifdef __cplusplus
+extern "C" {
+#endif
+
+/* A book has 1 to so many places. */
+#define FLEMORIX_MOST_PLACES 4096
 
 /* A day. All zeros is no day: flemorix_open makes one. */
 struct flemorix_day {
@@ -44,6 +52,26 @@ struct flemorix_trade {
     uint64_t seller_left;
 };
 
+enum flemorix_side { FLEMORIX_BUY = 0, FLEMORIX_SELL = 1 };
+
+enum flemorix_kind {
+    FLEMORIX_LIMIT = 0,              /* trades while prices meet, the remainder rests */
+    FLEMORIX_OPPOSITE_BEST = 1,      /* at the other side's best on entry, then as a limit order */
+    FLEMORIX_OWN_BEST = 2,           /* at its own side's best, then as a limit order */
+    FLEMORIX_FIVE_BEST_WITHDRAW = 3, /* within the five best prices, the remainder is withdrawn */
+    FLEMORIX_FIVE_BEST_REST = 4,     /* within the five best prices, the remainder rests */
+};
+
+enum flemorix_phase {
+    FLEMORIX_CLOSED = 0,         /* before 9:15 and from 15:00 on */
+    FLEMORIX_OPENING_CALL = 1,   /* from 9:15 */
+    FLEMORIX_OPENING_LOCKED = 2, /* from 9:20: no cancels */
+    FLEMORIX_QUIET = 3,          /* from 9:25 */
+    FLEMORIX_CONTINUOUS = 4,     /* from 9:30 and from 13:00 */
+    FLEMORIX_NOON = 5,           /* from 11:30 */
+    FLEMORIX_CLOSING_CALL = 6,   /* from 14:57: no cancels */
+};
+
 enum flemorix_refusal {
     FLEMORIX_ACCEPTED = 0,
     FLEMORIX_TIME = 1,       /* time above 86,399 or before the day's time */
@@ -61,6 +89,44 @@ enum flemorix_refusal {
     FLEMORIX_ROOM = 13,      /* the event's trades outnumber the lent trade list */
     FLEMORIX_OPENING = 14,   /* opening: close not 1 to 999,999, mark not 0 or 1, places not 1 to 4,096, or day not 64 bytes */
     FLEMORIX_UNSOUND = 15,   /* day not sound or not 64 bytes, book out of order, or places not 1 to 4,096 */
+};
+
+/* The replies, one for each call: a buffer may be one of these. The values are 0 where the call is refused. */
+struct flemorix_open_reply {
+    uint64_t refusal;
+};
+
+struct flemorix_order_reply {
+    uint64_t refusal;
+    uint64_t number;    /* the order's number, to cancel it by */
+    uint64_t filled;    /* shares that traded on entry */
+    uint64_t resting;   /* shares that rest in the book */
+    uint64_t withdrawn; /* shares that were withdrawn */
+    uint64_t levels;    /* different prices of its trades */
+};
+
+struct flemorix_cancel_reply {
+    uint64_t refusal;
+    uint64_t shares; /* shares withdrawn */
+};
+
+struct flemorix_clock_reply {
+    uint64_t refusal;
+    uint64_t phase;  /* of the new time */
+    uint64_t trades; /* how many stand at the front of the trade list */
+};
+
+struct flemorix_report_reply {
+    uint64_t refusal;
+    uint64_t price;
+    uint64_t volume;
+    int64_t surplus; /* demand minus supply at the price */
+};
+
+struct flemorix_list_reply {
+    uint64_t refusal;
+    uint64_t count; /* prices written */
+    uint64_t next;  /* the next one due, 0 where there is none */
 };
 
 /* Opens a day: every place of the book becomes free, and the day's bytes are the new day. Reply: the refusal alone. 14. */
@@ -93,5 +159,9 @@ uint64_t flemorix_report(const uint8_t *day, size_t day_length, const uint8_t *b
  * the next one due or 0. 15. */
 uint64_t flemorix_list(const uint8_t *day, size_t day_length, const uint8_t *book, size_t book_length, uint8_t *prices,
                        size_t prices_length, uint8_t *reply, size_t reply_length, uint64_t asked);
+
+#ifdef __cplusplus
+}
+#endif
 
 #endif

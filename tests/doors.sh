@@ -1,0 +1,96 @@
+#!/bin/bash
+# The doors as people use them: ./run, ./convert, ./explain, ./install, and the example of docs/C.md, compiled as C and as C++ against
+# what ./install put, linked with the static and the shared library, and run. Ends with a line 'N passed, M failed'.
+set -u
+cd "$(dirname "$0")/.." || exit 2
+work=$(mktemp -d) || exit 2
+trap 'rm -rf "$work"' EXIT
+export PYTHONDONTWRITEBYTECODE=1
+
+passed=0 failed=0
+check() { # NAME STATUS: passed where it is 0
+    if [ "$2" -eq 0 ]; then passed=$((passed + 1)); else failed=$((failed + 1)); echo "doors: $1"; fi
+}
+ends() { # NAME WANTED-STATUS COMMAND..: the exit status; what it writes stands in $work/out and $work/err
+    local name=$1 wanted=$2 status
+    shift 2
+    "$@" > "$work/out" 2> "$work/err"
+    status=$?
+    [ "$status" -eq "$wanted" ]
+    check "$name: exit status $status and not $wanted" $?
+}
+says() { # NAME WORDS FILE
+    grep -qF -- "$2" "$3"
+    check "$1: it does not say '$2'" $?
+}
+same() { # NAME EXPECTED ACTUAL
+    cmp -s "$2" "$3"
+    check "$1 differs" $?
+}
+
+# ./run and ./convert
+ends "run SCRIPT" 0 ./run examples/quiet-day.txt
+same "run SCRIPT" examples/quiet-day.out "$work/out"
+ends "run < SCRIPT" 0 ./run < examples/late-cancel.txt
+same "run < SCRIPT" examples/late-cancel.out "$work/out"
+ends "run from another folder" 0 bash -c "cd '$work' && '$PWD/run' '$PWD/examples/odd-lot.txt'"
+same "run from another folder" examples/odd-lot.out "$work/out"
+ends "run --help" 0 ./run --help
+says "run --help" "O side kind account quantity price balance" "$work/out"
+ends "run, no such file" 2 ./run no-such-day.txt
+says "run, no such file" "no such file" "$work/err"
+ends "run, no such option" 2 ./run --fast
+ends "run, two scripts" 2 ./run examples/quiet-day.txt examples/late-cancel.txt
+ends "run on a folder" 1 ./run examples
+says "run on a folder" "standard input cannot be read" "$work/err"
+ends "run, output full" 1 bash -c './run examples/quiet-day.txt > /dev/full'
+says "run, output full" "standard output cannot be written" "$work/err"
+printf 'O 0 0 7 100 1000\n' > "$work/old"
+printf 'O 0 0 7 100 1000 0\n' > "$work/new"
+ends "convert SCRIPT" 0 ./convert "$work/old"
+same "convert SCRIPT" "$work/new" "$work/out"
+ends "convert --help" 0 ./convert --help
+if script --version > /dev/null 2>&1; then # a terminal of its own
+    script -qec './run' /dev/null < /dev/null > "$work/out" 2>&1
+    says "run on a terminal" "waiting for lines" "$work/out"
+fi
+
+# ./explain: every refusal that a line can meet. 10 and 11 need a full book and a million orders; their replies are stored.
+for session in tests/explain/*.txt; do
+    if [ -e "${session%.txt}.replies" ]; then
+        ends "explain $session" 0 ./explain --replies "${session%.txt}.replies" "$session"
+    else
+        ends "explain $session" 0 ./explain "$session"
+    fi
+    same "explain $session" "${session%.txt}.out" "$work/out"
+done
+for refusal in {1..12} 14 16 17; do
+    cat tests/explain/*.out > "$work/all"
+    says "explain, refusal $refusal" "→ X $refusal: " "$work/all"
+done
+ends "explain --help" 0 ./explain --help
+ends "explain, no such file" 2 ./explain no-such-day.txt
+
+# ./install, and the example of docs/C.md
+ends "install without a folder" 2 ./install
+ends "install" 0 ./install "$work/prefix"
+awk '/^```/ { inside = ($0 == "```c"); next } inside' docs/C.md > "$work/example.c"
+awk '/^```/ { inside = ($0 == "```text"); next } inside' docs/C.md > "$work/expected"
+cp "$work/example.c" "$work/example.cpp"
+flags=(-O2 -Wall -Wextra -Werror -I"$work/prefix/include")
+static=$work/prefix/lib/libflemorix.a
+shared=(-L"$work/prefix/lib" -lflemorix -Wl,-rpath,"$work/prefix/lib")
+compiles() { # NAME COMPILER.. : then the program prints what the page says
+    local name=$1
+    shift
+    ends "the example $name" 0 "$@" -o "$work/example"
+    ends "the example $name, run" 0 tests/x86 "$work/example"
+    same "the example $name" "$work/expected" "$work/out"
+}
+compiles "in C" "$(doors/library --compiler)" -std=c11 "${flags[@]}" "$work/example.c" "$static"
+compiles "in C++" "$(doors/library --compiler++)" -std=c++11 "${flags[@]}" "$work/example.cpp" "$static"
+compiles "in C, shared" "$(doors/library --compiler)" -std=c11 "${flags[@]}" "$work/example.c" "${shared[@]}"
+says "pkg-config" "-lflemorix" "$work/prefix/lib/pkgconfig/flemorix.pc"
+
+echo "$passed passed, $failed failed"
+[ "$failed" -eq 0 ]
