@@ -11,6 +11,7 @@ ghost use Prim.Native.Nat.{_*_, _≤_};
 ghost use lib.ListN.{length, take};
 ghost use Rattle.convert.specs.Chunkwise.{lineAfter, remembered};
 ghost use Rattle.convert.specs.Promises.{textOf};
+ghost use Rattle.convert_script.specs.Turns.{Reached, Turned};
 
 // Three bytes for each byte of a chunk.
 const OUTPUT: usize = 196_608;
@@ -75,6 +76,8 @@ fn fill(buf: &mut [u8]) -> Input
 // Reads once, and writes what was read.
 fn turn(line: Pending, buf: &mut [u8], out: &mut [u8]) -> AfterChunk
     requires { ⌜ 3 * length (now buf) ≤ length (now out) ⌝ }
+    requires { ⌜ Reached line ⌝ }
+    ensures { λ r. ⌜ (r .stops ≡ false → Turned line (r .line)) ⌝ }
 {
     let input = fill(buf);
     if input.failed {

@@ -1,2 +1,3 @@
--- The laws behind a chunk that is served.
+-- The laws of a chunk that is served, and of the turns.
 pub mod Rounds
+pub mod Turns

@@ -1,33 +1,22 @@
 -- A chunk answered round by round and carried over is the definitions' step from chunk to chunk. Assumes nothing.
 use Prim.Native.Nat.{ℕ, _-_, _≤_}
-use mathlib.Core.Path.{_≡_, sym, ap, subst, _∙_}
+use mathlib.Core.Path.{_≡_, sym, _∙_}
 use mathlib.Core.Bool.{Bool, false}
 use mathlib.Core.List.{List}
-use mathlib.Core.Option.{Option}
 use native.Mathlib.Omega.{arith}
 use lib.ListN.{length, take, drop, length-take}
-use Rattle.model.specs.Lines.{linesOf}
-use Rattle.model.specs.Session as Session
 use Rattle.text.specs.declared.Carry.{Carry}
-use Rattle.text.specs.Chunks.{CarriedOver, asksOf}
+use Rattle.text.specs.Chunks.{CarriedOver}
 use Rattle.text.specs.Answers.{carryAfter, keptAfter}
 use Rattle.printing.specs.Printing.{Wrote}
 use Rattle.text.proofs.Carrying.{drop-take}
-use Rattle.text.proofs.Sessions.{carried-after, carry-few}
+use Rattle.text.proofs.Sessions.{carried-after}
 use Rattle.desk.specs.Desks.{deskOf}
-use Rattle.chunks.specs.SoundDesk.{SoundDesk}
 use Rattle.desk.specs.declared.Desk as Desk
 use Rattle.chunks.specs.declared.Progress.{Progress}
 use Rattle.chunks.specs.Points.{pointOf, Onward, Through}
-use Rattle.chunks.proofs.SoundDesks.{sound-after}
 use Rattle.chunks.proofs.LineByLine.{through-desk}
-use Rattle.rehearse.specs.declared.AfterChunk.{AfterChunk}
-use Rattle.rehearse.specs.declared.Input.{Input}
-use Rattle.rehearse.specs.declared.Input.the-variants.{Bytes}
-use Rattle.rehearse.specs.Serving.{Steps, filled}
-
-pub filled-with : {r : Input} {n : ℕ} (room : ℕ) → r ≡ Bytes n → filled room r → n ≤ room
-filled-with room e f = subst (filled room) e f
+use Rattle.rehearse.specs.Serving.{Steps}
 
 -- what is put at the front of a buffer ends in it
 pub put-within : {before after : List ℕ} {n : ℕ} → Wrote before 0 (take n after) after n → n ≤ length after
@@ -53,17 +42,3 @@ module _
     carry = carried .0;
     kept = carried .1;
   }
-
--- a chunk that was served leaves a sound desk, and keeps 79 bytes at most
-pub steps-sound :
-    {chunk : List ℕ} {long : Bool} {old : Option Session.Desk} {rows : List (List ℕ)} {buf : List ℕ} {r : AfterChunk}
-    → Steps chunk long old rows buf r
-    → SoundDesk old
-    → SoundDesk (deskOf (r .desk) rows)
-steps-sound {chunk} {long} {old} s k = subst SoundDesk (sym (s .desk)) (sound-after (asksOf long (linesOf chunk)) old k)
-
-pub steps-few :
-    {chunk : List ℕ} {long : Bool} {old : Option Session.Desk} {rows : List (List ℕ)} {buf : List ℕ} {r : AfterChunk}
-    → Steps chunk long old rows buf r
-    → r .kept ≤ 79
-steps-few {chunk} {long} s = rw (ap (λ (c : Carry). c .kept) (s .carry)) (carry-few long chunk)

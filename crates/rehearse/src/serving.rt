@@ -15,11 +15,15 @@ use text::reading::is_left;
 ghost use mathlib.Core.Path.{_≡_};
 ghost use mathlib.Core.Bool.{true, false};
 ghost use Prim.Native.Nat.{_≤_};
+ghost use mathlib.Core.List.{[]};
+ghost use mathlib.Core.Option.{none};
 ghost use lib.ListN.{length, take};
+ghost use Rattle.printing.specs.Printing.{Wrote};
+ghost use Rattle.text.specs.Answers.{chunkwise};
 ghost use Rattle.desk.specs.Desks.{deskOf};
 ghost use Rattle.chunks.specs.SoundDesk.{SoundDesk};
 ghost use Rattle.chunks.specs.Points.{pointOf, Onward, Through};
-ghost use Rattle.rehearse.specs.Serving.{Steps, filled};
+ghost use Rattle.rehearse.specs.Serving.{Steps, Filled, Reached, Turned};
 
 fn stopped(h: AfterChunk) -> AfterChunk
     ensures { λ r. ⌜ r .stops ≡ true ⌝ }
@@ -104,7 +108,7 @@ fn serve(
 // Reads once, after what was kept.
 fn fill(buf: &mut [u8], kept: usize) -> Input
     requires { ⌜ kept ≤ length (now buf) ⌝ }
-    ensures { λ r. ⌜ filled (length (now (buf .exit))) r ⌝ }
+    ensures { λ r. ⌜ Filled kept (now (buf .entry)) (now (buf .exit)) r ⌝ }
 {
     let got = libc::read(libc::STDIN_FILENO, &mut buf[kept..]);
     if got < 0 {
@@ -117,7 +121,18 @@ fn fill(buf: &mut [u8], kept: usize) -> Input
     Input::Bytes(n)
 }
 
-// The end of the input: an unended line is refused.
+// What is due at the end of the input: an unended line is refused.
+fn put_end(carry: Carry, out: &mut [u8]) -> usize
+    requires { ⌜ 110 ≤ length (now out) ⌝ }
+    ensures { λ r. ⌜ Wrote (now (out .entry)) 0 (chunkwise carry [] none []) (now (out .exit)) r ⌝ }
+{
+    if !is_left(carry) {
+        return 0;
+    }
+    put_refusal(16, out, 0)
+}
+
+// The end of the input.
 fn finish(h: AfterChunk, out: &mut [u8]) -> AfterChunk
     requires { ⌜ 110 ≤ length (now out) ⌝ }
     ensures { λ r. ⌜ r .stops ≡ true ⌝ }
@@ -126,10 +141,7 @@ fn finish(h: AfterChunk, out: &mut [u8]) -> AfterChunk
         kept: h.kept,
         long: h.long,
     };
-    if !is_left(carry) {
-        return stopped(h);
-    }
-    let n = put_refusal(16, out, 0);
+    let n = put_end(carry, out);
     reply(&out[..n]);
     stopped(h)
 }
@@ -142,8 +154,9 @@ fn turn(
     buf: &mut [u8],
     out: &mut [u8],
 ) -> AfterChunk
-    requires { ⌜ (length (now rows) ≡ 1024) × (length (now trades) ≡ 2048) × (262254 ≤ length (now out)) × (h .kept ≤ 79) × (80 ≤ length (now buf)) × SoundDesk (deskOf (h .desk) (now rows)) ⌝ }
-    ensures { λ r. ⌜ (r .stops ≡ false → (r .kept ≤ 79) × SoundDesk (deskOf (r .desk) (now (rows .exit)))) ⌝ }
+    requires { ⌜ (length (now rows) ≡ 1024) × (length (now trades) ≡ 2048) × (262254 ≤ length (now out)) × (80 ≤ length (now buf)) ⌝ }
+    requires { ⌜ Reached (now rows) (now buf) h ⌝ }
+    ensures { λ r. ⌜ (r .stops ≡ false → Turned (now (rows .entry)) (now (buf .entry)) h (now (rows .exit)) (now (buf .exit)) r) ⌝ }
 {
     let kept = h.kept;
     let input = fill(buf, kept);

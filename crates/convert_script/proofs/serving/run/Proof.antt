@@ -1,12 +1,16 @@
--- The lent arrays keep their lengths: three bytes out for each byte in. Assumes nothing.
+-- The lent arrays keep their lengths, three bytes out for each byte in, and the line is what the chunks so far have left. Assumes
+-- nothing.
 use mathlib.Core.Path.{_≡_}
 use lib.ListN.{length}
+use Rattle.convert_script.specs.Turns.{Reached}
+use Rattle.convert_script.proofs.Turns.{at-outset, reached-on}
 use borrow.Author.Needs.{needs}
 use Rattle.convert_script.proofs.serving.run.Statement.{statement}
 use Rattle.convert_script.proofs.serving.run.Tie as tie
 
 abbrev Inv-loop : tie.InvT-loop
-Inv-loop buf₀ out₀ line₀ turns₀ buf out line turns = (length buf ≡ 65536) × (length out ≡ 196608)
+Inv-loop buf₀ out₀ line₀ turns₀ buf out line turns =
+    (length buf ≡ 65536) × (length out ≡ 196608) × Reached line
 
 abbrev μ-loop : tie.MeasureT-loop
 μ-loop buf₀ out₀ line₀ turns₀ buf out line turns = turns
@@ -21,7 +25,7 @@ start-requires : tie.Need-start-requires Inv-loop μ-loop
 start-requires c κs = search needs
 
 loop-holds : tie.Need-loop-holds Inv-loop μ-loop
-loop-holds c = search needs
+loop-holds c = (search needs, search needs, at-outset (c .start .ensures))
 
 sub-turns : tie.Need-sub-turns Inv-loop μ-loop
 sub-turns c = search needs
@@ -33,7 +37,7 @@ slice-aggregate-turn-2 : tie.Need-slice-aggregate-turn-2 Inv-loop μ-loop
 slice-aggregate-turn-2 c = search needs
 
 turn-requires : tie.Need-turn-requires Inv-loop μ-loop
-turn-requires c κs = search needs
+turn-requires c κs = (search needs, c .before .before .before .loop .inv .2)
 
 returns : tie.Need-returns Inv-loop μ-loop
 returns c = search needs
@@ -42,7 +46,9 @@ loop-less : tie.Need-loop-less Inv-loop μ-loop
 loop-less c = search needs
 
 loop-again : tie.Need-loop-again Inv-loop μ-loop
-loop-again c = search needs
+loop-again c =
+    let t = c .before .before .before .before in
+    (search needs, search needs, reached-on (t .before .before .before .before .loop .inv .2) (t .turn .ensures (c .before .if1 .left)))
 
 returns-2 : tie.Need-returns-2 Inv-loop μ-loop
 returns-2 c = search needs

@@ -1,16 +1,15 @@
--- The lent arrays keep their lengths, and what is kept leaves room to read. Assumes nothing.
-use Prim.Native.Nat.{_≤_}
+-- The lent arrays keep their lengths, and turn by turn memory holds what the chunks so far have made of the outset. Assumes nothing.
 use mathlib.Core.Path.{_≡_}
 use lib.ListN.{length}
-use Rattle.desk.specs.Desks.{deskOf}
-use Rattle.chunks.specs.SoundDesk.{SoundDesk}
+use Rattle.rehearse.specs.Serving.{Reached}
+use Rattle.rehearse.proofs.Turns.{at-outset, reached-on}
 use borrow.Author.Needs.{needs}
 use Rattle.rehearse.proofs.serving.run.Statement.{statement}
 use Rattle.rehearse.proofs.serving.run.Tie as tie
 
 abbrev Inv-loop : tie.InvT-loop
 Inv-loop rows₀ trades₀ buf₀ out₀ h₀ turns₀ rows trades buf out h turns =
-    (length rows ≡ 1024) × (length trades ≡ 2048) × (length buf ≡ 65536) × (length out ≡ 393216) × (h .kept ≤ 79) × SoundDesk (deskOf (h .desk) rows)
+    (length rows ≡ 1024) × (length trades ≡ 2048) × (length buf ≡ 65536) × (length out ≡ 393216) × Reached rows buf h
 
 abbrev μ-loop : tie.MeasureT-loop
 μ-loop rows₀ trades₀ buf₀ out₀ h₀ turns₀ rows trades buf out h turns = turns
@@ -28,7 +27,7 @@ output-requires : tie.Need-output-requires Inv-loop μ-loop
 output-requires c κs = search needs
 
 loop-holds : tie.Need-loop-holds Inv-loop μ-loop
-loop-holds c = search needs
+loop-holds c = (search needs, search needs, search needs, search needs, at-outset _ _)
 
 sub-turns : tie.Need-sub-turns Inv-loop μ-loop
 sub-turns c = search needs
@@ -46,7 +45,9 @@ slice-aggregate-turn-4 : tie.Need-slice-aggregate-turn-4 Inv-loop μ-loop
 slice-aggregate-turn-4 c = search needs
 
 turn-requires : tie.Need-turn-requires Inv-loop μ-loop
-turn-requires c κs = search needs
+turn-requires c κs =
+    let l = c .before .before .before .before .before .loop .inv in
+    ((search needs, search needs, search needs, search needs), l .4)
 
 returns : tie.Need-returns Inv-loop μ-loop
 returns c = search needs
@@ -56,8 +57,9 @@ loop-less c = search needs
 
 loop-again : tie.Need-loop-again Inv-loop μ-loop
 loop-again c =
-    let t = c .before .before .before .before .before .turn .ensures (c .if1 .left) in
-    (search needs, search needs, search needs, search needs, t .0, t .1)
+    let t = c .before .before .before .before .before in
+    let l = t .before .before .before .before .before .before .loop .inv in
+    (search needs, search needs, search needs, search needs, reached-on (l .4) (t .turn .ensures (c .if1 .left)))
 
 returns-2 : tie.Need-returns-2 Inv-loop μ-loop
 returns-2 c = search needs

@@ -1,12 +1,15 @@
 -- A read that failed or ended stops the program; else the chunk is served. Assumes nothing.
+use native.Mathlib.Omega.{arith}
 use Rattle.model.proofs.Bools.{not-both}
-use Rattle.rehearse.proofs.Rounds.{filled-with, steps-few, steps-sound}
+use Rattle.rehearse.proofs.Turns.{filled-with, turned, reached-few, reached-sound}
 use borrow.Author.Needs.{needs}
 use Rattle.rehearse.proofs.serving.turn.Statement.{statement}
 use Rattle.rehearse.proofs.serving.turn.Tie as tie
 
 fill-requires : tie.Need-fill-requires
-fill-requires c κs = search needs
+fill-requires c κs =
+    let s = c .before .before .before in
+    omega (arith, s .pre .0, reached-few (s .pre .1))
 
 enum-told : tie.Need-enum-told
 enum-told c = search needs
@@ -31,8 +34,10 @@ enum-known-input c = search needs
 
 serve-requires : tie.Need-serve-requires
 serve-requires c κs =
-    let f = c .before .before .before .before .before .before .before .before .before .fill in
-    (search needs, search needs, search needs, filled-with _ (c .before .before .before .before .before .input .given .1) (f .ensures), search needs)
+    let f = c .before .before .before .before .before .before .before .before .before in
+    let s = f .before .before .before .before in
+    let n = filled-with (s .args .h .kept) (s .args .buf .now) (f .fill .last .0) (c .before .before .before .before .before .input .given .1) (f .fill .ensures) in
+    (search needs, search needs, search needs, n .1, reached-sound (s .pre .1))
 
 same-length : tie.Need-same-length
 same-length c = search needs
@@ -64,8 +69,11 @@ same-length-7 c = search needs
 returns-3 : tie.Need-returns-3
 returns-3 c =
     let k = c .before .before .before .before .before .before in
-    let s = k .before .before .before .before .before .before .before .before .before .before .before .before .before .before in
-    λ e. (steps-few (k .serve .ensures e), steps-sound (k .serve .ensures e) (s .pre .5))
+    let i = k .before .before .before .before .before .before in
+    let f = i .before .before .before .before in
+    let a = f .before .before .before .before .args in
+    let n = filled-with (a .h .kept) (a .buf .now) (f .fill .last .0) (i .input .given .1) (f .fill .ensures) in
+    λ e. turned (a .h) (a .rows .now) (a .buf .now) (f .fill .last .0) _ n (k .serve .ensures e)
 
 pub turn-spec : {M : Type 1} → statement M
 turn-spec =

@@ -1,0 +1,2 @@
+-- What the converter promises from chunk to chunk.
+pub mod Turns
