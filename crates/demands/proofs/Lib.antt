@@ -23,6 +23,7 @@ pub mod RunTotals
 pub mod Runs
 pub mod Entries
 pub mod Totals
+pub mod Times
 pub mod Owns
 pub mod Staying
 pub mod Once

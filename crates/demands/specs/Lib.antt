@@ -6,6 +6,7 @@ pub mod Keeping
 pub mod Running
 pub mod Entering
 pub mod Totalling
+pub mod Timing
 pub mod Owning
 pub mod Leaving
 pub mod Ordering

@@ -1,0 +1,26 @@
+-- Demand 2, time: only a move of the clock changes it. A cancel hands back no day at all.
+use Prim.Native.Nat.{ℕ}
+use mathlib.Core.Path.{_≡_}
+use mathlib.Core.List.{List}
+use Rattle.model.specs.declared.Order.{Order}
+use Rattle.model.specs.declared.Asked.{Asked}
+use Rattle.model.specs.declared.Trade.{Trade}
+use Rattle.model.specs.declared.Day.{Day}
+use Rattle.model.specs.declared.ClockReply.the-variants.{Refused, Moved}
+use Rattle.model.specs.Clock.{phaseAt}
+use Rattle.model.specs.Calls.{orderCall}
+use Rattle.model.specs.ClockCall.{clockCall}
+
+pub record Timing : Type 0 where
+  pub order-stays :
+      (d : Day) (a : Asked) (book : List Order) (lent : List Trade) → orderCall d a book lent .answer .day .time ≡ d .time
+  -- a move that is accepted stands at its second, and tells the phase of it
+  pub clock-moves :
+      (d : Day) (t : ℕ) (book : List Order) (lent : List Trade) (phase made : ℕ)
+      → clockCall d t book lent .answer .reply ≡ Moved phase made
+      → (clockCall d t book lent .answer .day .time ≡ t) × (phase ≡ phaseAt t)
+  -- one that is refused stands where it stood
+  pub clock-stays :
+      (d : Day) (t : ℕ) (book : List Order) (lent : List Trade) (n : ℕ)
+      → clockCall d t book lent .answer .reply ≡ Refused n
+      → clockCall d t book lent .answer .day .time ≡ d .time
