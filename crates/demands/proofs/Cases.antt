@@ -85,3 +85,17 @@ module _ (d : Day) (t : ℕ) (book : List Order) (lent : List Trade) where
       → P (clockCall d t book lent)
   unfolding clockCall
   clock-cases P = by-number P clock-rule _ _
+
+-- ---- the two cases of a move's reply, told apart by numbers
+
+abbrev pub isMoved : ClockReply.ClockReply → ℕ
+isMoved (ClockReply.the-variants.Refused n) = 0
+isMoved (ClockReply.the-variants.Moved phase made) = 1
+
+abbrev pub phaseOf : ClockReply.ClockReply → ℕ
+phaseOf (ClockReply.the-variants.Refused n) = 0
+phaseOf (ClockReply.the-variants.Moved phase made) = phase
+
+abbrev pub madeOf : ClockReply.ClockReply → ℕ
+madeOf (ClockReply.the-variants.Refused n) = 0
+madeOf (ClockReply.the-variants.Moved phase made) = made

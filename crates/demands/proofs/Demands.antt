@@ -11,6 +11,7 @@ use Rattle.demands.specs.Owning.{OwnOnly}
 use Rattle.demands.specs.Leaving.{Leaving}
 use Rattle.demands.specs.Ordering.{Ordering}
 use Rattle.demands.specs.Older.{SameHistories}
+use Rattle.demands.proofs.ClockTrades.{clock-trades}
 use Rattle.demands.proofs.Pricings.{sound-stands, listing, called, one, trades-there}
 use Rattle.demands.proofs.Fresh.{open-fresh}
 use Rattle.demands.proofs.Cancelled.{cancel-kept}
@@ -75,6 +76,7 @@ pricing =
       one-left = λ d book s. one book (sound-stands d book s);
       trades-there = λ d book s. trades-there book (sound-stands d book s) d;
       auctions = move-auctions;
+      clock-trades = clock-trades;
     }
 
 pub conditions : Conditions

@@ -2,6 +2,7 @@
 pub mod FirstRules
 pub mod Refusals
 pub mod Cases
+pub mod Partners
 pub mod Pricings
 pub mod Wholes
 pub mod Elements
@@ -41,4 +42,5 @@ pub mod OlderOrders
 pub mod Histories
 pub mod Orderings
 pub mod Stars
+pub mod ClockTrades
 pub mod Demands

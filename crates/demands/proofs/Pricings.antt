@@ -29,6 +29,7 @@ use Rattle.auction.proofs.Writing.{due-none, due-all, due-from}
 use Rattle.auction.proofs.Rules.{listed-qualifies, qualifies-listed, due-names, qualifying-rises, no-cross-empty, empty-no-cross, one-left}
 use Rattle.pairing.proofs.Auctioned.{buys-filled, sells-filled}
 use Rattle.pairing.proofs.Auctions.{auction-trades-are, auction-filled, auction-priced, auction-cases, afterwards, afterwards-stands, afterwards-uncrossed}
+use Rattle.demands.proofs.Partners.{partners}
 use Rattle.demands.specs.Pricing.{Sound, Listing, Called, OneLeft, TradesThere}
 
 -- ---- a sound day
@@ -114,6 +115,7 @@ module _ (book : List Order) (s : Standing book) where
           price = price-left;
           at-price = auction-priced book s d;
           in-all = auction-filled book s d;
+          partners = rw e (partners p book s);
           buys = rw e (buys-filled p book s);
           sells = rw e (sells-filled p book s);
           none = λ z.

@@ -2,22 +2,12 @@
 use Prim.Native.Nat.{ℕ}
 use mathlib.Core.Path.{_≡_, refl, sym, ap}
 use native.Mathlib.Omega.{arith}
-use Rattle.model.specs.declared.ClockReply.{ClockReply}
 use Rattle.model.specs.declared.ClockReply.the-variants.{Refused, Moved}
 use Rattle.model.specs.Clock.{phaseAt}
 use Rattle.model.specs.Figures.{at, issue, tally}
 use Rattle.model.specs.Calls.{entered}
 use Rattle.demands.specs.Timing.{Timing}
-use Rattle.demands.proofs.Cases.{order-cases, clock-cases}
-
--- the two cases of a reply are told apart
-abbrev isMoved : ClockReply → ℕ
-isMoved (Refused n) = 0
-isMoved (Moved phase made) = 1
-
-abbrev phaseOf : ClockReply → ℕ
-phaseOf (Refused n) = 0
-phaseOf (Moved phase made) = phase
+use Rattle.demands.proofs.Cases.{isMoved, phaseOf, order-cases, clock-cases}
 
 pub timing : Timing
 unfolding entered tally issue at

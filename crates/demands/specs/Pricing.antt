@@ -2,15 +2,16 @@
 use Prim.Native.Nat.{ℕ, _≤_, _<_, min}
 use mathlib.Core.Path.{_≡_}
 use mathlib.Core.Logic.{_↔_}
-use mathlib.Core.Bool.{true}
+use mathlib.Core.Bool.{true, false}
 use mathlib.Core.List.{List, [], _∷_, _++_}
 use lib.ListN.{length, getD, take, drop}
 use Rattle.model.specs.declared.Order.{Order}
 use Rattle.model.specs.declared.Trade.{Trade}
 use Rattle.model.specs.declared.Day.{Day}
 use Rattle.model.specs.declared.ListReply as ListReply
+use Rattle.model.specs.declared.ClockReply as ClockReply
 use Rattle.model.specs.declared.Boundary.{Boundary}
-use Rattle.model.specs.Lists.{among}
+use Rattle.model.specs.Lists.{any, among}
 use Rattle.model.specs.Clock.{passes, boundaries}
 use Rattle.model.specs.Book.{standsOn, queue, arranged}
 use Rattle.model.specs.Matching.{filled, filledOf, settle}
@@ -18,9 +19,10 @@ use Rattle.model.specs.Figures.{reference}
 use Rattle.model.specs.Auction.{volume, qualifying, leftBy}
 use Rattle.model.specs.Pairing.{cut}
 use Rattle.model.specs.Sound.{hasPlaces, sound}
-use Rattle.model.specs.ClockCall.{auctionPrice, auctionTrades, Held, pass, start}
+use Rattle.model.specs.ClockCall.{auctionPrice, auctionTrades, Held, pass, start, clockCall}
 use Rattle.model.specs.AuctionCalls.{due, listCall}
 use Rattle.book.specs.Standing.{Each}
+use Rattle.matching.proofs.Trades.{Some}
 use Rattle.auction.specs.Rule.{Qualifies, Rising}
 use Rattle.pairing.specs.Granted.{granted}
 
@@ -53,12 +55,19 @@ pub record Called (d : Day) (book : List Order) (asked : ℕ) (lent : List ℕ) 
 abbrev pub OneLeft : List Order → ℕ → Type 0
 OneLeft book ref = (p : ℕ) × (leftBy book ref ≡ p ∷ []) × Qualifies book p
 
--- an auction's trades: at that price alone, its volume in all, and each order gets what its side's queue, cut to the volume,
--- has for it; without a listed price there is none. Afterwards no buy reaches a sell.
+-- an auction's trades: at that price alone, its volume in all, each between a buy at that price or above and a sell at that price or
+-- below, and each order gets what its side's queue, cut to the volume, has for it; without a listed price there is none. Afterwards no
+-- buy reaches a sell.
 pub record TradesThere (d : Day) (book : List Order) (ts : List Trade) : Type 0 where
   pub price : (qualifying book ≡ [] → ⊥) → leftBy book (reference d) ≡ auctionPrice d book ∷ []
   pub at-price : Each (λ (t : Trade). t .price ≡ auctionPrice d book) ts
   pub in-all : filled ts ≡ volume book (auctionPrice d book)
+  pub partners :
+      Each
+      (λ (t : Trade).
+      Some (λ (o : Order). (o .number ≡ t .buyer) × (auctionPrice d book ≤ o .price)) (queue 0 book)
+      × Some (λ (o : Order). (o .number ≡ t .seller) × (o .price ≤ auctionPrice d book)) (queue 1 book))
+      ts
   pub buys :
       Each (λ (o : Order). filledOf (o .number) ts ≡ granted (o .number) (cut (volume book (auctionPrice d book)) (queue 0 book)))
       (queue 0 book)
@@ -75,6 +84,20 @@ EachAuction old new (b ∷ bs) h =
     (passes (b .second) old new ≡ true → TradesThere (h .day) (h .book) (auctionTrades (h .day) (h .book)))
     × EachAuction old new bs (pass old new b h)
 
+-- and so do the trades that a move of the clock writes, on the day and the book as they stood before it, where it is accepted and
+-- passes a boundary; else it writes none
+pub record ClockTrades (d : Day) (t : ℕ) (book : List Order) (lent : List Trade) : Type 0 where
+  pub there :
+      (phase made : ℕ)
+      → clockCall d t book lent .answer .reply ≡ ClockReply.the-variants.Moved phase made
+      → any (λ b. passes (b .second) (d .time) t) boundaries ≡ true
+      → TradesThere d book (take made (clockCall d t book lent .trades))
+  pub none-else :
+      (phase made : ℕ)
+      → clockCall d t book lent .answer .reply ≡ ClockReply.the-variants.Moved phase made
+      → any (λ b. passes (b .second) (d .time) t) boundaries ≡ false
+      → made ≡ 0
+
 -- the demand, for any sound day
 pub record Pricing : Type 0 where
   pub listing : (d : Day) (book : List Order) → Sound d book → Listing book
@@ -82,3 +105,4 @@ pub record Pricing : Type 0 where
   pub one-left : (d : Day) (book : List Order) → Sound d book → (qualifying book ≡ [] → ⊥) → (ref : ℕ) → OneLeft book ref
   pub trades-there : (d : Day) (book : List Order) → Sound d book → TradesThere d book (auctionTrades d book)
   pub auctions : (d : Day) (book : List Order) → Sound d book → (t : ℕ) → EachAuction (d .time) t boundaries (start d book)
+  pub clock-trades : (d : Day) (book : List Order) → Sound d book → (t : ℕ) (lent : List Trade) → ClockTrades d t book lent

@@ -87,7 +87,7 @@ module _ (side x : ℕ) where
       ∙ ap₂ _+_ (less-brings (g o) o) (settled g os)
 
   -- ---- what the volume leaves of a queue in priority
-  behind-out :
+  pub behind-out :
       (o : Order) (os : List Order)
       → meets side (o .price) x ≡ false
       → Each (λ p. ahead side o p ≡ true) os
@@ -96,7 +96,7 @@ module _ (side x : ℕ) where
       each (λ p. ahead side o p ≡ true) (λ p. meets side (p .price) x ≡ false) os
       (λ p a. not-true-false (λ t. not-both (ahead-meets side o p x a t) e)) h
 
-  none-in :
+  pub none-in :
       (h : Order → ℕ) (os : List Order)
       → Each (λ p. meets side (p .price) x ≡ false) os
       → total (λ o. if meets side (o .price) x then h o else 0) os ≡ 0
