@@ -1,7 +1,10 @@
 -- Laws of the definitions that more than one crate cites, and the definitions tried on examples.
 pub mod Bools
 pub mod Rules
+pub mod Seconds
+pub mod HaltEnds
 pub mod Examples
 pub mod TriedLines
 pub mod TriedSound
 pub mod TriedCalls
+pub mod TriedHalts

@@ -49,7 +49,8 @@ pub struct Taker {
     pub limit: u64,
 }
 
-// The day's own figures. First and last are the prices of the first and the last trade, 0 while nothing has traded.
+// The day's own figures. First and last are the prices of the first and the last trade, 0 while nothing has traded. Halt is the
+// end of the halt that runs, 0 when none does; used30 and used60 are 1 once that threshold is used.
 pub struct Day {
     pub close: u64,
     pub limited: u64,
@@ -59,6 +60,9 @@ pub struct Day {
     pub turnover: u64,
     pub first: u64,
     pub last: u64,
+    pub halt: u64,
+    pub used30: u64,
+    pub used60: u64,
 }
 
 // A row of the clock: it holds from its first second up to the next row.
@@ -67,12 +71,6 @@ pub struct Row {
     pub phase: u64,
     pub orders: bool,
     pub cancels: bool,
-}
-
-// A second at which an auction is held when the clock passes it, and whether all that rests lapses after it.
-pub struct Boundary {
-    pub second: u64,
-    pub lapse: bool,
 }
 
 // How what did not trade of an accepted order ended, and how many shares that was.
