@@ -45,7 +45,7 @@ trades-append : (xs ys : List (List ℕ)) → tradesOf (xs ++ ys) ≡ tradesOf x
 trades-append [] ys = refl
 trades-append (x ∷ xs) ys = ap (λ (l : List Trade). tradeOf x ∷ l) (trades-append xs ys)
 
-trades-drop : (n : ℕ) (l : List (List ℕ)) → tradesOf (drop n l) ≡ drop n (tradesOf l)
+pub trades-drop : (n : ℕ) (l : List (List ℕ)) → tradesOf (drop n l) ≡ drop n (tradesOf l)
 trades-drop zero l = refl
 trades-drop (suc n) [] = refl
 trades-drop (suc n) (x ∷ l) = trades-drop n l

@@ -1,6 +1,11 @@
-// The clock: a constant table of boundary seconds, phase and two permissions, looked up by time.
+// The clock: a constant table of boundary seconds, phase and two permissions, looked up by time; and the phase of a day, in which a
+// halt may run.
 ghost use mathlib.Core.Path.{_≡_};
 ghost use Rattle.model.specs.Clock.{rowAt, phaseAt, takesCancels};
+ghost use Rattle.model.specs.Halts.{phaseNow};
+use model::CONTINUOUS;
+use model::Day;
+use model::HALTED;
 use model::Row;
 
 const ROWS: [Row; 9] = [
@@ -87,4 +92,15 @@ pub fn takes_cancels(time: u64) -> bool
 {
     let r = row_at(time);
     r.cancels
+}
+
+// The phase of a day whose row of the clock is handed in: in continuous trading another one while a halt runs.
+pub fn phase_now(day: Day, row: Row) -> u64
+    requires { ⌜ row ≡ rowAt (day .time) ⌝ }
+    ensures { λ r. ⌜ r ≡ phaseNow day ⌝ }
+{
+    if row.phase == CONTINUOUS && day.halt != 0 {
+        return HALTED;
+    }
+    row.phase
 }

@@ -5,9 +5,8 @@ use mathlib.Core.Bool.{Bool, true, false, cond}
 use mathlib.Core.List.{List, [], _∷_}
 use native.Mathlib.Omega.{arith}
 use native.Mathlib.Nat.{le-of-suc-le-suc, not-suc-le-zero}
-use native.Mathlib.Numerals.{add-one}
 use lib.ListN.{length, take, drop, getD, drop-of-length-le}
-use lib.Seq.{drop-cons, getD-take, length-take-le}
+use lib.Seq.{length-take-le}
 use lib.Dec.{eqb}
 use borrow.Author.Tests.{eq-eqb, ne-eqb, eqb-true}
 use Rattle.model.specs.declared.Trade.{Trade}
@@ -16,6 +15,7 @@ use Rattle.model.specs.Lists.{total}
 use Rattle.model.specs.Matching.{filled, firstPrice, lastPrice}
 use Rattle.model.specs.Figures.{money, tally}
 use Rattle.book.specs.Rows.{tradeOf, tradesOf}
+use Rattle.book.proofs.Memory.{trades-from}
 use Rattle.figures.specs.declared.Totals.{Totals}
 use Rattle.figures.specs.Figures.{totals}
 
@@ -57,17 +57,12 @@ module _ (ts rest : List Trade) (t : Trade) (sold paid : ℕ) (a : Adding ts (t 
 
 -- the trades from place i on begin with the one there
 module _ (rows : List (List ℕ)) (n i : ℕ) (h : i < n) (l : n ≤ length rows) where
-  trade-next : tradesOf (drop i (take n rows)) ≡ tradeOf (getD rows i []) ∷ tradesOf (drop (i + 1) (take n rows))
-  trade-next =
-      let k : i < length (take n rows) = rw (length-take-le n rows l) h in
-      rw (drop-cons (take n rows) i [] k, getD-take, add-one)
-
   pub adding-at :
       (t : Trade) (sold paid : ℕ)
       → t ≡ tradeOf (getD rows i [])
       → Adding (tradesOf (take n rows)) (tradesOf (drop i (take n rows))) sold paid
       → Adding (tradesOf (take n rows)) (t ∷ tradesOf (drop (i + 1) (take n rows))) sold paid
-  adding-at t sold paid e a = rw e (rw trade-next at a)
+  adding-at t sold paid e a = rw e (rw (trades-from rows n i h l) at a)
 
 pub shares-fit : (ts : List Trade) (sum : Totals) → sum ≡ totals ts → sum .shares ≡ filled ts
 unfolding totals
@@ -113,6 +108,9 @@ with d shares turnover first last =
       turnover = turnover;
       first = first;
       last = last;
+      halt = d .halt;
+      used30 = d .used30;
+      used60 = d .used60;
     }
 
 tally-none : (d : Day) → d ≡ tally [] d

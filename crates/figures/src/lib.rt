@@ -27,6 +27,9 @@ pub fn fresh_day(close: u64, mark: u64) -> Day
         turnover: 0,
         first: 0,
         last: 0,
+        halt: 0,
+        used30: 0,
+        used60: 0,
     }
 }
 

@@ -12,6 +12,11 @@ pub const LAST_NUMBER: u64 = 999_999;
 
 pub const LAST_SECOND: u64 = 86_399;
 
+// The phase in which orders trade on entry, and the phase of a halt.
+pub const CONTINUOUS: u64 = 4;
+
+pub const HALTED: u64 = 7;
+
 // One place of the book. A free place is all zeros.
 pub struct Order {
     pub side: u64,

@@ -129,11 +129,6 @@ further n m xs ys h e =
     ∙ drop-drop (m - n) n ys
     ∙ ap (λ (j : ℕ). drop j ys) k
 
-trades-drop : (n : ℕ) (l : List (List ℕ)) → tradesOf (drop n l) ≡ drop n (tradesOf l)
-trades-drop zero l = refl
-trades-drop (suc n) [] = refl
-trades-drop (suc n) (x ∷ l) = trades-drop n l
-
 module _ {h : Held} {lent : List (List ℕ)} {p : Passage} {rows trades : List (List ℕ)} (r : Reached h lent p rows trades) where
   pub reached-made : p .made ≡ length (h .trades)
   reached-made =

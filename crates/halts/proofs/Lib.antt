@@ -1,0 +1,3 @@
+pub mod LedTo
+pub mod Fires
+pub mod Fits
