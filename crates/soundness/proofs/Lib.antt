@@ -1,5 +1,6 @@
 pub mod Says
 pub mod Clauses
+pub mod HaltClauses
 pub mod Following
 pub mod Sizes
 pub mod SoundDays

@@ -7,22 +7,23 @@ use mathlib.Core.List.{List}
 use native.Mathlib.Omega.{arith}
 use native.Mathlib.Nat.{lt-of-not-le, not-le-of-lt}
 use lib.ListN.{length}
-use lib.Dec.{ltb, leb}
-use borrow.Author.Tests.{ltb-true, ltb-false, leb-true}
+use lib.Dec.{ltb, leb, eqb}
+use borrow.Author.Tests.{ltb-true, ltb-false, leb-true, eqb-true, eqb-false}
 use Rattle.model.specs.declared.Order.{Order}
 use Rattle.model.specs.declared.Day.{Day}
 use Rattle.model.specs.Book.{free, inOrder}
 use Rattle.model.specs.Figures.{nextNumber}
-use Rattle.model.specs.Sound.{hasPlaces, isFree, isOrder, soundAnywhere, sound}
+use Rattle.model.specs.Sound.{hasPlaces, isFree, isOrder, haltFits, soundAnywhere, sound}
 use Rattle.model.proofs.Bools.{and-left, and-right, and-both}
 use Rattle.book.specs.Standing.{Each, Fair, Apart, Standing, Ordered, Ranked}
 use Rattle.book.proofs.Lists.{each, both}
 use Rattle.book.proofs.Kept.{New, fair-free, free-number}
 use Rattle.book.proofs.Orderly.{told-ordered, ordered-told}
-use Rattle.soundness.specs.SoundDay.{Rests, Place, Empty, SoundDay}
+use Rattle.soundness.specs.SoundDay.{Rests, Place, Empty, SoundDay, HaltDay}
 use Rattle.soundness.proofs.Numbers.{issued-number}
 use Rattle.soundness.proofs.Says.{Says, says-and, says-unless, says-too, says-not, says-all}
 use Rattle.soundness.proofs.Clauses.{says-place, says-between, says-empty, says-apart, says-crosses, says-figures, says-fit, says-traded, says-turnover}
+use Rattle.soundness.proofs.HaltClauses.{says-runs, says-halt}
 
 -- ---- an empty book: no number, so every place is free
 
@@ -48,6 +49,14 @@ module _ (book : List Order) (t : ℕ) where
 
 -- ---- the test and the record
 
+-- no halt runs
+halted-not : (n : ℕ) → ((n ≡ 0 → ⊥) → ⊥) → n ≡ 0
+halted-not n h = go (eqb n 0) refl
+  where
+    go : (b : Bool) → eqb n 0 ≡ b → n ≡ 0
+    go true e = eqb-true n 0 e
+    go false e = absurd (h (eqb-false n 0 e))
+
 pub says-anywhere : (d : Day) (book : List Order) → Says (soundAnywhere d book) (SoundDay d book)
 unfolding soundAnywhere
 says-anywhere d book =
@@ -66,7 +75,7 @@ says-anywhere d book =
       apart = h .0 .0 .0 .0 .0 .1;
       early = λ l. emptied d book places (hours (λ w. not-le-of-lt l (w .0)));
       late = λ l. emptied d book places (hours (λ w. not-le-of-lt l (w .1)));
-      uncrossed = λ a b m n. lt-of-not-le (λ l. crossed ((a, b), (m, n, l)));
+      uncrossed = λ a b z m n. lt-of-not-le (λ l. crossed (((a, b), λ r. r z), (m, n, l)));
       shares = h .0 .0 .1;
       untraded = h .0 .1 .0;
       traded = h .0 .1 .1;
@@ -81,7 +90,7 @@ says-anywhere d book =
               (((s .close, s .limited, s .time, s .issued), s .places), s .apart),
               λ n. each (λ o. o ≡ free) (λ o. o .number ≡ 0) book no-number (outside book (d .time) (s .early) (s .late) n),
             ),
-            λ w. not-le-of-lt (s .uncrossed (w .0 .0) (w .0 .1) (w .1 .0) (w .1 .1)) (w .1 .2),
+            λ w. not-le-of-lt (s .uncrossed (w .0 .0 .0) (w .0 .0 .1) (halted-not (d .halt) (w .0 .1)) (w .1 .0) (w .1 .1)) (w .1 .2),
           ),
           s .shares,
         ),
@@ -98,7 +107,7 @@ says-anywhere d book =
     (says-and (says-figures d) (says-all (λ o. isFree o || isOrder d o) (Place d) (says-place d) book))
     (says-apart book))
     (says-unless (says-between 33_300 53_999 (d .time)) (says-empty book)))
-    (says-not (says-and (says-between 33_900 53_819 (d .time)) (says-crosses book))))
+    (says-not (says-and (says-and (says-between 33_900 53_819 (d .time)) (says-not (says-runs d))) (says-crosses book))))
     (says-fit d book))
     (says-traded d))
     (says-turnover d))
@@ -129,21 +138,29 @@ standing d book l p a = record { fair = each (Place d) Fair book (λ o h. fair-p
 pub day-stands : (d : Day) (book : List Order) → SoundDay d book → Standing book
 day-stands d book s = standing d book (s .issued) (s .places) (s .apart)
 
--- ---- the whole test: the facts, and the order of the places
+-- ---- the whole test: the facts, the order of the places, and the halt
 
 module _ (d : Day) (book : List Order) where
+  abbrev orderly : Bool
+  orderly = soundAnywhere d book && inOrder book
+
   pub sound-day : sound d book ≡ true → SoundDay d book
   unfolding sound
-  sound-day e = says-anywhere d book .0 (and-left (soundAnywhere d book) (inOrder book) e)
+  sound-day e = says-anywhere d book .0 (and-left (soundAnywhere d book) (inOrder book) (and-left orderly (haltFits d) e))
 
   pub sound-ordered : sound d book ≡ true → Ordered book
   unfolding sound
   sound-ordered e =
-      told-ordered book (day-stands d book (sound-day e)) (and-right (soundAnywhere d book) (inOrder book) e)
+      told-ordered book (day-stands d book (sound-day e)) (and-right (soundAnywhere d book) (inOrder book) (and-left orderly (haltFits d) e))
 
-  pub day-sound : SoundDay d book → Ordered book → sound d book ≡ true
+  pub sound-halt : sound d book ≡ true → HaltDay d
   unfolding sound
-  day-sound s o = and-both (says-anywhere d book .1 s) (ordered-told book (day-stands d book s) o)
+  sound-halt e = says-halt d .0 (and-right orderly (haltFits d) e)
+
+  pub day-sound : SoundDay d book → Ordered book → HaltDay d → sound d book ≡ true
+  unfolding sound
+  day-sound s o h =
+      and-both (and-both (says-anywhere d book .1 s) (ordered-told book (day-stands d book s) o)) (says-halt d .1 h)
 
 pub few-places : (book : List Order) → hasPlaces book ≡ true → length book ≤ 4_096
 unfolding hasPlaces

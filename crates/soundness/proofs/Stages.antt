@@ -6,32 +6,64 @@ use mathlib.Core.Bool.{Bool, true, false, not, _&&_, _||_, and-true, and-false}
 use mathlib.Core.List.{List}
 use native.Mathlib.Omega.{arith}
 use lib.Dec.{leb, eqb}
+use borrow.Author.Tests.{eq-eqb, ne-eqb}
 use Rattle.model.specs.declared.Order.{Order}
 use Rattle.model.specs.declared.Day.{Day}
 use Rattle.model.specs.Lists.{total}
-use Rattle.model.specs.Sound.{hasPlaces, soundFigures, isEmpty, crosses, between, sharesFit, pricesFit, turnoverFits, soundAnywhere, sound}
+use Rattle.model.specs.Sound.{hasPlaces, soundFigures, isEmpty, crosses, between, sharesFit, pricesFit, turnoverFits, haltFits, soundAnywhere, sound}
 use Rattle.model.specs.Book.{inOrder}
+use Rattle.model.specs.Halts.{runs}
 use Rattle.book.specs.Standing.{Standing, Ranked}
 use Rattle.book.proofs.Orderly.{told-ordered}
 use Rattle.soundness.proofs.Clauses.{whole, says-whole, says-figures, says-fit}
 use Rattle.soundness.proofs.SoundDays.{standing, few-places}
 use Rattle.soundness.proofs.Totals.{empty-is, shares-within}
 
--- a book out of order is not sound
-pub disordered : (d : Day) (book : List Order) → inOrder book ≡ false → false ≡ (hasPlaces book && sound d book)
-unfolding sound
-disordered d book e =
-    sym
-    (ap (λ (b : Bool). hasPlaces book && (soundAnywhere d book && b)) e
-    ∙ ap (λ (b : Bool). hasPlaces book && b) (and-false (soundAnywhere d book))
-    ∙ and-false (hasPlaces book))
+-- a book out of order is not sound, nor is a day whose halt does not fit
+module _ (d : Day) (book : List Order) where
+  pub disordered : inOrder book ≡ false → false ≡ (hasPlaces book && sound d book)
+  unfolding sound
+  disordered e =
+      sym
+      (ap (λ (b : Bool). hasPlaces book && (soundAnywhere d book && b && haltFits d)) e
+      ∙ ap (λ (b : Bool). hasPlaces book && (b && haltFits d)) (and-false (soundAnywhere d book))
+      ∙ and-false (hasPlaces book))
 
--- the tests on the day's figures, on each place and on their order have passed
+  pub unfitting : haltFits d ≡ false → false ≡ (hasPlaces book && sound d book)
+  unfolding sound
+  unfitting e =
+      sym
+      (ap (λ (b : Bool). hasPlaces book && (soundAnywhere d book && inOrder book && b)) e
+      ∙ ap (λ (b : Bool). hasPlaces book && b) (and-false (soundAnywhere d book && inOrder book))
+      ∙ and-false (hasPlaces book))
+
+-- buys may reach sells out of the hours, and while a halt runs
+module _ (d : Day) (book : List Order) where
+  abbrev inHours : Bool
+  inHours = between 33_900 53_819 (d .time)
+
+  abbrev crossed : Bool
+  crossed = inHours && not (runs d) && crosses book
+
+  pub out-of-hours : inHours ≡ false → false ≡ crossed
+  out-of-hours e = rw e
+
+  module _ (e : inHours ≡ true) where
+    pub while-halted : (d .halt ≡ 0 → ⊥) → false ≡ crossed
+    unfolding runs
+    while-halted n = rw (e, ne-eqb (d .halt) 0 n)
+
+    pub in-hours : {r : Bool} → d .halt ≡ 0 → r ≡ crosses book → r ≡ crossed
+    unfolding runs
+    in-hours z f = rw (e, eq-eqb (d .halt) 0 z) f
+
+-- the tests on the day's figures, on each place, on their order and on the halt have passed
 pub record Seated (d : Day) (book : List Order) : Type 0 where
   pub counted : hasPlaces book ≡ true
   pub figures : soundFigures d ≡ true
   pub places : whole d book ≡ true
   pub order : inOrder book ≡ true
+  pub halt : haltFits d ≡ true
 
 module _ (d : Day) (book : List Order) (s : Seated d book) where
   pub seated-issued : d .issued ≤ 999_999
@@ -52,12 +84,12 @@ module _ (d : Day) (book : List Order) (s : Seated d book) where
   pub still-to-pass :
       (hasPlaces book && sound d book)
       ≡ ((between 33_300 53_999 (d .time) || isEmpty book)
-      && not (between 33_900 53_819 (d .time) && crosses book)
+      && not (between 33_900 53_819 (d .time) && not (runs d) && crosses book)
       && sharesFit d book
       && pricesFit d
       && turnoverFits d)
   unfolding sound soundAnywhere
-  still-to-pass = rw (s .counted, s .figures, s .places, s .order) (and-true _)
+  still-to-pass = rw (s .counted, s .figures, s .places, s .order, s .halt) (and-true _ ∙ and-true _)
 
   -- half the bound is all that can have traded
   pub few-traded : sharesFit d book ≡ true → d .shares ≤ 500_000_000_000

@@ -1,12 +1,14 @@
--- A sound day as one record of plain facts: all that a call may use once the test has passed.
+-- A sound day as a record of plain facts, and its halt as another: all that a call may use once the test has passed.
 use Prim.Native.Nat.{ℕ, _+_, _*_, _≤_, _<_}
 use mathlib.Core.Path.{_≡_}
 use mathlib.Core.Logic.{_⊎_}
+use mathlib.Core.Bool.{true}
 use mathlib.Core.List.{List}
 use Rattle.model.specs.declared.Order.{Order}
 use Rattle.model.specs.declared.Day.{Day}
 use Rattle.model.specs.Lists.{total}
 use Rattle.model.specs.Book.{free, best}
+use Rattle.model.specs.Sound.{isLedTo}
 use Rattle.book.specs.Standing.{Price, Each, Apart}
 
 pub record InBand (close p : ℕ) : Type 0 where
@@ -40,10 +42,11 @@ pub record SoundDay (d : Day) (book : List Order) : Type 0 where
   pub apart : Apart book
   pub early : d .time < 33_300 → Empty book
   pub late : 54_000 ≤ d .time → Empty book
-  -- where both sides have an order, the best buy is below the best sell
+  -- where both sides have an order, the best buy is below the best sell, unless a halt runs
   pub uncrossed :
       33_900 ≤ d .time
       → d .time ≤ 53_819
+      → d .halt ≡ 0
       → (best 0 book ≡ 0 → ⊥)
       → (best 1 book ≡ 0 → ⊥)
       → best 0 book < best 1 book
@@ -52,3 +55,14 @@ pub record SoundDay (d : Day) (book : List Order) : Type 0 where
   pub traded : (d .shares ≡ 0 → ⊥) → Price (d .first) × Price (d .last)
   pub least : d .shares ≤ d .turnover
   pub most : d .turnover ≤ 999_999 * d .shares
+
+-- an end lies ahead, and a continuous second so far leads to it; 60% is not used without 30%, no end is there with none used; and all of
+-- this on an unlimited day that has traded
+pub record HaltDay (d : Day) : Type 0 where
+  pub thirty : d .used30 ≤ 1
+  pub sixty : d .used60 ≤ 1
+  pub ahead : (d .halt ≡ 0 → ⊥) → d .time < d .halt
+  pub led : (d .halt ≡ 0 → ⊥) → isLedTo (d .halt) (d .time) ≡ true
+  pub thirty-first : d .used60 ≡ 1 → d .used30 ≡ 1
+  pub uses : (d .halt ≡ 0 → ⊥) → d .used30 ≡ 1
+  pub unlimited : d .used30 ≡ 1 → (d .limited ≡ 1 → ⊥) × (d .shares ≡ 0 → ⊥)

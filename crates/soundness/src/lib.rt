@@ -18,6 +18,7 @@ use crate::places::crosses_in_hours;
 use crate::places::has_places;
 use crate::places::shares_left;
 use crate::places::sound_places;
+use halts::fitting::halt_fits;
 use model::Day;
 
 // Whether the day is sound, and its book has 1 to 4,096 places.
@@ -36,11 +37,14 @@ pub fn is_sound(day: Day, rows: &[[u64; 5]]) -> bool
     if !is_in_order(rows) {
         return false;
     }
+    if !halt_fits(day) {
+        return false;
+    }
     let resting = shares_left(rows);
     if !fits_hours(day.time, resting) {
         return false;
     }
-    if crosses_in_hours(day.time, rows) {
+    if crosses_in_hours(day, rows) {
         return false;
     }
     if !shares_fit(day, resting) {

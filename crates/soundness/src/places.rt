@@ -1,9 +1,10 @@
 // The places of the book: how many, what stands at each, numbers used twice, the shares left, and whether buys reach sells.
 ghost use mathlib.Core.Path.{_≡_};
-ghost use mathlib.Core.Bool.{true, _&&_, _||_};
+ghost use mathlib.Core.Bool.{true, not, _&&_, _||_};
 ghost use Rattle.model.specs.Lists.{all, total};
 ghost use Rattle.model.specs.Limits.{isPrice};
 ghost use Rattle.model.specs.Book.{isLive};
+ghost use Rattle.model.specs.Halts.{runs};
 ghost use Rattle.model.specs.Sound.{hasPlaces, mayStand, soundFigures, isFree, isOrder, ownNumbers, crosses, between};
 ghost use Rattle.bits.specs.Maps.{hasBit};
 ghost use Rattle.book.specs.Rows.{bookOf};
@@ -183,13 +184,16 @@ pub fn buys_reach_sells(rows: &[[u64; 5]]) -> bool
     sell <= buy
 }
 
-// From 33,900 to 53,819 they may not.
-pub fn crosses_in_hours(time: u64, rows: &[[u64; 5]]) -> bool
+// From 33,900 to 53,819 they may not, unless a halt runs.
+pub fn crosses_in_hours(day: Day, rows: &[[u64; 5]]) -> bool
     requires { ⌜ Ranked (bookOf (now rows)) ⌝ }
-    ensures { λ r. ⌜ r ≡ (between 33_900 53_819 time && crosses (bookOf (now (rows .entry)))) ⌝ }
+    ensures { λ r. ⌜ r ≡ (between 33_900 53_819 (day .time) && not (runs day) && crosses (bookOf (now (rows .entry)))) ⌝ }
 {
-    if is_between(33_900, 53_819, time) {
-        return buys_reach_sells(rows);
+    if !is_between(33_900, 53_819, day.time) {
+        return false;
     }
-    false
+    if day.halt != 0 {
+        return false;
+    }
+    buys_reach_sells(rows)
 }
