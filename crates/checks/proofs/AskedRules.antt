@@ -9,8 +9,8 @@ use borrow.Author.Tests.{le-leb, lt-leb, eq-eqb, ne-eqb, eqb-false}
 use Rattle.model.specs.declared.Order.{Order}
 use Rattle.model.specs.declared.Asked.{Asked}
 use Rattle.model.specs.declared.Day.{Day}
-use Rattle.model.specs.declared.Row.{Row}
-use Rattle.model.specs.Clock.{rowAt, phaseAt, continuous, takesOrders}
+use Rattle.model.specs.Clock.{continuous, takesOrders}
+use Rattle.model.specs.Halts.{phaseNow}
 use Rattle.model.specs.Limits.{isPrice, isQuantity, inBand}
 use Rattle.model.specs.Refusals.{Rule, _when_, firstOf, unsound}
 use Rattle.model.specs.Calls.{orderRules}
@@ -60,32 +60,24 @@ or-first y e t = rw (e, t)
 pub or-second : {f x y : Bool} → x ≡ false → f ≡ y → f ≡ (x || y)
 or-second t e = rw (t, e)
 
-module _ (d : Day) (a : Asked) (row : Row) (r : row ≡ rowAt (d .time)) where
-  takes : takesOrders (d .time) ≡ row .orders
-  unfolding takesOrders
-  takes = ap (λ (x : Row). x .orders) (sym r)
-
-  in-phase : phaseAt (d .time) ≡ row .phase
-  unfolding phaseAt
-  in-phase = ap (λ (x : Row). x .phase) (sym r)
-
-  pub hour-shut : row .orders ≡ false → 4 ≡ firstOf (hourRules d a)
+module _ (d : Day) (a : Asked) {takes : Bool} {phase : ℕ} (r : takes ≡ takesOrders (d .time)) (p : phase ≡ phaseNow d) where
+  pub hour-shut : takes ≡ false → 4 ≡ firstOf (hourRules d a)
   unfolding hourRules firstOf _when_
-  hour-shut h = rw (takes, h)
+  hour-shut h = rw (← r, h)
 
-  module _ (h : row .orders ≡ true) where
+  module _ (h : takes ≡ true) where
     pub hour-limit : a .kind ≡ 0 → 0 ≡ firstOf (hourRules d a)
     unfolding hourRules firstOf _when_
-    hour-limit k = rw (takes, h, eq-eqb (a .kind) 0 k)
+    hour-limit k = rw (← r, h, eq-eqb (a .kind) 0 k)
 
     module _ (k : a .kind ≡ 0 → ⊥) where
-      pub hour-market : (not (eqb (row .phase) 4) || eqb (d .limited) 0) ≡ true → 5 ≡ firstOf (hourRules d a)
+      pub hour-market : (not (eqb phase 4) || eqb (d .limited) 0) ≡ true → 5 ≡ firstOf (hourRules d a)
       unfolding hourRules firstOf _when_ continuous
-      hour-market e = rw (takes, h, ne-eqb (a .kind) 0 k, in-phase, e)
+      hour-market e = rw (← r, h, ne-eqb (a .kind) 0 k, ← p, e)
 
-      pub hour-none : (not (eqb (row .phase) 4) || eqb (d .limited) 0) ≡ false → 0 ≡ firstOf (hourRules d a)
+      pub hour-none : (not (eqb phase 4) || eqb (d .limited) 0) ≡ false → 0 ≡ firstOf (hourRules d a)
       unfolding hourRules firstOf _when_ continuous
-      hour-none e = rw (takes, h, ne-eqb (a .kind) 0 k, in-phase, e)
+      hour-none e = rw (← r, h, ne-eqb (a .kind) 0 k, ← p, e)
 
 module _ (d : Day) (a : Asked) where
   pub hour-numbered : Numbered (hourRules d a)

@@ -13,7 +13,8 @@ use Rattle.model.specs.declared.Asked.{Asked}
 use Rattle.model.specs.declared.Day.{Day}
 use Rattle.model.specs.declared.Trade.{Trade}
 use Rattle.model.specs.Lists.{all}
-use Rattle.model.specs.Clock.{phaseAt, continuous}
+use Rattle.model.specs.Clock.{continuous}
+use Rattle.model.specs.Halts.{phaseNow}
 use Rattle.model.specs.Limits.{isPrice, inRange}
 use Rattle.model.specs.Book.{isLive, queue, best, other}
 use Rattle.model.specs.Figures.{reference}
@@ -59,7 +60,7 @@ best-is-price side book s n =
 
 -- ---- what was handed in
 
-module _ (d : Day) (a : Asked) (book : List Order) {phase own opp : ℕ} (ep : phase ≡ phaseAt (d .time)) (eo : own ≡ best (a .side) book) (ex : opp ≡ best (other (a .side)) book) where
+module _ (d : Day) (a : Asked) (book : List Order) {phase own opp : ℕ} (ep : phase ≡ phaseNow d) (eo : own ≡ best (a .side) book) (ex : opp ≡ best (other (a .side)) book) where
   base-is : baseFrom d own opp ≡ base d (a .side) book
   unfolding baseFrom base
   base-is = rw (eo, ex)
@@ -78,7 +79,7 @@ module _ (d : Day) (a : Asked) (book : List Order) {phase own opp : ℕ} (ep : p
       go true f false g = unfold base in rw (f, g) (best-is-price (a .side) book s (ne _ g))
       go true f true g = unfold base in rw (f, g) r
 
-  pub outside-is : {b : ℕ} {r : Bool} → b ≡ baseFrom d own opp → r ≡ outsideOf a phase b → r ≡ outsideOf a (phaseAt (d .time)) (base d (a .side) book)
+  pub outside-is : {b : ℕ} {r : Bool} → b ≡ baseFrom d own opp → r ≡ outsideOf a phase b → r ≡ outsideOf a (phaseNow d) (base d (a .side) book)
   outside-is e f =
       f
       ∙ ap (λ (n : ℕ). outsideOf a phase n) (e ∙ base-is)
@@ -119,11 +120,11 @@ module _ (a : Asked) (phase base : ℕ) {f : Bool} (e : f ≡ (eqb (a .kind) 0 &
 -- ---- which is the first
 
 module _ (d : Day) (a : Asked) (book : List Order) where
-  pub book-range : outsideOf a (phaseAt (d .time)) (base d (a .side) book) ≡ true → 9 ≡ firstOf (bookRules d a book)
+  pub book-range : outsideOf a (phaseNow d) (base d (a .side) book) ≡ true → 9 ≡ firstOf (bookRules d a book)
   unfolding bookRules firstOf _when_
   book-range o = rw o
 
-  module _ (o : outsideOf a (phaseAt (d .time)) (base d (a .side) book) ≡ false) where
+  module _ (o : outsideOf a (phaseNow d) (base d (a .side) book) ≡ false) where
     pub book-full : all isLive book ≡ true → 10 ≡ firstOf (bookRules d a book)
     unfolding bookRules firstOf _when_
     book-full l = rw (o, l)

@@ -10,10 +10,11 @@ use Rattle.model.specs.declared.Asked.{Asked}
 use Rattle.model.specs.declared.Day.{Day}
 use Rattle.model.specs.Choice.{if_then_else_}
 use Rattle.model.specs.Lists.{all}
-use Rattle.model.specs.Clock.{phaseAt, continuous, takesOrders}
+use Rattle.model.specs.Clock.{continuous, takesOrders}
 use Rattle.model.specs.Limits.{isPrice, isQuantity, inBand, inRange}
 use Rattle.model.specs.Book.{isLive}
 use Rattle.model.specs.Figures.{reference}
+use Rattle.model.specs.Halts.{phaseNow}
 use Rattle.model.specs.Entry.{entryTrades, base}
 use Rattle.model.specs.Refusals.{Rule, _when_}
 
@@ -23,7 +24,7 @@ formRules a = 2 when (not (leb (a .side) 1 && leb (a .kind) 4)) ∷ 3 when (eqb 
 unfoldable pub hourRules : Day → Asked → List Rule
 hourRules d a =
     4 when (not (takesOrders (d .time)))
-    ∷ 5 when (not (eqb (a .kind) 0) && (not (eqb (phaseAt (d .time)) continuous) || eqb (d .limited) 0))
+    ∷ 5 when (not (eqb (a .kind) 0) && (not (eqb (phaseNow d) continuous) || eqb (d .limited) 0))
     ∷ []
 
 unfoldable pub numberRules : Day → Asked → List Rule
@@ -52,7 +53,7 @@ unfoldable pub bookRules : Day → Asked → List Order → List Rule
 bookRules d a book =
     9 when
     (eqb (a .kind) 0
-    && eqb (phaseAt (d .time)) continuous
+    && eqb (phaseNow d) continuous
     && not (inRange (a .side) (base d (a .side) book) (a .price)))
     ∷ 10 when (all isLive book)
     ∷ 11 when (eqb (d .issued) 999_999)

@@ -2,13 +2,13 @@
 use limits::in_band;
 use limits::is_price;
 use limits::is_quantity;
-use matching::entering::CONTINUOUS;
 use model::Asked;
+use model::CONTINUOUS;
 use model::Day;
-use model::Row;
 ghost use mathlib.Core.Path.{_≡_};
 ghost use mathlib.Core.Bool.{true};
-ghost use Rattle.model.specs.Clock.{rowAt};
+ghost use Rattle.model.specs.Clock.{takesOrders};
+ghost use Rattle.model.specs.Halts.{phaseNow};
 ghost use Rattle.model.specs.Limits.{isPrice};
 ghost use Rattle.model.specs.Refusals.{firstOf};
 ghost use Rattle.checks.specs.Checks.{formRules, hourRules, numberRules, askedRules};
@@ -27,14 +27,15 @@ fn form_refusal(a: Asked) -> u64
 }
 
 // 4: the phase takes no order. 5: a market order outside continuous trading or on an unlimited day.
-fn hour_refusal(d: Day, a: Asked, row: Row) -> u64
-    requires { ⌜ row ≡ rowAt (d .time) ⌝ }
+fn hour_refusal(d: Day, a: Asked, takes: bool, phase: u64) -> u64
+    requires { ⌜ takes ≡ takesOrders (d .time) ⌝ }
+    requires { ⌜ phase ≡ phaseNow d ⌝ }
     ensures { λ r. ⌜ r ≡ firstOf (hourRules d a) ⌝ }
 {
-    if !row.orders {
+    if !takes {
         return 4;
     }
-    if a.kind != 0 && (row.phase != CONTINUOUS || d.limited == 0) {
+    if a.kind != 0 && (phase != CONTINUOUS || d.limited == 0) {
         return 5;
     }
     0
@@ -57,17 +58,18 @@ fn number_refusal(d: Day, a: Asked) -> u64
     0
 }
 
-// The first of these. The clock's row for the day's time is handed in.
-pub fn asked_refusal(d: Day, a: Asked, row: Row) -> u64
+// The first of these. Whether the clock takes orders, and the day's phase, are handed in.
+pub fn asked_refusal(d: Day, a: Asked, takes: bool, phase: u64) -> u64
     requires { ⌜ isPrice (d .close) ≡ true ⌝ }
-    requires { ⌜ row ≡ rowAt (d .time) ⌝ }
+    requires { ⌜ takes ≡ takesOrders (d .time) ⌝ }
+    requires { ⌜ phase ≡ phaseNow d ⌝ }
     ensures { λ r. ⌜ r ≡ firstOf (askedRules d a) ⌝ }
 {
     let form = form_refusal(a);
     if form != 0 {
         return form;
     }
-    let hour = hour_refusal(d, a, row);
+    let hour = hour_refusal(d, a, takes, phase);
     if hour != 0 {
         return hour;
     }

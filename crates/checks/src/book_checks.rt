@@ -3,9 +3,9 @@
 use book::seats::free_from;
 use figures::reference_of;
 use limits::in_range;
-use matching::entering::CONTINUOUS;
 use matching::entering::enter_trades;
 use model::Asked;
+use model::CONTINUOUS;
 use model::Day;
 use model::LAST_NUMBER;
 ghost use mathlib.Core.Path.{_≡_};
@@ -13,7 +13,7 @@ ghost use mathlib.Core.Bool.{true};
 ghost use Prim.Native.Nat.{_≤_};
 ghost use lib.Dec.{ltb};
 ghost use lib.ListN.{length};
-ghost use Rattle.model.specs.Clock.{phaseAt};
+ghost use Rattle.model.specs.Halts.{phaseNow};
 ghost use Rattle.model.specs.Limits.{isPrice};
 ghost use Rattle.model.specs.Book.{best};
 ghost use Rattle.model.specs.Book as sides;
@@ -49,7 +49,7 @@ fn is_outside(a: Asked, phase: u64, base: u64) -> bool
 // 9: outside the range. 10: no free place. 11: no number left.
 pub fn book_refusal(d: Day, rows: &[[u64; 5]], a: Asked, phase: u64, own: u64, other: u64) -> u64
     requires { ⌜ Ranked (bookOf (now rows)) ⌝ }
-    requires { ⌜ phase ≡ phaseAt (d .time) ⌝ }
+    requires { ⌜ phase ≡ phaseNow d ⌝ }
     requires { ⌜ own ≡ best (a .side) (bookOf (now rows)) ⌝ }
     requires { ⌜ other ≡ best (sides.other (a .side)) (bookOf (now rows)) ⌝ }
     requires { ⌜ isPrice (reference d) ≡ true ⌝ }
@@ -80,7 +80,7 @@ pub fn lacks_places(
     other: u64,
 ) -> bool
     requires { ⌜ Ranked (bookOf (now rows)) ⌝ }
-    requires { ⌜ phase ≡ phaseAt (d .time) ⌝ }
+    requires { ⌜ phase ≡ phaseNow d ⌝ }
     requires { ⌜ own ≡ best (a .side) (bookOf (now rows)) ⌝ }
     requires { ⌜ other ≡ best (sides.other (a .side)) (bookOf (now rows)) ⌝ }
     requires { ⌜ d .issued ≤ 999_999 ⌝ }

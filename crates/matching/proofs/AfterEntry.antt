@@ -13,7 +13,8 @@ use Rattle.model.specs.declared.Asked.{Asked}
 use Rattle.model.specs.declared.Trade.{Trade}
 use Rattle.model.specs.declared.Taker.{Taker}
 use Rattle.model.specs.declared.Day.{Day}
-use Rattle.model.specs.Clock.{phaseAt, continuous}
+use Rattle.model.specs.Clock.{continuous}
+use Rattle.model.specs.Halts.{phaseNow}
 use Rattle.model.specs.Book.{queue, best, other}
 use Rattle.model.specs.Matching.{meets, within, sweep, filled, filledOf, lastPrice, settle}
 use Rattle.model.specs.Entry.{bestWithin, entryPrice, opposite, entryTrades, restPrice}
@@ -65,7 +66,7 @@ worse-unmet side m p l = go (eqb side 0) l
     go true l = lt-leb p m l
     go false l = lt-leb m p (omega arith)
 
-module _ (d : Day) (a : Asked) (book : List Order) (standing : Standing book) (now : phaseAt (d .time) ≡ continuous) where
+module _ (d : Day) (a : Asked) (book : List Order) (standing : Standing book) (now : phaseNow d ≡ continuous) where
   abbrev ts : List Trade
   ts = entryTrades d a book
 
@@ -74,7 +75,7 @@ module _ (d : Day) (a : Asked) (book : List Order) (standing : Standing book) (n
   against = queue (other (a .side)) book
 
   swept : (entryPrice a book ≡ 0 → ⊥) → ts ≡ sweep (taker d a book) (a .quantity) (opposite a book)
-  swept n = as-sweep d a book (phaseAt (d .time)) refl (now ∙ unfold continuous in refl) n
+  swept n = as-sweep d a book (phaseNow d) refl (now ∙ unfold continuous in refl) n
 
   -- the order does not meet the price, or is wholly filled
   abbrev Away : ℕ → Order → Type 0
@@ -201,7 +202,7 @@ module _ (d : Day) (a : Asked) (book : List Order) (standing : Standing book) (n
 
   -- who traded had a price
   priced : (filled ts ≡ 0 → ⊥) → entryPrice a book ≡ 0 → ⊥
-  priced traded z = traded (ap filled (no-price d a book (phaseAt (d .time)) refl z) ∙ filled-nil)
+  priced traded z = traded (ap filled (no-price d a book (phaseNow d) refl z) ∙ filled-nil)
 
   -- nobody meets the price at which the remainder rests
   pub rest-unmet :

@@ -13,7 +13,8 @@ use Rattle.model.specs.declared.Trade.{Trade}
 use Rattle.model.specs.declared.Taker.{Taker}
 use Rattle.model.specs.declared.Day.{Day}
 use Rattle.model.specs.Choice.{if_then_else_}
-use Rattle.model.specs.Clock.{phaseAt, continuous}
+use Rattle.model.specs.Clock.{continuous}
+use Rattle.model.specs.Halts.{phaseNow}
 use Rattle.model.specs.Book.{queue, best, other}
 use Rattle.model.specs.Matching.{sweep, atFiveBest, filled, lastPrice}
 use Rattle.model.specs.Figures.{nextNumber}
@@ -66,10 +67,10 @@ module _ (a : Asked) (book : List Order) where
 
 -- ---- the trades
 
-module _ (d : Day) (a : Asked) (book : List Order) (phase : ℕ) (now : phase ≡ phaseAt (d .time)) where
+module _ (d : Day) (a : Asked) (book : List Order) (phase : ℕ) (now : phase ≡ phaseNow d) where
   pub other-phase : (phase ≡ 4 → ⊥) → entryTrades d a book ≡ []
   unfolding entryTrades continuous
-  other-phase n = rw (ne-eqb (phaseAt (d .time)) 4 (λ e. n (now ∙ e)))
+  other-phase n = rw (ne-eqb (phaseNow d) 4 (λ e. n (now ∙ e)))
 
   pub no-price : entryPrice a book ≡ 0 → entryTrades d a book ≡ []
   unfolding entryTrades
@@ -82,7 +83,7 @@ module _ (d : Day) (a : Asked) (book : List Order) (phase : ℕ) (now : phase �
       ≡ sweep (record { side = a .side; number = nextNumber d; limit = entryPrice a book }) (a .quantity)
       (opposite a book)
   unfolding entryTrades continuous
-  as-sweep p n = rw (eq-eqb (phaseAt (d .time)) 4 (sym now ∙ p), ne-eqb (entryPrice a book) 0 n)
+  as-sweep p n = rw (eq-eqb (phaseNow d) 4 (sym now ∙ p), ne-eqb (entryPrice a book) 0 n)
 
   -- ---- what `enter_trades` gives
 

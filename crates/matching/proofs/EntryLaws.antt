@@ -15,7 +15,8 @@ use Rattle.model.specs.declared.Taker.{Taker}
 use Rattle.model.specs.declared.Day.{Day}
 use Rattle.model.specs.Choice.{if_then_else_}
 use Rattle.model.specs.Lists.{keep, total, among, once, different}
-use Rattle.model.specs.Clock.{phaseAt, continuous}
+use Rattle.model.specs.Clock.{continuous}
+use Rattle.model.specs.Halts.{phaseNow}
 use Rattle.model.specs.Book.{standsOn, queue, best, other}
 use Rattle.model.specs.Matching.{meets, within, fiveBest, atFiveBest, sweep, filled, filledOf, levels, lastPrice, settle}
 use Rattle.model.specs.Figures.{nextNumber}
@@ -186,7 +187,7 @@ module _ (d : Day) (a : Asked) (book : List Order) where
       → ((entryPrice a book ≡ 0 → ⊥) → P (sweep taker (a .quantity) (opposite a book)))
       → P (entryTrades d a book)
   unfolding entryTrades
-  entry-cases P none some = go (eqb (phaseAt (d .time)) continuous) (eqb (entryPrice a book) 0) refl
+  entry-cases P none some = go (eqb (phaseNow d) continuous) (eqb (entryPrice a book) 0) refl
     where
       go :
           (b c : Bool)

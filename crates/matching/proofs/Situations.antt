@@ -10,6 +10,7 @@ use Rattle.model.specs.declared.Remainder.{Remainder}
 use Rattle.model.specs.declared.Remainder.the-variants.{Rests, Withdrawn}
 use Rattle.model.specs.declared.OrderReply.the-variants.{Accepted}
 use Rattle.model.specs.Lists.{keep, all, any, total, among, once, different}
+use Rattle.model.specs.Halts.{runs, phaseNow}
 use Rattle.model.specs.Clock.{closed, laterRows, holding, rowAt, phaseAt, takesOrders, continuous, isTime}
 use Rattle.model.specs.Book.{free, isLive, standsOn, better, ahead, insert, inPriority, queue, other, headPrice, best, arranged, mayFollow, inOrder}
 use Rattle.model.specs.Matching.{
@@ -45,6 +46,8 @@ use Rattle.model.specs.Sound.{
   sharesFit,
   pricesFit,
   turnoverFits,
+  isUsed,
+  haltFits,
   soundAnywhere,
   sound,
 }
@@ -60,7 +63,7 @@ abbrev book : List Order
 book = sell 1001 1 ∷ sell 1002 2 ∷ sell 1003 3 ∷ sell 1004 4 ∷ sell 1005 5 ∷ sell 1006 6 ∷ free ∷ free ∷ []
 
 abbrev day : Day
-day = record { close = 1000; limited = 1; time = 34_200; issued = 6; shares = 0; turnover = 0; first = 0; last = 0 }
+day = record { close = 1000; limited = 1; time = 34_200; issued = 6; shares = 0; turnover = 0; first = 0; last = 0; halt = 0; used30 = 0; used60 = 0 }
 
 -- a buy of 600 of this kind and limit
 abbrev buy : ℕ → ℕ → Asked
@@ -93,5 +96,5 @@ Holds s =
     × (best 0 (orderCall day (buy (s .kind) (s .limit)) book lent .book) ≡ s .at)
 
 pub situations : Each Holds table
-unfolding keep all any total among once different closed laterRows holding rowAt phaseAt takesOrders continuous isTime free isLive standsOn better ahead insert inPriority queue other headPrice best arranged mayFollow inOrder meets within fiveBest atFiveBest tradeWith sweep filled levels lastPrice firstPrice isIn filledOf lessBy settle isPrice isQuantity inBand nextNumber issue tally money bestWithin entryPrice opposite entryTrades restPrice hasPlaces isMark mayStand soundFigures isFree isOrder ownNumbers isEmpty crosses between sharesFit pricesFit turnoverFits soundAnywhere sound _when_ firstOf unsound orderRules ended joined entered orderCall
+unfolding keep all any total among once different closed laterRows holding rowAt phaseAt takesOrders continuous isTime free isLive standsOn better ahead insert inPriority queue other headPrice best arranged mayFollow inOrder meets within fiveBest atFiveBest tradeWith sweep filled levels lastPrice firstPrice isIn filledOf lessBy settle isPrice isQuantity inBand nextNumber issue tally money runs phaseNow bestWithin entryPrice opposite entryTrades restPrice hasPlaces isMark mayStand soundFigures isFree isOrder ownNumbers isEmpty crosses between sharesFit pricesFit turnoverFits isUsed haltFits soundAnywhere sound _when_ firstOf unsound orderRules ended joined entered orderCall
 situations = ((refl, refl), ((refl, refl), ((refl, refl), tt)))

@@ -1,7 +1,7 @@
 // What an order does on entry, by its kind: its price, its trades, and where what is left rests.
 ghost use mathlib.Core.Path.{_≡_};
 ghost use Prim.Native.Nat.{_≤_};
-ghost use Rattle.model.specs.Clock.{phaseAt};
+ghost use Rattle.model.specs.Halts.{phaseNow};
 ghost use Rattle.model.specs.Book.{best};
 ghost use Rattle.model.specs.Book as sides;
 ghost use Rattle.model.specs.Matching as matching;
@@ -15,11 +15,9 @@ use crate::Swept;
 use crate::sweeping::nothing_yet;
 use crate::sweeping::sweep;
 use model::Asked;
+use model::CONTINUOUS;
 use model::Day;
 use model::Taker;
-
-// Trading on entry happens in this phase alone.
-pub const CONTINUOUS: u64 = 4;
 
 // A book has no more prices than places.
 const MOST_PRICES: u64 = 4_096;
@@ -93,7 +91,7 @@ pub fn enter_trades(
     other: u64,
 ) -> Swept
     requires { ⌜ Ranked (bookOf (now rows)) ⌝ }
-    requires { ⌜ phase ≡ phaseAt (d .time) ⌝ }
+    requires { ⌜ phase ≡ phaseNow d ⌝ }
     requires { ⌜ own ≡ best (a .side) (bookOf (now rows)) ⌝ }
     requires { ⌜ other ≡ best (sides.other (a .side)) (bookOf (now rows)) ⌝ }
     requires { ⌜ d .issued ≤ 999_999 ⌝ }

@@ -2,6 +2,7 @@
 -- and what is left of the order joins it. Assumes nothing.
 use Prim.Native.Nat.{ℕ, _+_, _-_, _*_, _^_, _≤_, _<_}
 use mathlib.Core.Path.{_≡_, sym, ap, _∙_}
+use mathlib.Core.Logic.{⊎-elim}
 use mathlib.Core.Bool.{Bool, true, false, _||_}
 use mathlib.Core.List.{List, [], _∷_}
 use native.Mathlib.Omega.{arith}
@@ -9,7 +10,7 @@ use native.Mathlib.Nat.{mul-le-mul-right, mul-add}
 use native.Mathlib.Numerals.{add-one}
 use lib.ListN.{length, length-map, take}
 use lib.Dec.{eqb}
-use borrow.Author.Tests.{eq-eqb, ne-eqb}
+use borrow.Author.Tests.{eq-eqb, ne-eqb, eqb-true, eqb-false}
 use Rattle.model.specs.declared.Order.{Order}
 use Rattle.model.specs.declared.Asked.{Asked}
 use Rattle.model.specs.declared.Trade.{Trade}
@@ -21,8 +22,10 @@ use Rattle.model.specs.Lists.{total}
 use Rattle.model.specs.Book.{queue, best, other, arranged}
 use Rattle.model.specs.Matching.{filled, levels, lastPrice, settle}
 use Rattle.model.specs.Figures.{nextNumber, issue, money, tally}
+use Rattle.model.specs.Halts.{fired}
 use Rattle.model.specs.Entry.{entryTrades, restPrice}
 use Rattle.model.specs.Calls.{written, ended, joined, entered}
+use Rattle.model.proofs.Bools.{true-or-false}
 use Rattle.book.specs.Rows.{orderOf, bookOf, tradesOf, tradeRows}
 use Rattle.book.specs.Standing.{Each, Standing, Ordered, Ranked}
 use Rattle.book.specs.Writing.{fitted}
@@ -39,7 +42,7 @@ use Rattle.matching.proofs.Entries.{rest-price}
 use Rattle.matching.proofs.EntryLaws.{entry-filled, entry-swept}
 use Rattle.matching.proofs.EntryKept.{traded-bound, fair-rest}
 use Rattle.book.specs.Promises.{callLeft}
-use Rattle.orders.specs.Taken.{Taken, Joins}
+use Rattle.orders.specs.Taken.{Taken, Joins, RoomFor}
 
 -- ---- where what is left goes
 
@@ -156,25 +159,31 @@ module _ (d : Day) (a : Asked) (rows lent : List (List ℕ)) where
       pub count-fits : length trades ≡ length lent → s .trades ≤ length trades
       count-fits k = omega (arith, made, t .fits)
 
-      module _ {i : Day} (ei : i ≡ issue d) where
-        few : filled ts ≤ 1_000_000
-        few = omega (arith, entry-filled d a book, t .quantity)
+      few : filled ts ≤ 1_000_000
+      few = omega (arith, entry-filled d a book, t .quantity)
 
-        pub shares-fit : i .shares + filled (tradesOf (take (s .trades) trades)) < 2 ^ 64
-        unfolding issue
-        shares-fit =
-            let z : i .shares ≡ d .shares = rw ei in
-            let f : filled (tradesOf (take (s .trades) trades)) ≡ filled ts = ap filled back in
-            omega (arith, few, t .ready .sound .shares, t .ready .sound .issued)
+      priced : Each (λ (r : Trade). r .price ≤ 999_999) ts
+      priced = traded-bound d a book stands (t .price)
 
-        pub money-fits : i .turnover + money (tradesOf (take (s .trades) trades)) < 2 ^ 64
-        unfolding issue
-        money-fits =
-            let z : i .turnover ≡ d .turnover = rw ei in
-            let f : money (tradesOf (take (s .trades) trades)) ≡ money ts = ap money back in
-            let m : money ts ≤ 999_999 * filled ts =
-            money-within 999_999 ts (traded-bound d a book stands (t .price)) in
-            omega (arith, few, t .ready .sound .shares, t .ready .sound .issued, t .ready .sound .most)
+      -- nothing has traded, or the open is a price
+      opened : d .first ≤ 999_999
+      opened =
+          ⊎-elim (λ z. omega (arith, t .ready .sound .untraded (eqb-true (d .shares) 0 z)))
+          (λ n. t .ready .sound .traded (eqb-false (d .shares) 0 n) .0 .high)
+          (true-or-false (eqb (d .shares) 0))
+
+      pub room-for : RoomFor d (tradesOf (take (s .trades) trades))
+      room-for =
+          let m : money ts ≤ 999_999 * filled ts = money-within 999_999 ts priced in
+          rw back
+          (record {
+            time = t .ready .sound .time;
+            issued = omega (arith, t .number);
+            shares = omega (arith, few, t .ready .sound .shares, t .ready .sound .issued);
+            money = omega (arith, few, t .ready .sound .shares, t .ready .sound .issued, t .ready .sound .most);
+            opened = opened;
+            priced = priced;
+          })
 
       -- ---- the book after the trades
 
@@ -244,12 +253,11 @@ module _ (d : Day) (a : Asked) (rows lent : List (List ℕ)) where
         -- ---- and what it all comes to
 
         pub entered-is :
-            (rows₂ : List (List ℕ)) {p : ℕ} {rem : Remainder} {i day : Day}
+            (rows₂ : List (List ℕ)) {p : ℕ} {rem : Remainder} {day : Day}
             → p ≡ restAt a (best (a .side) book) (best (other (a .side)) book) (s .filled) (s .last)
             → bookOf rows₂ ≡ arranged (length rows₁) (joined a (d .issued + 1) (a .quantity - s .filled) p (bookOf rows₁))
             → rem ≡ ended (a .quantity - s .filled) p
-            → i ≡ issue d
-            → day ≡ tally (tradesOf (take (s .trades) trades)) i
+            → day ≡ fired (d .time) (tradesOf (take (s .trades) trades)) (tally (tradesOf (take (s .trades) trades)) (issue d))
             → callLeft
             (record {
               reply =
@@ -261,7 +269,7 @@ module _ (d : Day) (a : Asked) (rows lent : List (List ℕ)) where
             trades
             ≡ entered d a book (tradesOf lent)
         unfolding entered nextNumber
-        entered-is rows₂ {p} {rem} {i} {day} ep eb em ei ed =
+        entered-is rows₂ {p} {rem} {day} ep eb em ed =
             let n = add-one (d .issued) in
             let p' : p ≡ restPrice a ts book = rests-at ep in
             let b' : bookOf rows₂ ≡ arranged (length book) (joined a (d .issued + 1) (a .quantity - s .filled) p (settle ts book)) =
@@ -272,5 +280,7 @@ module _ (d : Day) (a : Asked) (rows lent : List (List ℕ)) where
             ∙ ap (λ (k : ℕ). arranged k (joined a (d .issued + 1) (a .quantity - s .filled) p (settle ts book))) (sym (length-map rows orderOf))
             in
             let t' : tradesOf trades ≡ written ts (tradesOf lent) = ap tradesOf w ∙ fitted-written ts lent fits in
-            let d' : day ≡ tally ts (issue d) = ed ∙ ap (λ (l : List Trade). tally l i) back ∙ ap (tally ts) ei in
+            let d' : day ≡ fired (d .time) ts (tally ts (issue d)) =
+            ed ∙ ap (λ (l : List Trade). fired (d .time) l (tally l (issue d))) back
+            in
             cc (made, sold, at-prices)

@@ -1,3 +1,4 @@
 pub mod OrderLaws
+pub mod Counted
 pub mod Entered
 pub mod Cancels

@@ -12,7 +12,7 @@ use Rattle.model.specs.declared.Order.{Order}
 use Rattle.model.specs.declared.Asked.{Asked}
 use Rattle.model.specs.declared.Day.{Day}
 use Rattle.model.specs.declared.Row.{Row}
-use Rattle.model.specs.Clock.{rowAt, phaseAt}
+use Rattle.model.specs.Clock.{rowAt, takesOrders}
 use Rattle.model.specs.declared.OrderAnswer.{OrderAnswer}
 use Rattle.model.specs.declared.OrderReply.the-variants.{Refused}
 use Rattle.model.specs.Lists.{all}
@@ -36,9 +36,9 @@ use Rattle.checks.proofs.BookRules.{book-numbered}
 
 -- ---- the clock
 
-pub phase-of : (t : ℕ) {row : Row} → row ≡ rowAt t → row .phase ≡ phaseAt t
-unfolding phaseAt
-phase-of t e = ap (λ (r : Row). r .phase) e
+pub takes-of : (t : ℕ) {row : Row} → row ≡ rowAt t → row .orders ≡ takesOrders t
+unfolding takesOrders
+takes-of t e = ap (λ (r : Row). r .orders) e
 
 -- ---- which rule is the first
 

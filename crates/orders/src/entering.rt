@@ -4,9 +4,11 @@ use book::seats::best_price;
 use checks::asked_checks::asked_refusal;
 use checks::book_checks::book_refusal;
 use checks::book_checks::lacks_places;
+use clock::phase_now;
 use clock::row_at;
 use figures::issued_one;
 use figures::tally_trades;
+use halts::firing::fire;
 use matching::entering::enter_trades;
 use matching::entering::price_of_rest;
 use matching::settling::settle_entry;
@@ -20,17 +22,19 @@ use model::OrderReply;
 use model::Remainder;
 ghost use mathlib.Core.Path.{_≡_};
 ghost use mathlib.Core.Bool.{false};
-ghost use lib.ListN.{length};
-ghost use Rattle.model.specs.Clock.{phaseAt};
+ghost use Prim.Native.Nat.{_≤_};
+ghost use lib.ListN.{length, take};
 ghost use Rattle.model.specs.Book.{best, arranged};
 ghost use Rattle.model.specs.Book as sides;
+ghost use Rattle.model.specs.Figures.{issue, tally};
+ghost use Rattle.model.specs.Halts.{phaseNow, fired};
 ghost use Rattle.model.specs.Refusals.{firstOf, unsound};
 ghost use Rattle.model.specs.Calls.{ended, joined, entered, orderCall};
 ghost use Rattle.book.specs.Rows.{bookOf, tradesOf};
 ghost use Rattle.book.specs.Standing.{Ranked};
 ghost use Rattle.book.specs.Promises.{callLeft, orderRefused};
 ghost use Rattle.checks.specs.Checks.{askedRules};
-ghost use Rattle.orders.specs.Taken.{Taken, Joins};
+ghost use Rattle.orders.specs.Taken.{Taken, Joins, RoomFor};
 
 // How q shares that are left end, where p is the price at which they rest, or 0.
 fn remainder_of(q: u64, p: u64) -> Remainder
@@ -64,6 +68,17 @@ fn join_rest(rows: &mut [[u64; 5]], a: Asked, number: u64, q: u64, p: u64)
     take_in(&mut *rows, o);
 }
 
+// The day after an order whose trades are the first n of the list: one number more is issued, they are added to its figures, and they
+// may start a halt.
+fn day_after(d: Day, trades: &[[u64; 6]], n: usize) -> Day
+    requires { ⌜ n ≤ length (now trades) ⌝ }
+    requires { ⌜ RoomFor d (tradesOf (take n (now trades))) ⌝ }
+    ensures { λ r. ⌜ r ≡ fired (d .time) (tradesOf (take n (now (trades .entry)))) (tally (tradesOf (take n (now (trades .entry)))) (issue d)) ⌝ }
+{
+    let tallied = tally_trades(issued_one(d), trades, n);
+    fire(tallied, trades, n, d.time)
+}
+
 // An order that is not refused.
 fn enter(
     d: Day,
@@ -75,7 +90,7 @@ fn enter(
     other: u64,
 ) -> OrderAnswer
     requires { ⌜ Taken d a (bookOf (now rows)) (length (now trades)) ⌝ }
-    requires { ⌜ phase ≡ phaseAt (d .time) ⌝ }
+    requires { ⌜ phase ≡ phaseNow d ⌝ }
     requires { ⌜ own ≡ best (a .side) (bookOf (now rows)) ⌝ }
     requires { ⌜ other ≡ best (sides.other (a .side)) (bookOf (now rows)) ⌝ }
     ensures { λ r. ⌜ callLeft r (now (rows .exit)) (now (trades .exit)) ≡ entered d a (bookOf (now (rows .entry))) (tradesOf (now (trades .entry))) ⌝ }
@@ -85,7 +100,7 @@ fn enter(
     let p = price_of_rest(a, own, other, s);
     settle_entry(&mut *rows, a.side, s.filled);
     join_rest(&mut *rows, a, d.issued + 1, q, p);
-    let next = tally_trades(issued_one(d), trades, s.trades);
+    let next = day_after(d, trades, s.trades);
     let entry = Entry {
         number: d.issued + 1,
         filled: s.filled,
@@ -121,7 +136,7 @@ pub fn order_with(
 ) -> OrderAnswer
     requires { ⌜ unsound d (bookOf (now rows)) ≡ false ⌝ }
     requires { ⌜ firstOf (askedRules d a) ≡ 0 ⌝ }
-    requires { ⌜ phase ≡ phaseAt (d .time) ⌝ }
+    requires { ⌜ phase ≡ phaseNow d ⌝ }
     requires { ⌜ own ≡ best (a .side) (bookOf (now rows)) ⌝ }
     requires { ⌜ other ≡ best (sides.other (a .side)) (bookOf (now rows)) ⌝ }
     ensures { λ r. ⌜ callLeft r (now (rows .exit)) (now (trades .exit)) ≡ orderCall d a (bookOf (now (rows .entry))) (tradesOf (now (trades .entry))) ⌝ }
@@ -144,11 +159,12 @@ pub fn order_sound(d: Day, rows: &mut [[u64; 5]], trades: &mut [[u64; 6]], a: As
     ensures { λ r. ⌜ callLeft r (now (rows .exit)) (now (trades .exit)) ≡ orderCall d a (bookOf (now (rows .entry))) (tradesOf (now (trades .entry))) ⌝ }
 {
     let row = row_at(d.time);
-    let refusal = asked_refusal(d, a, row);
+    let phase = phase_now(d, row);
+    let refusal = asked_refusal(d, a, row.orders, phase);
     if refusal != 0 {
         return order_refused(d, refusal);
     }
     let own = best_price(rows, a.side);
     let other = best_price(rows, other_side(a.side));
-    order_with(d, &mut *rows, &mut *trades, a, row.phase, own, other)
+    order_with(d, &mut *rows, &mut *trades, a, phase, own, other)
 }

@@ -2,7 +2,7 @@
 use mathlib.Core.Path.{_≡_, sym, _∙_}
 use mathlib.Core.Bool.{false}
 use borrow.Author.Needs.{needs}
-use Rattle.model.specs.Clock.{phaseAt}
+use Rattle.model.specs.Halts.{phaseNow}
 use Rattle.model.specs.Lists.{all}
 use Rattle.model.specs.Book.{isLive}
 use Rattle.model.specs.Entry.{base}
@@ -38,7 +38,7 @@ module _ (c : tie.After-is-outside) where
   abbrev began : tie.Start
   began = c .before .before
 
-  tested : c .is-outside .result ≡ outsideOf (began .args .a) (phaseAt (began .args .d .time)) (base (began .args .d) (began .args .a .side) (bookOf (began .args .rows .now)))
+  tested : c .is-outside .result ≡ outsideOf (began .args .a) (phaseNow (began .args .d)) (base (began .args .d) (began .args .a .side) (bookOf (began .args .rows .now)))
   tested =
       let a = began .args in
       let p = began .pre .1 in

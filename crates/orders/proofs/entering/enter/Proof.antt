@@ -7,7 +7,7 @@ use borrow.Author.Needs.{needs}
 use Rattle.model.specs.Book.{best, other}
 use Rattle.book.specs.Rows.{bookOf}
 use Rattle.matching.specs.Entering.{restAt}
-use Rattle.orders.proofs.Entered.{rest-found, filled-fits, count-fits, shares-fit, money-fits, then-ranked, then-joins, entered-is}
+use Rattle.orders.proofs.Entered.{rest-found, filled-fits, count-fits, room-for, then-ranked, then-joins, entered-is}
 use Rattle.orders.proofs.entering.enter.Statement.{statement}
 use Rattle.orders.proofs.entering.enter.Tie as tie
 
@@ -64,21 +64,17 @@ join-rest-requires c κs =
       then-joins (a .d) (a .a) (a .rows .now) (a .trades .now) (s .pre .0 .fits) (e .enter-trades .ensures .0) (e .enter-trades .ensures .1) (s .pre .0) (t .settle-entry .last .0) (t .settle-entry .ensures .1) (rest p),
     )
 
-issued-one-requires : tie.Need-issued-one-requires
-issued-one-requires c κs = numbers (c .before .before .before .before .before .before .before .before .before .before .before)
-
-tally-trades-requires : tie.Need-tally-trades-requires
-tally-trades-requires c κs =
-    let i = c .before .issued-one .ensures in
-    let e = c .before .before .before .before .before .before .before .before .before .before .before .before .before in
+day-after-requires : tie.Need-day-after-requires
+day-after-requires c κs =
+    let e = c .before .before .before .before .before .before .before .before .before .before .before .before in
     let s = began e in
     let a = s .args in (
       count-fits (a .d) (a .a) (a .rows .now) (a .trades .now) (s .pre .0 .fits) (e .enter-trades .ensures .0) (e .enter-trades .ensures .1) (s .pre .0) (e .enter-trades .kept .1 .1 .0),
-      (shares-fit (a .d) (a .a) (a .rows .now) (a .trades .now) (s .pre .0 .fits) (e .enter-trades .ensures .0) (e .enter-trades .ensures .1) (s .pre .0) i, money-fits (a .d) (a .a) (a .rows .now) (a .trades .now) (s .pre .0 .fits) (e .enter-trades .ensures .0) (e .enter-trades .ensures .1) (s .pre .0) i),
+      room-for (a .d) (a .a) (a .rows .now) (a .trades .now) (s .pre .0 .fits) (e .enter-trades .ensures .0) (e .enter-trades .ensures .1) (s .pre .0),
     )
 
 add-t22 : tie.Need-add-t22
-add-t22 c = record { fits = numbers (c .before .before .before .before .before .before .before .before .before .before .before .before .before .before .before) }
+add-t22 c = record { fits = numbers (c .before .before .before .before .before .before .before .before .before .before .before .before .before .before) }
 
 remainder-of-requires : tie.Need-remainder-of-requires
 remainder-of-requires c κs = search needs
@@ -87,13 +83,12 @@ same-length : tie.Need-same-length
 same-length c = search needs
 
 same-length-2 : tie.Need-same-length-2
-same-length-2 c = c .before .before .before .before .before .before .before .before .before .before .before .before .before .before .before .before .enter-trades .kept .1 .1 .0
+same-length-2 c = c .before .before .before .before .before .before .before .before .before .before .before .before .before .before .before .enter-trades .kept .1 .1 .0
 
 returns : tie.Need-returns
 returns c =
     let t = c .before .before in
-    let i = t .before .before in
-    let j = i .before .before in
+    let j = t .before .before .before in
     let k = j .before .before .before .before in
     let p = k .before .before in
     let e = traded p in
@@ -105,8 +100,7 @@ returns c =
     (rest p)
     (j .join-rest .ensures)
     (c .remainder-of .ensures)
-    (i .issued-one .ensures)
-    (t .tally-trades .ensures)
+    (t .day-after .ensures)
 
 pub enter-spec : {M : Type 1} → statement M
 enter-spec =
@@ -118,8 +112,7 @@ enter-spec =
     settle-entry-requires
     add-join-rest
     join-rest-requires
-    issued-one-requires
-    tally-trades-requires
+    day-after-requires
     add-t22
     remainder-of-requires
     same-length
