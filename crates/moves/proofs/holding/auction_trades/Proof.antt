@@ -1,4 +1,4 @@
--- `moves::moving::auction_trades` meets its contract: the pairs at the price that was found are the auction's trades. Assumes nothing.
+-- `moves::holding::auction_trades` meets its contract: the pairs at the price that was found are the auction's trades. Assumes nothing.
 use mathlib.Core.Path.{_∙_, ap}
 use mathlib.Core.List.{List}
 use Rattle.model.specs.declared.Trade.{Trade}
@@ -7,8 +7,8 @@ use Rattle.book.specs.Writing.{fitted}
 use Rattle.moves.proofs.AuctionHeld.{trades-found, dealt-found, none-dealt, none-written}
 use borrow.Author.Needs.{needs}
 use borrow.Author.Tests.{not-true}
-use Rattle.moves.proofs.moving.auction_trades.Statement.{statement}
-use Rattle.moves.proofs.moving.auction_trades.Tie as tie
+use Rattle.moves.proofs.holding.auction_trades.Statement.{statement}
+use Rattle.moves.proofs.holding.auction_trades.Tie as tie
 
 buys-reach-sells-requires : tie.Need-buys-reach-sells-requires
 buys-reach-sells-requires c κs = search needs

@@ -1,7 +1,7 @@
--- `moves::moving::passes` meets its contract: the definition's two tests, one after the other. Assumes nothing.
-use Rattle.moves.proofs.Boundaries.{not-below, from-below}
-use Rattle.moves.proofs.moving.passes.Statement.{statement}
-use Rattle.moves.proofs.moving.passes.Tie as tie
+-- `moves::stops::passes` meets its contract: the definition's two tests, one after the other. Assumes nothing.
+use Rattle.moves.proofs.NextStop.{not-below, from-below}
+use Rattle.moves.proofs.stops.passes.Statement.{statement}
+use Rattle.moves.proofs.stops.passes.Tie as tie
 
 returns : tie.Need-returns
 returns c = from-below (c .before .args .old) (c .before .args .new) (c .before .args .second) (c .if1 .taken)
