@@ -15,7 +15,7 @@ use Rattle.model.specs.Lists.{keep, total, from}
 use Rattle.model.specs.Book.{isLive, standsOn}
 use Rattle.model.specs.Auction.{distance, sharesOf, demand, supply, volume, leftBy, surplus}
 use Rattle.model.specs.AuctionCalls.{reportAt}
-use Rattle.book.specs.Standing.{Each}
+use Rattle.model.specs.Words.{Each}
 use Rattle.auction.specs.Spans.{turned, gap, flatter, nearestIn}
 use Rattle.auction.specs.Stars.{Star, Right, stars, star-a, star-b, star-c, star-d, star-e, star-f}
 use Rattle.model.proofs.Bools.{not-both, and-left, and-right}

@@ -10,7 +10,7 @@ use Rattle.model.specs.declared.ReportReply.the-variants.{Priced}
 use Rattle.model.specs.Lists.{from}
 use Rattle.model.specs.Auction.{qualifying, leftBy, surplus}
 use Rattle.model.specs.AuctionCalls.{reportAt}
-use Rattle.book.specs.Standing.{Each}
+use Rattle.model.specs.Words.{Each}
 
 abbrev buy : ℕ → ℕ → ℕ → Order
 buy number left price = record { side = 0; account = 7; left = left; price = price; number = number }

@@ -18,7 +18,7 @@ use Rattle.model.specs.Calls.{Outcome, OpenOutcome, CancelOutcome, openCall, or
 use Rattle.model.specs.ClockCall.{clockCall}
 use Rattle.model.specs.AuctionCalls.{ListOutcome, reportCall, listCall}
 use Rattle.book.specs.Rows.{orderOf, rowOf, bookOf, rowsOf, tradeOf, tradeRow, tradesOf, tradeRows}
-use Rattle.book.specs.Standing.{Each}
+use Rattle.model.specs.Words.{Each}
 use Rattle.book.specs.Promises.{openLeft, callLeft, cancelLeft, listLeft}
 
 -- ---- rows are determined by what they say

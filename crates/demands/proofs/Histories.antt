@@ -15,7 +15,7 @@ use Rattle.model.specs.AuctionCalls.{ListOutcome}
 use Rattle.model.specs.Session.{Desk}
 use Rattle.model.proofs.Bools.{not-both}
 use Rattle.soundness.proofs.SoundDays.{sound-day, day-stands, sound-ordered}
-use Rattle.demands.specs.Pricing.{Sound}
+use Rattle.model.specs.Words.{Sound}
 use Rattle.demands.specs.Keeping.{Keeping}
 use Rattle.demands.specs.Running.{isOpening}
 use Rattle.demands.specs.Older.{

@@ -9,10 +9,9 @@ use Rattle.model.specs.declared.Trade.{Trade}
 use Rattle.model.specs.declared.Day.{Day}
 use Rattle.model.specs.declared.OrderAnswer.{OrderAnswer}
 use Rattle.model.specs.Calls.{Outcome, entered, orderCall}
-use Rattle.book.specs.Standing.{Ordered}
+use Rattle.model.specs.Words.{Ordered, Sound}
 use Rattle.soundness.proofs.SoundDays.{sound-ordered}
 use Rattle.book.proofs.Arranging.{arranged-length}
-use Rattle.demands.specs.Pricing.{Sound}
 use Rattle.demands.specs.Keeping.{Keeping}
 use Rattle.demands.specs.Ordering.{Ordering}
 use Rattle.demands.proofs.Cases.{order-cases}

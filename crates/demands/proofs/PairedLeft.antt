@@ -17,7 +17,8 @@ use Rattle.model.specs.Matching.{isIn}
 use Rattle.model.specs.Auction.{volume}
 use Rattle.model.specs.Pairing.{Share, cut, headLess, pair, tradesAt}
 use Rattle.model.specs.ClockCall.{auctionPrice, auctionTrades}
-use Rattle.book.specs.Standing.{Each, Fair, Standing}
+use Rattle.model.specs.Words.{Each}
+use Rattle.book.specs.Standing.{Fair, Standing}
 use Rattle.book.proofs.Lists.{both, each}
 use Rattle.book.proofs.Best.{each-on}
 use Rattle.pairing.proofs.Turns.{head-stays, head-goes, dealt, pair-turn, pair-no-buy, pair-no-sell, cut-some, cut-nothing, cut-nobody}

@@ -13,12 +13,10 @@ use Rattle.model.specs.Matching.{firstPrice, lastPrice}
 use Rattle.model.specs.Figures.{freshDay, openPrice, closePrice}
 use Rattle.model.specs.Calls.{cancelCall}
 use Rattle.model.specs.Session.{Desk}
-use Rattle.book.specs.Standing.{Each}
+use Rattle.model.specs.Words.{Each, Some, Sound}
 use Rattle.book.proofs.Lists.{each, each-at}
 use Rattle.book.proofs.Kept.{free-number}
-use Rattle.matching.proofs.Trades.{Some}
 use Rattle.soundness.proofs.SoundDays.{sound-day}
-use Rattle.demands.specs.Pricing.{Sound}
 use Rattle.demands.specs.Totalling.{Totals}
 use Rattle.demands.specs.Running.{Call, Owner, answers, stepped, after, tradesIn, acceptedIn, Fresh, Is, Running}
 use Rattle.demands.proofs.Fresh.{open-fresh, open-call}

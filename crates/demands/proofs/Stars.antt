@@ -12,7 +12,7 @@ use Rattle.model.specs.Sound.{hasPlaces, isMark, mayStand, soundFigures, isFree
 use Rattle.model.specs.Refusals.{_when_, firstOf, unsound}
 use Rattle.model.specs.Calls.{orderRules, ended, joined, entered, orderCall}
 use Rattle.model.specs.Replies.{orderNumbers, entryNumbers}
-use Rattle.book.specs.Standing.{Each}
+use Rattle.model.specs.Words.{Each}
 use Rattle.auction.specs.Stars.{stars}
 use Rattle.auction.proofs.Stars.{stars-right}
 use Rattle.book.proofs.Lists.{each-append}

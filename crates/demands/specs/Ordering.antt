@@ -9,8 +9,7 @@ use Rattle.model.specs.declared.Trade.{Trade}
 use Rattle.model.specs.declared.Day.{Day}
 use Rattle.model.specs.Calls.{orderCall, cancelCall}
 use Rattle.model.specs.ClockCall.{clockCall}
-use Rattle.book.specs.Standing.{Ordered}
-use Rattle.demands.specs.Pricing.{Sound}
+use Rattle.model.specs.Words.{Ordered, Sound}
 
 pub record Ordering : Type 0 where
   pub sound : (d : Day) (book : List Order) → Sound d book → Ordered book

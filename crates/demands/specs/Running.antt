@@ -18,9 +18,7 @@ use Rattle.model.specs.Calls.{OpenOutcome, openCall, orderCall, cancelCall}
 use Rattle.model.specs.ClockCall.{clockCall}
 use Rattle.model.specs.Replies.{openNumbers, orderNumbers, cancelNumbers, clockNumbers}
 use Rattle.model.specs.Session.{Desk}
-use Rattle.book.specs.Standing.{Each, Apart}
-use Rattle.matching.proofs.Trades.{Some}
-use Rattle.demands.specs.Pricing.{Sound}
+use Rattle.model.specs.Words.{Each, Some, Apart, Sound}
 
 -- an event that starts a day over
 unfoldable pub isOpening : Event.Event → Bool

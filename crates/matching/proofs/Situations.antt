@@ -50,7 +50,7 @@ use Rattle.model.specs.Sound.{
 }
 use Rattle.model.specs.Refusals.{_when_, firstOf, unsound}
 use Rattle.model.specs.Calls.{orderRules, ended, joined, entered, orderCall}
-use Rattle.book.specs.Standing.{Each}
+use Rattle.model.specs.Words.{Each}
 
 -- sells of 100 at 1001 to 1006, and two free places
 abbrev sell : ℕ → ℕ → Order

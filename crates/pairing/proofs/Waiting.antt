@@ -11,7 +11,7 @@ use Rattle.model.specs.Lists.{total}
 use Rattle.model.specs.Pairing.{Share, cut, headLess}
 use Rattle.book.specs.declared.Head.{Head}
 use Rattle.book.specs.Rows.{bookOf}
-use Rattle.book.specs.Standing.{Each}
+use Rattle.model.specs.Words.{Each}
 use Rattle.book.specs.Lines.{line}
 use Rattle.book.specs.Heads.{headOf, asOrder, waiting}
 use Rattle.book.proofs.Lines.{line-end}

@@ -10,7 +10,7 @@ use Rattle.model.specs.declared.Order.{Order}
 use Rattle.model.specs.declared.Trade.{Trade}
 use Rattle.model.specs.declared.Day.{Day}
 use Rattle.book.specs.Rows.{orderOf, rowOf}
-use Rattle.book.specs.Standing.{Each}
+use Rattle.model.specs.Words.{Each}
 use Rattle.records.specs.Layout.{parts, numberIn, numbers, orderIn, dayOf, dayIn, bookIn, pricesIn, digits, flat, bytes, orderBytes, tradeIn, tradeBytes, tradesIn, tradesBytes, bookBytes, dayRow, dayBytes, over}
 use Rattle.records.proofs.Digits.{length-digits, worth-digits, digits-worth}
 use Rattle.records.proofs.Runs.{length-flat, flat-append, flat-drop}
