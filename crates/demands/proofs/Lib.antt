@@ -40,6 +40,7 @@ pub mod OlderCancels
 pub mod OlderClocks
 pub mod OlderOrders
 pub mod Histories
+pub mod Chains
 pub mod Orderings
 pub mod Stars
 pub mod ClockTrades

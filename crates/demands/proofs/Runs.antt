@@ -38,7 +38,7 @@ run-not-15 [] s k = tt
 run-not-15 (e ∷ es) s k = (event-not-15 (e .event) (e .within) (e .lent) s k, run-not-15 es (stepped e s) (event-sound (e .event) (e .within) (e .lent) s k))
 
 module _ (s : Desk) (f : Fresh s) where
-  fresh-sound : Sound (s .day) (s .book)
+  pub fresh-sound : Sound (s .day) (s .book)
   fresh-sound = rw (← f .book) (open-fresh (f .close) (f .mark) (f .places) (s .day) (f .opened))
 
   is-fresh : s .day ≡ freshDay (f .close) (f .mark)

@@ -10,5 +10,7 @@ pub mod Timing
 pub mod Owning
 pub mod Leaving
 pub mod Ordering
+pub mod Histories
+pub mod Chains
 pub mod Older
 pub mod Starred
