@@ -14,6 +14,11 @@ use Rattle.demands.specs.Histories.{AnyCall, Happens, Reports, Lists, Se
 
 -- ---- a door, and what a chain of its calls is
 
+-- what a call hands back, and the list that it was lent as it leaves it
+pub record Gave (A L : Type 0) : Type 0 where
+  pub answer : A
+  pub list : L
+
 pub record Door : Type 1 where
   -- the memory that holds day and book from call to call
   pub Memory : Type 0

@@ -1,0 +1,3 @@
+-- The calls of each door keep step with the definitions.
+pub mod Rows
+pub mod Records

@@ -1,0 +1,3 @@
+-- Chains of calls at each door, begun by an accepted opening.
+pub mod Rows
+pub mod Records
