@@ -1,3 +1,5 @@
 -- The calls of each door keep step with the definitions.
 pub mod Rows
+pub mod Fitting
 pub mod Records
+pub mod Bytes

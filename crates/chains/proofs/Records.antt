@@ -14,12 +14,12 @@ use Rattle.book.specs.Rows.{tradesOf}
 use Rattle.model.proofs.Bools.{not-both}
 use Rattle.day.specs.Promises.{Rows}
 use Rattle.demands.specs.Running.{isOpening, Fresh}
-use Rattle.demands.specs.Histories.{Opened, present, eventSeen, seen, eventDesk, stepped}
+use Rattle.demands.specs.Histories.{tradesThen, present, eventSeen, seen, eventDesk, stepped}
 use Rattle.demands.specs.Chains.{Gave, Door, Link, Chained, KeepsStep, FromOpening}
 use Rattle.demands.proofs.Chains.{from-opening}
 use Rattle.lent.specs.declared.Answer as Answer
 use Rattle.lent.specs.Calls.{callOf, EventPromise, View, questionCall}
-use Rattle.chains.specs.Records.{Asks, Takes, Report, Prices, Gives, dayThen, Promise, call, seenIn, toldIn, tradesThen, Shows, door, RecordChains}
+use Rattle.chains.specs.Records.{Asks, Takes, Report, Prices, Gives, dayThen, Promise, call, seenIn, toldIn, Shows, door, RecordChains}
 
 -- what an event leaves by the definitions is what is seen of it, and the desk then
 event-seen :

@@ -1,3 +1,4 @@
 -- Chains of calls at each door, begun by an accepted opening.
 pub mod Rows
 pub mod Records
+pub mod Bytes

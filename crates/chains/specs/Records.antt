@@ -14,7 +14,7 @@ use Rattle.book.specs.Rows.{tradesOf}
 use Rattle.day.specs.Promises.{Rows}
 use Rattle.demands.specs.Running.{isOpening}
 use Rattle.demands.specs.Histories as histories
-use Rattle.demands.specs.Histories.{AnyCall, Happens, Seen, Opened, Moved, Entered, Cancelled, Reported, Listed}
+use Rattle.demands.specs.Histories.{AnyCall, Happens, Seen, Opened, Moved, Entered, Cancelled, Reported, Listed, tradesThen}
 use Rattle.demands.specs.Chains.{Gave, Door, Link, Chained, FromOpening}
 use Rattle.lent.specs.declared.Answer as Answer
 use Rattle.lent.specs.declared.Question as Question
@@ -63,15 +63,6 @@ seenIn (Answer.the-variants.Cancel r) trades = Cancelled r
 unfoldable pub toldIn : Told.Told → List ℕ → Seen
 toldIn (Told.the-variants.Report r) prices = Reported r
 toldIn (Told.the-variants.List r) prices = Listed r prices
-
--- an event that does not trade leaves the trade list
-unfoldable pub tradesThen : Seen → List Trade → List Trade
-tradesThen (Opened r) lent = lent
-tradesThen (Moved r made trades) lent = trades
-tradesThen (Entered r made trades) lent = trades
-tradesThen (Cancelled r) lent = lent
-tradesThen (Reported r) lent = lent
-tradesThen (Listed r prices) lent = lent
 
 -- a report leaves the list of prices
 abbrev pub Shows : (a : Asks) → Seen → Gives a → Type 0

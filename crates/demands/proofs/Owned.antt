@@ -143,7 +143,7 @@ module _ (ws : List Owner) (d : Day) (a : Asked) (book : List Order) (w : Owned 
 
 -- ---- events and runs
 
-event-owned :
+pub event-owned :
     (ws : List Owner) (e : Event.Event) → isOpening e ≡ false → (lent : List Trade) (s : Desk)
     → Owned ws (s .book)
     → Owned (ws ++ acceptedBy e lent s) (steppedBy e lent s .book)

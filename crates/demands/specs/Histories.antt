@@ -48,6 +48,23 @@ pub data Seen : Type 0 where
   Reported : ReportReply.ReportReply → Seen
   Listed : ListReply.ListReply → List ℕ → Seen
 
+-- the trade list then, and the price list: a call that does not write to it leaves it
+unfoldable pub tradesThen : Seen → List Trade → List Trade
+tradesThen (Opened r) lent = lent
+tradesThen (Moved r made trades) lent = trades
+tradesThen (Entered r made trades) lent = trades
+tradesThen (Cancelled r) lent = lent
+tradesThen (Reported r) lent = lent
+tradesThen (Listed r prices) lent = lent
+
+unfoldable pub pricesThen : Seen → List ℕ → List ℕ
+pricesThen (Opened r) lent = lent
+pricesThen (Moved r made trades) lent = lent
+pricesThen (Entered r made trades) lent = lent
+pricesThen (Cancelled r) lent = lent
+pricesThen (Reported r) lent = lent
+pricesThen (Listed r prices) lent = prices
+
 module _ (e : Engine) where
   unfoldable pub eventSeen : Event.Event → List Trade → Desk → Seen
   eventSeen (Event.the-variants.Open close mark) lent s = Opened (openCall close mark (s .book) .reply)

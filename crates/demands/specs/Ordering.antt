@@ -20,7 +20,6 @@ pub record Ordering : Type 0 where
   pub clock :
       (d : Day) (t : ℕ) (book : List Order) (lent : List Trade) → Sound d book → Ordered (clockCall d t book lent .book)
   -- every place that was there is there: nothing is cut off
-  pub as-many :
-      (d : Day) (a : Asked) (book : List Order) (lent : List Trade)
-      → Sound d book
-      → length (orderCall d a book lent .book) ≡ length book
+  pub order-places : (d : Day) (a : Asked) (book : List Order) (lent : List Trade) → length (orderCall d a book lent .book) ≡ length book
+  pub cancel-places : (d : Day) (account number : ℕ) (book : List Order) → length (cancelCall d account number book .book) ≡ length book
+  pub clock-places : (d : Day) (t : ℕ) (book : List Order) (lent : List Trade) → length (clockCall d t book lent .book) ≡ length book
