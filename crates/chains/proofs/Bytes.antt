@@ -1,13 +1,11 @@
 -- The calls from C keep step with the definitions: what an event stores is read back by the next call. Assumes nothing.
 use Prim.Native.Nat.{ℕ, _-_}
 use mathlib.Core.Path.{_≡_, refl, sym, ap, _∙_}
-use mathlib.Core.Bool.{Bool, true, false, cond}
+use mathlib.Core.Bool.{true}
 use mathlib.Core.List.{List}
 use native.Mathlib.Omega.{arith}
-use lib.ListN.{length, drop, length-append, length-drop}
-use lib.Dec.{eqb}
-use borrow.Author.Tests.{eqb-true, eqb-false, eq-eqb}
-use Rattle.model.specs.declared.Order.{Order}
+use lib.ListN.{length, length-append, length-drop}
+use borrow.Author.Tests.{eqb-true}
 use Rattle.model.specs.declared.Asked.{Asked}
 use Rattle.model.specs.declared.Day.{Day}
 use Rattle.model.specs.declared.OrderAnswer.{OrderAnswer}
@@ -15,7 +13,7 @@ use Rattle.model.specs.declared.ClockAnswer.{ClockAnswer}
 use Rattle.model.specs.Calls.{Outcome, CancelOutcome, orderCall, cancelCall}
 use Rattle.model.specs.ClockCall.{clockCall}
 use Rattle.model.specs.AuctionCalls.{reportCall, ListOutcome, listCall}
-use Rattle.model.specs.Replies.{orderNumbers, cancelNumbers, clockNumbers, listNumbers}
+use Rattle.model.specs.Replies.{orderNumbers, clockNumbers}
 use Rattle.model.specs.Session.{Desk}
 use Rattle.model.specs.Words.{Each, Sound}
 use Rattle.demands.specs.Running.{movesTo, enters, cancels, steppedBy}
@@ -25,9 +23,8 @@ use Rattle.demands.proofs.Demands.{keeping}
 use Rattle.demands.proofs.Orderings.{order-places, cancel-places, clock-places}
 use Rattle.records.specs.Layout.{Word, bytes, dayIn, dayBytes, bookIn, bookBytes, tradesIn, tradesBytes, pricesIn, over, returned, replied}
 use Rattle.records.proofs.Sizes.{length-day}
-use Rattle.replies.specs.Words.{reportWords}
-use Rattle.wire.specs.Exports.{hasDay, TradeLeft, tradeLeft, tradeLeaves, orderLeaves, clockLeaves, cancelOn, CancelLeft, cancelLeft, cancelLeaves, reportOn, ReportLeft, reportLeft, reportLeaves, listOn, ListLeft, listLeft, listLeaves}
-use Rattle.chains.specs.Bytes.{Slice, Memory, Asks, Clock, Order as OrderOf, Cancel, Report, Prices, Reply, Gives, Promise, call, numbersIn, Answers, Shows, deskIn, door}
+use Rattle.wire.specs.Exports.{hasDay, TradeLeft, tradeLeft, tradeLeaves, orderLeaves, clockLeaves, cancelOn, CancelLeft, cancelLeaves, reportOn, ReportLeft, reportLeaves, listOn, ListLeft, listLeaves}
+use Rattle.chains.specs.Bytes.{Memory, Asks, Clock, Order as OrderOf, Cancel, Report, Prices, Gives, Promise, call, numbersIn, Shows, deskIn, door}
 use Rattle.chains.proofs.Fitting.{WordAccount, accounts-in, event-accounts, both, desk-read}
 
 -- memory that has room for a day
@@ -78,7 +75,7 @@ module _ (day book : List ℕ) (h : hasDay day ≡ true) where
 
 -- ---- what is shown
 
-shows :
+pub shows :
     (a : Asks) (m : Memory) (g : Gives a) (n : Memory) → HasDay m → Promise a m g n → Shows a (seen present (call a) (deskIn m)) g
 unfolding seen eventSeen present movesTo enters cancels numbersIn tradesThen pricesThen cancelLeaves reportLeaves listLeaves
 shows (Clock t trades reply) m g n h p =
@@ -149,7 +146,7 @@ module _ (m : Memory) (s : Sound (deskIn m .day) (deskIn m .book)) where
       (desk-read _ _ k (m .day .bytes) (m .book .bytes) (event-accounts (c .event) (c .within) (c .lent) here tt accounts k)
       (cancel-places (here .day) account number (here .book)))
 
-leaves :
+pub leaves :
     (a : Asks) (m : Memory) (g : Gives a) (n : Memory)
     → HasDay m
     → Sound (deskIn m .day) (deskIn m .book)
@@ -176,7 +173,7 @@ leaves (Prices asked prices reply) m g n h s (p, d, b) =
 
 -- ---- there is room for a day again
 
-day-room : (d : Day) (day : List ℕ) → hasDay day ≡ true → hasDay (over (dayBytes d) day) ≡ true
+pub day-room : (d : Day) (day : List ℕ) → hasDay day ≡ true → hasDay (over (dayBytes d) day) ≡ true
 unfolding over
 day-room d day h =
     let l : length (dayBytes d) ≡ length day = length-day d ∙ sym (eqb-true (length day) _ h) in

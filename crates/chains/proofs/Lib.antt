@@ -3,3 +3,6 @@ pub mod Rows
 pub mod Fitting
 pub mod Records
 pub mod Bytes
+pub mod Opened
+pub mod Untouched
+pub mod ForC

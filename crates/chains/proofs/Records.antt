@@ -3,7 +3,6 @@ use Prim.Native.Nat.{ℕ}
 use mathlib.Core.Path.{_≡_, refl, sym, ap, _∙_}
 use mathlib.Core.Bool.{false}
 use mathlib.Core.List.{List}
-use native.Mathlib.Omega.{arith}
 use Rattle.model.specs.declared.Order.{Order}
 use Rattle.model.specs.declared.Day.{Day}
 use Rattle.model.specs.declared.Event as Event
@@ -15,7 +14,7 @@ use Rattle.model.proofs.Bools.{not-both}
 use Rattle.day.specs.Promises.{Rows}
 use Rattle.demands.specs.Running.{isOpening, Fresh}
 use Rattle.demands.specs.Histories.{tradesThen, present, eventSeen, seen, eventDesk, stepped}
-use Rattle.demands.specs.Chains.{Gave, Door, Link, Chained, KeepsStep, FromOpening}
+use Rattle.demands.specs.Chains.{KeepsStep}
 use Rattle.demands.proofs.Chains.{from-opening}
 use Rattle.lent.specs.declared.Answer as Answer
 use Rattle.lent.specs.Calls.{callOf, EventPromise, View, questionCall}

@@ -1,19 +1,16 @@
 -- The calls on rows keep step with the definitions. Assumes nothing.
 use Prim.Native.Nat.{ℕ}
-use mathlib.Core.Path.{_≡_, refl, sym, ap, _∙_}
-use mathlib.Core.List.{List}
+use mathlib.Core.Path.{_≡_, sym, ap, _∙_}
 use Rattle.model.specs.declared.Day.{Day}
 use Rattle.model.specs.declared.OpenReply as OpenReply
 use Rattle.model.specs.declared.ClockAnswer.{ClockAnswer}
 use Rattle.model.specs.declared.OrderAnswer.{OrderAnswer}
 use Rattle.model.specs.Calls.{Outcome, OpenOutcome, CancelOutcome}
 use Rattle.model.specs.AuctionCalls.{ListOutcome}
-use Rattle.model.specs.Session.{Desk}
-use Rattle.model.specs.Words.{Sound}
 use Rattle.book.specs.Rows.{bookOf}
 use Rattle.demands.specs.Running.{movesTo, enters, cancels, Fresh}
 use Rattle.demands.specs.Histories.{Moved, Entered, Cancelled, Reported, Listed, present, eventSeen, seen, eventDesk, stepped}
-use Rattle.demands.specs.Chains.{Door, Link, Chained, KeepsStep, FromOpening}
+use Rattle.demands.specs.Chains.{KeepsStep}
 use Rattle.demands.proofs.Chains.{from-opening}
 use Rattle.day.specs.Promises.{Rows, OpenPromise}
 use Rattle.chains.specs.Rows.{Memory, Asks, Clock, Order, Cancel, Report, Prices, Gives, Promise, call, Shows, door, RowChains}

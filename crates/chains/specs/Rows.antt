@@ -10,7 +10,6 @@ use Rattle.model.specs.declared.OrderAnswer.{OrderAnswer}
 use Rattle.model.specs.declared.CancelReply.{CancelReply}
 use Rattle.model.specs.declared.ReportReply.{ReportReply}
 use Rattle.model.specs.declared.ListReply.{ListReply}
-use Rattle.model.specs.Session.{Desk}
 use Rattle.book.specs.Rows.{bookOf, tradesOf}
 use Rattle.demands.specs.Running.{movesTo, enters, cancels}
 use Rattle.demands.specs.Histories as histories

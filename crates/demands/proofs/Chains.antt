@@ -19,17 +19,17 @@ use Rattle.model.specs.AuctionCalls.{reportRules, reportAt, reportCall, listRul
 use Rattle.model.specs.Replies.{listNumbers}
 use Rattle.model.specs.Session.{Desk}
 use Rattle.model.specs.Words.{Each, Sound}
-use Rattle.demands.specs.Running.{Call, steppedBy, answeredBy, Fresh}
+use Rattle.demands.specs.Running.{steppedBy, answeredBy, Fresh}
 use Rattle.demands.specs.Running as run
 use Rattle.demands.specs.Histories.{AnyCall, Happens, Reports, Lists, Seen, Reported, present, eventSeen, seen, eventDesk, stepped, allSeen, after}
-use Rattle.demands.specs.Chains.{Door, Link, Chained, lastLeft, callsOf, Shown, Runs, KeepsStep, refusalOf, eventsOf, Told, FromOpening}
+use Rattle.demands.specs.Chains.{Door, Link, Chained, lastLeft, callsOf, Shown, KeepsStep, refusalOf, eventsOf, Told, FromOpening}
 use Rattle.demands.proofs.Answers.{event-sound, event-not-15}
 use Rattle.demands.proofs.Pricings.{not-unsound}
 use Rattle.demands.proofs.Runs.{fresh-sound, running}
 
 -- ---- the two ways in which a step of the definitions is written
 
-same-desk : (e : Event.Event) (lent : List Trade) (s : Desk) → eventDesk present e lent s ≡ steppedBy e lent s
+pub same-desk : (e : Event.Event) (lent : List Trade) (s : Desk) → eventDesk present e lent s ≡ steppedBy e lent s
 unfolding eventDesk present steppedBy
 same-desk (Event.the-variants.Open close mark) lent s = refl
 same-desk (Event.the-variants.Clock t) lent s = refl
@@ -126,6 +126,19 @@ module _ (D : Door) (Holds : D .Memory → Type 0) (k : KeepsStep D Holds) where
       let t = step-sound (D .call (l .asks)) (D .desk m) s in
       chain-ends ls (l .left) (k .holds (l .asks) m (l .gives) (l .left) h s p) (rw e t) c
       ∙ ap (after present (callsOf D ls)) e
+
+  pub chain-holds :
+      (ls : List (Link D)) (m : D .Memory)
+      → Holds m
+      → Sound (D .desk m .day) (D .desk m .book)
+      → Chained D m ls
+      → Holds (lastLeft D m ls)
+  unfolding lastLeft
+  chain-holds [] m h s c = h
+  chain-holds (l ∷ ls) m h s (p, c) =
+      let e = k .leaves (l .asks) m (l .gives) (l .left) h s p in
+      let t = step-sound (D .call (l .asks)) (D .desk m) s in
+      chain-holds ls (l .left) (k .holds (l .asks) m (l .gives) (l .left) h s p) (rw e t) c
 
   pub from-opening : (m : D .Memory) → Holds m → Fresh (D .desk m) → (ls : List (Link D)) → Chained D m ls → FromOpening D m ls
   from-opening m h f ls c =

@@ -2,7 +2,7 @@
 -- memory. What such a chain gives, begun by an accepted opening, is what the definitions' calls give one after the other.
 use Prim.Native.Nat.{ℕ}
 use mathlib.Core.Path.{_≡_}
-use mathlib.Core.List.{List, [], _∷_, map}
+use mathlib.Core.List.{List, [], _∷_}
 use lib.ListN.{getD}
 use Rattle.model.specs.declared.ReportReply as ReportReply
 use Rattle.model.specs.Replies.{openNumbers, orderNumbers, cancelNumbers, clockNumbers, listNumbers}

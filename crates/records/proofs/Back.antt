@@ -1,10 +1,10 @@
 -- What is stored is read back, and bytes that are read and stored again are the same bytes. Assumes nothing.
-use Prim.Native.Nat.{ℕ, zero, suc, _+_, _*_, _/_, _^_, _≤_, _<_}
+use Prim.Native.Nat.{ℕ, zero, suc, _+_, _*_, _/_, _≤_}
 use mathlib.Core.Path.{_≡_, refl, sym, ap, _∙_}
 use mathlib.Core.List.{List, [], _∷_, _++_, append-assoc}
 use native.Mathlib.Omega.{arith}
 use native.Mathlib.Nat.{mul-suc, mul-zero, add-comm, mul-le-mul-left}
-use lib.ListN.{length, getD, take, drop, length-append, length-drop, take-append-drop}
+use lib.ListN.{length, take, drop, length-append, length-drop, take-append-drop}
 use lib.Seq.{getD-drop, take-at, drop-at, drop-append-le, take-add, length-take-le}
 use Rattle.model.specs.declared.Order.{Order}
 use Rattle.model.specs.declared.Trade.{Trade}
@@ -154,7 +154,7 @@ module _ {A : Type 0} (f : List ℕ → A) (g : A → List ℕ) (size : ℕ) (lo
   parts-flat (x ∷ xs) rest h =
       rw (append-assoc, h .0 (flat g xs ++ rest), drop-at (g x) (flat g xs ++ rest) size (long x), parts-flat xs rest (h .1))
 
-number-back : (x : ℕ) → Word x → (rest : List ℕ) → numberIn (digits 8 x ++ rest) ≡ x
+pub number-back : (x : ℕ) → Word x → (rest : List ℕ) → numberIn (digits 8 x ++ rest) ≡ x
 number-back x h rest = rw (take-at (digits 8 x) rest 8 (length-digits 8 x)) (worth-digits 8 x h)
 
 numbers-back : (ns rest : List ℕ) → Each Word ns → numbers (length ns) (bytes ns ++ rest) ≡ ns
