@@ -41,6 +41,7 @@ pub mod OlderClocks
 pub mod OlderOrders
 pub mod Histories
 pub mod Orderings
+pub mod TurnTests
 pub mod Stars
 pub mod ClockTrades
 pub mod Demands
