@@ -42,6 +42,7 @@ pub mod OlderOrders
 pub mod Histories
 pub mod Orderings
 pub mod TurnTests
+pub mod LineRefusals
 pub mod Stars
 pub mod ClockTrades
 pub mod Demands
