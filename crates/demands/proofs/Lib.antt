@@ -42,6 +42,8 @@ pub mod OlderOrders
 pub mod Histories
 pub mod Chains
 pub mod Orderings
+pub mod TurnTests
+pub mod LineRefusals
 pub mod Stars
 pub mod ClockTrades
 pub mod Demands
