@@ -18,7 +18,7 @@ use Rattle.octets.proofs.Parts.{length-parts}
 use Rattle.model.specs.declared.Event.{Event}
 use Rattle.file_records.specs.Records.{byte, recordBytes, eventIn, isRecord, allZero}
 use Rattle.file_blocks.specs.Blocks.{checkOf, placesBytes, bodyBytes, blockBytes, numberIn, recordsIn, checkIn, eventsIn, rightCheck, ownLayout, blockRules}
-use Rattle.file_records.proofs.Recorded.{four-again, all-zeros, record-again}
+use Rattle.file_records.proofs.Recorded.{six, four-again, all-zeros, record-again}
 use Rattle.file_records.proofs.Looking.{drop-take}
 
 -- records one after the other, each with the bytes of the event that it tells
@@ -40,17 +40,6 @@ records-again (suc n) b h bytes e =
       one,
       records-again n (drop 20 b) (rw length-drop (omega arith)) (bytes-drop 20 b bytes) (and-right (isRecord (take 20 b)) _ e),
     )
-
-six :
-    (a b c d e f : Bool)
-    → a && b && c && d && e && f ≡ true
-    → (a ≡ true) × (b ≡ true) × (c ≡ true) × (d ≡ true) × (e ≡ true) × (f ≡ true)
-six a b c d e f h =
-    let h₅ = and-left (a && b && c && d && e) f h in
-    let h₄ = and-left (a && b && c && d) e h₅ in
-    let h₃ = and-left (a && b && c) d h₄ in
-    let h₂ = and-left (a && b) c h₃ in
-    (and-left a b h₂, and-right a b h₂, and-right (a && b) c h₃, and-right (a && b && c) d h₄, and-right (a && b && c && d) e h₅, and-right (a && b && c && d && e) f h)
 
 module _ (b : List ℕ) (long : length b ≡ 512) (bytes : AllBytes b) where
   -- the first eight bytes

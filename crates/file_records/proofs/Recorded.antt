@@ -36,23 +36,25 @@ record-sound (Cancel account number) = refl
 back : (n : ℕ) → is32 n ≡ true → worth (digits 4 n) ≡ n
 back n h = worth-digits 4 n (omega (arith, ltb-true n 4_294_967_296 h))
 
-last-four :
+-- six tests that all hold
+pub six :
     (a b c d e f : Bool)
     → a && b && c && d && e && f ≡ true
-    → (c ≡ true) × (d ≡ true) × (e ≡ true) × (f ≡ true)
-last-four a b c d e f h =
+    → (a ≡ true) × (b ≡ true) × (c ≡ true) × (d ≡ true) × (e ≡ true) × (f ≡ true)
+six a b c d e f h =
     let h₅ = and-left (a && b && c && d && e) f h in
     let h₄ = and-left (a && b && c && d) e h₅ in
     let h₃ = and-left (a && b && c) d h₄ in
-    (and-right (a && b) c h₃, and-right (a && b && c) d h₄, and-right (a && b && c && d) e h₅, and-right (a && b && c && d && e) f h)
+    let h₂ = and-left (a && b) c h₃ in
+    (and-left a b h₂, and-right a b h₂, and-right (a && b) c h₃, and-right (a && b && c) d h₄, and-right (a && b && c && d) e h₅, and-right (a && b && c && d && e) f h)
 
 pub event-back : (e : Event) → isEvent e ≡ true → eventIn (recordBytes e) ≡ e
 unfolding recordBytes eventIn digits isEvent
 event-back (Open close mark) h = ap₂ Open (back close (and-left _ _ h)) (back mark (and-right (is32 close) _ h))
 event-back (Clock time) h = ap Clock (back time h)
 event-back (Order o) h =
-    let k = last-four (is32 (o .side)) (is32 (o .kind)) (is32 (o .account)) (is32 (o .quantity)) (is32 (o .price)) (is32 (o .balance)) h in
-    rw (back (o .account) (k .0), back (o .quantity) (k .1), back (o .price) (k .2), back (o .balance) (k .3))
+    let k = six (is32 (o .side)) (is32 (o .kind)) (is32 (o .account)) (is32 (o .quantity)) (is32 (o .price)) (is32 (o .balance)) h in
+    rw (back (o .account) (k .2), back (o .quantity) (k .3), back (o .price) (k .4), back (o .balance) (k .5))
 event-back (Cancel account number) h =
     ap₂ Cancel (back account (and-left _ _ h)) (back number (and-right (is32 account) _ h))
 
