@@ -26,7 +26,8 @@ use Rattle.model.specs.Calls.{cleared}
 use Rattle.model.specs.ClockCall.{auctionPrice, auctionTrades, Held, auction, resume, lapse, pass, start}
 use Rattle.book.specs.Rows.{orderOf, bookOf, rowsOf, tradeOf, tradeRow, tradesOf, tradeRows}
 use Rattle.model.proofs.Bools.{not-false-true}
-use Rattle.book.specs.Standing.{Each, Standing, Ranked}
+use Rattle.model.specs.Words.{Each}
+use Rattle.book.specs.Standing.{Standing, Ranked}
 use Rattle.book.specs.Writing.{fitted}
 use Rattle.book.proofs.Lists.{each}
 use Rattle.book.proofs.Memory.{book-rows}
