@@ -103,7 +103,7 @@ static int is_idle(void) {
 
 static uint64_t random_time(void) {
     static const uint64_t rows[] = {33300, 33600, 33900, 34200, 41400, 46800, 53820, 54000};
-    uint64_t now = lent.day_length == 64 ? number_at(lent.day, 2) : 0;
+    uint64_t now = lent.day_length == DAY_BYTES ? number_at(lent.day, 2) : 0;
     if (once_in(12)) return edge();
     if (once_in(3) && !is_idle()) return now + chance(100);
     for (size_t i = 0; i < sizeof rows / sizeof rows[0]; i++)
@@ -120,7 +120,7 @@ static void damage(void) {
     struct lent *m = &lent;
     size_t n = m->book_length / 40;
     if (once_in(6)) {
-        size_t day = once_in(2) ? 64 : chance(130), book = once_in(3) ? LONGEST - chance(100) : chance(m->book_length + 81);
+        size_t day = once_in(2) ? DAY_BYTES : chance(130), book = once_in(3) ? LONGEST - chance(100) : chance(m->book_length + 81);
         lend(day, book, m->list_length, m->reply_length);
     } else if (once_in(6)) {
         put_number(m->day, 3, 999999);
@@ -247,7 +247,7 @@ void run_seed(uint64_t seed) {
     struct plan plan = plan_day(seed);
     uint64_t opening[] = {plan.close, !once_in(4)}, before = failed, count = plan.places > 100 ? 60 : 250;
     fill_memory(any_number);
-    lend(64, 40 * plan.places + (once_in(2) ? chance(40) : 0), TRADE_BYTES, 48);
+    lend(DAY_BYTES, 40 * plan.places + (once_in(2) ? chance(40) : 0), TRADE_BYTES, 48);
     compare(seed, OPEN, opening);
     if (once_in(3)) fill_book(&plan);
     for (uint64_t i = 0; i < count; i++) {

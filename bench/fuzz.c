@@ -97,7 +97,7 @@ static void set_room(void) {
 
 static void set_lengths(void) {
     size_t day = byte(), book = 3 * whole_number(2);
-    lend(day % 2 ? 64 : day, book, lent.list_length, lent.reply_length);
+    lend(day % 2 ? DAY_BYTES : day, book, lent.list_length, lent.reply_length);
 }
 
 static void set_number(void) {
@@ -154,7 +154,7 @@ int LLVMFuzzerTestOneInput(const uint8_t *data, size_t length) {
     uint64_t chosen = byte();
     close_price = closes[chosen / 8 % 4];
     clear_memory(0x5a);
-    lend(64, 40 * sizes[chosen % 8] + chosen / 64, 64 * TRADE_BYTES, 48);
+    lend(DAY_BYTES, 40 * sizes[chosen % 8] + chosen / 64, 64 * TRADE_BYTES, 48);
     const uint64_t opening[ASKED] = {close_price, chosen / 32 % 2};
     check(OPEN, opening);
     for (int i = 0; i < STEPS && input_left; i++) take_step(byte());

@@ -41,7 +41,7 @@ static void expect_left(const char *what, size_t i, uint64_t buyer_left, uint64_
 
 static void open_at(uint64_t close, uint64_t time) {
     clear_memory(0);
-    lend(64, 40 * 16, TRADE_BYTES * 64, 48);
+    lend(DAY_BYTES, 40 * 16, TRADE_BYTES * 64, 48);
     make(OPEN, close, 1, 0, 0, 0);
     move_to(time);
 }

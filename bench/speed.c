@@ -14,7 +14,7 @@ enum { ROUNDS = 50, BOOKS = 24, SUMS = 16, MOST = 4096, PRICES = 50 };
 
 /* The lent memory: as it is, as it was before the event, and as the independent engine leaves it. */
 struct memory {
-    uint8_t day[64], book[40 * MOST], list[TRADE_BYTES * MOST], reply[48];
+    uint8_t day[DAY_BYTES], book[40 * MOST], list[TRADE_BYTES * MOST], reply[48];
 };
 static struct memory now, before, after;
 static size_t places, live, buys;

@@ -40,7 +40,7 @@ class RandomDays:
         return lines + ["T 54000"] * (pick.random() < 0.8)
 
     def line(self):
-        _, _, takes_orders, takes_cancels = self.desk.day.row(self.desk.day.time)
+        _, takes_orders, takes_cancels = self.desk.day.now()
         if self.source.random() < (self.steps if takes_orders else 0.7):
             return self.move()
         draw = self.source.random()
@@ -68,7 +68,7 @@ class RandomDays:
 
     def order(self):
         pick = self.source
-        market = self.desk.day.limited and self.desk.day.row(self.desk.day.time)[1] == 4
+        market = self.desk.day.limited and self.desk.day.phase() == 4
         kind = pick.choice([0, 0, 0, 0, 1, 2, 3, 4]) if market else 0
         price = self.close + pick.randint(-self.spread, self.spread)
         if kind != 0 and pick.random() < 0.5:
