@@ -21,9 +21,14 @@ static int usage(void) {
 static int run(uint64_t first, uint64_t last, uint64_t tries) {
     engine_tries_left = tries;
     run_situations();
+    run_halts();
     run_session();
-    for (uint64_t seed = first; seed <= last; seed++) run_seed(seed);
+    for (uint64_t seed = first; seed <= last; seed++) {
+        run_seed(seed);
+        run_halting_seed(seed);
+    }
     print_told();
+    print_halts(tries != 0);
     printf("every price tried on %llu small books\n", (unsigned long long)(tries - engine_tries_left));
     expect("books on which trying every price differed", engine_tries_differed, 0);
     expect("auctions in which buys reached sells and not exactly one price was left", engine_undecided, 0);

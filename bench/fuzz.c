@@ -27,7 +27,8 @@ static uint64_t whole_number(int bytes) {
 /* A number on an edge, or one of 1, 3 or 8 bytes. */
 static uint64_t number(void) {
     static const uint64_t edges[] = {0,     1,     2,     4,     99,    100,   33300,  33600,   33900,   34200,      41400,
-                                     46800, 53819, 53820, 54000, 86399, 86400, 999999, 1000000, 1000001, UINT32_MAX, UINT64_MAX};
+                                     46800, 53819, 53820, 54000, 86399, 86400, 999999, 1000000, 1000001, UINT32_MAX, UINT64_MAX,
+                                     34800, 40800, 41399, 47400, 53220};
     size_t count = sizeof edges / sizeof edges[0];
     uint64_t chosen = byte();
     if (chosen < count) return edges[chosen];
@@ -79,8 +80,9 @@ static void cancel_place(void) {
 }
 
 static void move_clock(void) {
-    static const uint64_t times[] = {33300, 33600, 33900, 34200, 41400, 46800, 53820, 54000};
-    const uint64_t asked[ASKED] = {times[byte() % 8]};
+    static const uint64_t times[] = {33300, 33600, 33900, 34200, 41400, 46800, 53820, 54000,
+                                     34799, 34800, 40799, 40800, 41399, 47400, 53219, 53220};
+    const uint64_t asked[ASKED] = {times[byte() % 16]};
     check(CLOCK, asked);
 }
 
@@ -103,7 +105,7 @@ static void set_lengths(void) {
 static void set_number(void) {
     uint64_t chosen = byte(), places = lent.book_length / 40;
     if (chosen < 128 || !places)
-        put_number(lent.day, chosen % 8, number());
+        put_number(lent.day, chosen % (DAY_BYTES / 8), number());
     else
         put_number(lent.book, chosen % (5 * places), number());
 }

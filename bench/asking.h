@@ -1,0 +1,31 @@
+/* Calls and answers in few words, for what the bench writes out by hand. Each call is compared; it returns the refusal number. */
+#ifndef ASKING_H
+#define ASKING_H
+
+#include "../include/flemorix.h"
+#include "compare.h"
+
+uint64_t make(int which, uint64_t a, uint64_t b, uint64_t c, uint64_t d, uint64_t e);
+
+uint64_t move_to(uint64_t time);
+
+uint64_t take_out(uint64_t account, uint64_t number);
+
+/* Limit orders: account 7 buys, account 8 sells. */
+uint64_t buy(uint64_t quantity, uint64_t price);
+uint64_t sell(uint64_t quantity, uint64_t price);
+
+/* A buy of one of the four market kinds. */
+uint64_t buy_of_kind(uint64_t kind, uint64_t account, uint64_t quantity, uint64_t limit);
+
+/* The values of a reply, from 1 on. */
+uint64_t value(size_t i);
+
+/* A trade of the list, and the day, as the header names their numbers. */
+struct flemorix_trade trade_at(size_t i);
+struct flemorix_day day_now(void);
+
+/* A day on sixteen places with this mark, and its clock moved. */
+void open_marked(uint64_t close, uint64_t mark, uint64_t time);
+
+#endif
