@@ -200,8 +200,10 @@ class Day:
         before = self.kept()
         trades = []
         for second in range(self.time + 1, time + 1):
-            self.time = second
-            trades += self.begin_second()
+            if second in (OPENING_AUCTION, self.halted_until, CLOSING_AUCTION):
+                self.time = second
+                trades += self.begin_second()
+        self.time = time
         if len(trades) > TRADES:
             self.__dict__.update(before)
             raise Refused(13)
@@ -213,17 +215,13 @@ class Day:
         return dict(self.__dict__, live=live, used=set(self.used))
 
     def begin_second(self):
-        """What happens in the first moment of a second, and its trades."""
-        trades = []
-        if self.time == OPENING_AUCTION:
-            trades = self.hold_auction()
-        elif self.time == self.halted_until:
+        """Holds the auction with which this second begins; its trades."""
+        trades = self.hold_auction()
+        if self.time == self.halted_until:
             self.halted_until = None
-            trades = self.hold_auction()
             if self.time != CLOSING_CALL:
                 self.watch(trades)
-        elif self.time == CLOSING_AUCTION:
-            trades = self.hold_auction()
+        if self.time == CLOSING_AUCTION:
             self.live = []
         return trades
 
