@@ -3,6 +3,7 @@
 #include <string.h>
 
 _Static_assert(sizeof(struct flemorix_day) == DAY_BYTES, "the header's day is not as long as one in bytes");
+_Static_assert(8 * DAY_NUMBERS == DAY_BYTES, "a day has another count of numbers");
 _Static_assert(FLEMORIX_DAY_BYTES == DAY_BYTES, "the header's length of a day is not that of one in bytes");
 _Static_assert(sizeof(struct flemorix_trade) == TRADE_BYTES, "the header's trade is not as long as one in bytes");
 
@@ -35,6 +36,20 @@ struct flemorix_day day_now(void) {
     struct flemorix_day day;
     memcpy(&day, lent.day, sizeof day);
     return day;
+}
+
+void set_day(size_t number, uint64_t to) { put_number(lent.day, number, to); }
+
+/* The book is in order, so the first order of a side is its best. */
+uint64_t best_now(uint64_t side) {
+    for (size_t p = 0; p < lent.book_length / 40; p++)
+        if (number_at(lent.book, 5 * p + 4) && number_at(lent.book, 5 * p) == side) return number_at(lent.book, 5 * p + 3);
+    return 0;
+}
+
+int crosses_now(void) {
+    uint64_t buy = best_now(0), sell = best_now(1);
+    return buy && sell && buy >= sell;
 }
 
 void open_marked(uint64_t close, uint64_t mark, uint64_t time) {

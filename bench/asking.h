@@ -25,6 +25,15 @@ uint64_t value(size_t i);
 struct flemorix_trade trade_at(size_t i);
 struct flemorix_day day_now(void);
 
+/* Where the numbers of a day stand, for days that are made or damaged by hand. */
+enum { CLOSE, LIMITED, TIME, ISSUED, SHARES, TURNOVER, FIRST, LAST, HALT_END, USED_30, USED_60, DAY_NUMBERS };
+
+void set_day(size_t number, uint64_t to);
+
+/* The best price of a side of the lent book, 0 where it has no order; and whether its buys reach its sells. */
+uint64_t best_now(uint64_t side);
+int crosses_now(void);
+
 /* A day on sixteen places with this mark, and its clock moved. */
 void open_marked(uint64_t close, uint64_t mark, uint64_t time);
 

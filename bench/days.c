@@ -9,10 +9,9 @@
 
 /* A number that is likely to sit on an edge. */
 static uint64_t edge(void) {
-    static const uint64_t edges[] = {
-        0,     1,     2,     4,     99,     100,    33299,   33300,   33899,      33900,          34800,      41399,     41400,
-        46800, 47400, 53819, 53820, 53999,  54000,  65535,   65536,   86399,      86400,          999998,     999999,    1000000,
-        1000001,      UINT32_MAX,   UINT64_MAX - 1, UINT64_MAX,       1ull << 63};
+    static const uint64_t edges[] = {0,     1,     2,     4,     99,    100,   33299,  33300,  33899,   33900,   34800,
+                                     41399, 41400, 46800, 47400, 53819, 53820, 53999,  54000,  65535,   65536,   86399,
+                                     86400, 999998, 999999, 1000000, 1000001, UINT32_MAX, UINT64_MAX - 1, UINT64_MAX, 1ull << 63};
     return once_in(4) ? chance(2000000) : edges[chance(sizeof edges / sizeof edges[0])];
 }
 

@@ -273,7 +273,8 @@ static bool too_many_trades(const struct lent *m) { return made_count > m->list_
 
 uint64_t engine_open(struct lent *m, const uint64_t *asked) {
     size_t count = m->book_length / 40;
-    if (m->day_length != DAY_BYTES || !is_price(asked[0]) || asked[1] > 1 || count < 1 || count > PLACES) return answer(m, 14, NULL, 0);
+    bool fits = m->day_length == DAY_BYTES && count >= 1 && count <= PLACES;
+    if (!fits || !is_price(asked[0]) || asked[1] > 1) return answer(m, 14, NULL, 0);
     memset(m->book, 0, 40 * count);
     day = (struct day){.close = asked[0], .limited = asked[1]};
     write_day(m->day);

@@ -1,5 +1,5 @@
-/* Random days that halt: without limits, with orders far from the open on both sides, calls at the seconds on which a halt's end turns,
- * and days damaged in what they say of halts. */
+/* Random days that halt: without limits, with orders far from the open on both sides, calls at the seconds on which a halt's end
+ * turns, and days damaged in what they say of halts. */
 #include "asking.h"
 #include "chance.h"
 #include "runs.h"
@@ -24,13 +24,6 @@ static uint64_t far_price(void) {
     return beside(open_price);
 }
 
-/* The price of the best order of a side, 0 where it has none. */
-static uint64_t best_of(uint64_t side) {
-    for (size_t p = 0; p < lent.book_length / 40; p++)
-        if (number_at(lent.book, 5 * p + 4) && number_at(lent.book, 5 * p) == side) return number_at(lent.book, 5 * p + 3);
-    return 0;
-}
-
 /* ---- calls */
 
 static uint64_t call_now(int which, const uint64_t *asked) {
@@ -48,7 +41,7 @@ static uint64_t end_of_range(uint64_t side, uint64_t other) {
 
 /* In a halt around the centre or far away; else as far into the other side as the range lets it, or waiting. */
 static uint64_t any_price(uint64_t side) {
-    uint64_t other = best_of(1 - side);
+    uint64_t other = best_now(1 - side);
     if (day_now().halt_end) return once_in(4) ? far_price() : beside(centre);
     if (!other) return once_in(2) ? far_price() : beside(open_price);
     return once_in(2) ? end_of_range(side, other) : once_in(3) ? other : far_price();
@@ -97,40 +90,33 @@ static void ask_any(void) {
 
 /* ---- damaged days */
 
-enum { LIMITED = 1, TIME = 2, SHARES = 4, LAST = 7, HALT_END = 8, USED_30 = 9, USED_60 = 10 };
-
-static void set(size_t number, uint64_t to) { put_number(lent.day, number, to); }
-
-static int end_has_come(void) { return set(TIME, day_now().halt_end + (once_in(2) ? 0 : chance(9))), 1; }
+static int end_has_come(void) { return set_day(TIME, day_now().halt_end + (once_in(2) ? 0 : chance(9))), 1; }
 
 /* One to come, at noon, past 14:57, before all others, or any number. */
 static int end_of_no_second(void) {
     uint64_t any = any_number(), some = any % 600, time = day_now().time;
     const uint64_t ends[] = {time + 601 + some, 41400 + 9 * some, 53821 + some, 34799, any};
     uint64_t end = ends[chance(5)];
-    return set(HALT_END, end), end != 46800 && end != 53820;
+    return set_day(HALT_END, end), end != 46800 && end != 53820;
 }
 
-static int halt_with_none_used(void) { return set(USED_30, 0), set(USED_60, once_in(2)), 1; }
+static int halt_with_none_used(void) { return set_day(USED_30, 0), set_day(USED_60, once_in(2)), 1; }
 
-static int mark_on_limited_day(void) { return set(LIMITED, 1), 1; }
+static int mark_on_limited_day(void) { return set_day(LIMITED, 1), 1; }
 
 static int mark_with_nothing_traded(void) {
-    for (size_t n = SHARES; n <= LAST; n++) set(n, 0);
+    for (size_t n = SHARES; n <= LAST; n++) set_day(n, 0);
     return 1;
 }
 
 static int mark_above_1(void) {
     size_t mark = once_in(2) ? USED_30 : USED_60;
-    return set(mark, once_in(2) ? 2 : 2 + chance(1000)), 1;
+    return set_day(mark, once_in(2) ? 2 : 2 + chance(1000)), 1;
 }
 
-static int only_60_used(void) { return set(USED_30, 0), set(USED_60, 1), 1; }
+static int only_60_used(void) { return set_day(USED_30, 0), set_day(USED_60, 1), 1; }
 
-static int crossing_without_halt(void) {
-    uint64_t buy = best_of(0), sell = best_of(1);
-    return set(HALT_END, 0), buy && sell && buy >= sell;
-}
+static int crossing_without_halt(void) { return set_day(HALT_END, 0), crosses_now(); }
 
 static struct {
     const char *name;
@@ -168,9 +154,9 @@ static void damage_any(void) {
     static const uint64_t numbers[] = {0, 1, 2, 34799, 34800, 41399, 41400, 46800, 47400, 53819, 53820, 54000};
     const uint64_t asked[ASKED] = {turning_second()};
     keep_memory();
-    set(HALT_END, once_in(2) ? turning_second() + 600 : numbers[chance(12)]);
-    set(USED_30, !once_in(4)), set(USED_60, once_in(3));
-    if (once_in(2)) set(TIME, turning_second());
+    set_day(HALT_END, once_in(2) ? turning_second() + 600 : numbers[chance(12)]);
+    set_day(USED_30, !once_in(4)), set_day(USED_60, once_in(3));
+    if (once_in(2)) set_day(TIME, turning_second());
     for (int which = ORDER; which < CALLS; which++) compare(seed_now, which, asked);
     restore_memory();
 }

@@ -1,10 +1,7 @@
-/* Halts of days without limits (rules 4.2.5 and 4.2.6, request #103) by hand: the price that stops trading, when it goes on, what is
- * taken meanwhile, what the auctions that end halts lead to, and which days are sound. All numbers are the rules'. */
+/* Halts of days without limits by hand (rules 4.2.5 and 4.2.6, request #103): the price that stops trading, when it goes on, what
+ * is taken meanwhile, what the auctions that end halts lead to, and which days are sound. All numbers are the rules'. */
 #include "asking.h"
 #include "runs.h"
-
-/* Numbers of the day. */
-enum { LIMITED = 1, TIME = 2, SHARES = 4, LAST = 7, HALT_END = 8, USED_30 = 9, USED_60 = 10 };
 
 /* ---- days that halt */
 
@@ -165,7 +162,7 @@ static void run_auctions_of_halts(void) {
     expect("halts: no room for the trade", move_to(86399), 13);
     expect_halt("halts: no room for the trade", 34800, 1, 0);
     open_halted(34200);
-    put_number(lent.day, LAST, 1700);
+    set_day(LAST, 1700);
     expect_move("halts: no trade fires nothing, whatever was the last", 34800, 4, 0);
     expect_halt("halts: no trade fires nothing, whatever was the last", 0, 1, 0);
 }
@@ -212,10 +209,10 @@ static void expect_sound(const char *name, int is_sound) {
 }
 
 static void set_halt(uint64_t time, uint64_t end, uint64_t used_30, uint64_t used_60) {
-    put_number(lent.day, TIME, time);
-    put_number(lent.day, HALT_END, end);
-    put_number(lent.day, USED_30, used_30);
-    put_number(lent.day, USED_60, used_60);
+    set_day(TIME, time);
+    set_day(HALT_END, end);
+    set_day(USED_30, used_30);
+    set_day(USED_60, used_60);
 }
 
 static const struct {
@@ -276,10 +273,10 @@ static void run_soundness(void) {
         open_with_first(1000, 34200);
         set_halt(days[i].time, days[i].end, days[i].used_30, days[i].used_60);
         expect_sound(days[i].name, days[i].is_sound);
-        put_number(lent.day, LIMITED, 1);
+        set_day(LIMITED, 1);
         expect_sound("sound: on a limited day", !has_any);
-        put_number(lent.day, LIMITED, 0);
-        for (size_t n = SHARES; n <= LAST; n++) put_number(lent.day, n, 0);
+        set_day(LIMITED, 0);
+        for (size_t n = SHARES; n <= LAST; n++) set_day(n, 0);
         expect_sound("sound: with nothing traded", !has_any);
     }
 }

@@ -15,17 +15,9 @@ struct around {
 
 static struct around now;
 
-static uint64_t best_price(uint64_t side) {
-    size_t places = lent.book_length / 40, p = 0;
-    while (p < places && number_at(lent.book, 5 * p + 4) && number_at(lent.book, 5 * p) != side) p++;
-    return p < places ? number_at(lent.book, 5 * p + 3) : 0;
-}
-
-static int crosses(void) { return best_price(0) && best_price(1) && best_price(0) >= best_price(1); }
-
 void before_call(void) {
     now.before = day_now();
-    for (uint64_t side = 0; side < 2; side++) now.best[side] = best_price(side);
+    for (uint64_t side = 0; side < 2; side++) now.best[side] = best_now(side);
 }
 
 /* How far a price is from the open, in hundredths of it, rounded down. */
@@ -82,7 +74,7 @@ static int used_already(void) {
 
 static int halted(void) { return now.before.halt_end && !noon() && now.refusal != 15; }
 
-static int rests_crossing(void) { return halted() && accepted(ORDER) && crosses(); }
+static int rests_crossing(void) { return halted() && accepted(ORDER) && crosses_now(); }
 
 static int beyond_range(void) {
     const uint64_t price = now.asked[4], buy = now.best[0], sell = now.best[1];
@@ -97,7 +89,7 @@ static int reported(void) { return halted() && accepted(REPORT) && value(1); }
 static int listed(void) { return halted() && accepted(LIST) && value(1); }
 static int noon_order(void) { return now.before.halt_end && noon() && now.which == ORDER && now.refusal == 4; }
 static int noon_cancel(void) { return now.before.halt_end && noon() && now.which == CANCEL && now.refusal == 4; }
-static int noon_crossed(void) { return now.before.halt_end && noon() && now.refusal != 15 && crosses(); }
+static int noon_crossed(void) { return now.before.halt_end && noon() && now.refusal != 15 && crosses_now(); }
 
 /* ---- moves of the clock that end one */
 

@@ -22,8 +22,8 @@ extern "C" {
 /* A day has so many bytes, no more and no less: sizeof (struct flemorix_day). */
 #define FLEMORIX_DAY_BYTES 88
 
-/* A day. All zeros is no day: flemorix_open makes one. The last three numbers tell of halts, which only a day without a price band has:
- * trading stops for ten minutes once it has gone 30% or 60% away from the day's first price, each of the two once a day. */
+/* A day. All zeros is no day: flemorix_open makes one. The last three numbers tell of halts, which only a day without a price band
+ * has: trading stops for ten minutes at a trade 30% away from the day's first price, and at one 60% away, each once a day. */
 struct flemorix_day {
     uint64_t close;    /* the previous close, in fen */
     uint64_t limited;  /* 1 on a day with a price band, else 0 */

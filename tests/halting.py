@@ -1,5 +1,6 @@
-"""Random days that halt, made as sessions, and a count of what they have shown: days without limits, with orders far from the open, and
-moves of the clock to the seconds on which a halt's end turns. A maker of days that misses something is seen by the counts."""
+"""Random days that halt, made as sessions, and a count of what they have shown: days without limits, with orders far from the
+open, and moves of the clock to the seconds on which a halt's end turns. A maker of days that misses something is seen by the
+counts."""
 import collections
 import copy
 

@@ -163,9 +163,10 @@ def longest_auction(closing, empty_lines=0):
 
 
 def longest_halt():
-    """The same 1,024 orders, entered in a halt: 1,023 trades in its auction, 70% above the open, so that another halt begins; nothing
-    is left over for its auction."""
-    lines = ["D 1000 0", "T 33300", "O 0 0 1 100 1000 0", "O 1 0 2 100 1000 0", "O 1 0 2 100 1300 0", "T 34200", "O 0 0 1 100 1300 0"]
+    """The same 1,024 orders, entered in a halt: 1,023 trades in its auction, 70% above the open, so that another halt begins;
+    nothing is left over for its auction."""
+    lines = ["D 1000 0", "T 33300", "O 0 0 1 100 1000 0", "O 1 0 2 100 1000 0"]
+    lines += ["O 1 0 2 100 1300 0", "T 34200", "O 0 0 1 100 1300 0"]
     for n in range(512):
         lines += ["O 0 0 1 200 1700 0", "O 1 0 2 %d 1700 0" % (100 if n == 0 else 200)]
     return text(lines + ["O 0 0 1 100 1700 0", "T 34799", "T 34800", "T 35399", "T 35400", "T 54000"])
