@@ -1,8 +1,9 @@
-/* Runs the rules' situations, random days and damaged ones through the exported calls and through the independent engine, and
- * compares them after every call. Prints the seeds; the last line is `N passed, M failed`.
+/* Runs the rules' situations, random days, days that halt and damaged ones through the exported calls and through the independent
+ * engine, and compares them after every call. Prints the seeds; the last line is `N passed, M failed`.
  *
  * bench [--exactly | --walls] [--damage PART NTH] [FIRST [LAST]]: the seeds FIRST to LAST, or FIRST alone. compare.h says what the
- * options do. Without seeds all are run, and the independent engine is tested too: on small books it tries every price. */
+ * options do. Without seeds all are run, and two things are tested besides: the independent engine, which tries every price on small
+ * books, and the days that halt, which have to show everything often enough. */
 #include "compare.h"
 #include "runs.h"
 #include <stdio.h>

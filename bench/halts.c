@@ -99,6 +99,11 @@ static void run_orders(void) {
     sell(100, 34), sell(100, 44);
     buy(200, 44);
     expect_halt("halts: 10 fen are not 30% of 34", 0, 0, 0);
+    open_with_first(1000, 34200);
+    sell(100, 1300), sell(100, 1310);
+    lend(lent.day_length, lent.book_length, 2 * TRADE_BYTES - 1, lent.reply_length);
+    expect("halts: no room for the order's trades", buy(200, 1310), 13);
+    expect_halt("halts: no room for the order's trades", 0, 0, 0);
 }
 
 /* Each threshold once, whatever the direction. */
@@ -294,6 +299,17 @@ static void run_crossing(void) {
     }
 }
 
+/* A day has 88 bytes. It had 64 once. */
+static void run_lengths(void) {
+    static const size_t lengths[] = {0, 64, 72, 80, 87, 89, 96};
+    for (size_t i = 0; i < sizeof lengths / sizeof lengths[0]; i++) {
+        open_with_first(1000, 34200);
+        lend(lengths[i], lent.book_length, lent.list_length, lent.reply_length);
+        expect_sound("a day of another length", 0);
+        expect("a day of another length, opened", make(OPEN, 1000, 0, 0, 0, 0), 14);
+    }
+}
+
 void run_halts(void) {
     run_prices();
     run_ends();
@@ -305,4 +321,5 @@ void run_halts(void) {
     run_other_auctions();
     run_soundness();
     run_crossing();
+    run_lengths();
 }
