@@ -243,7 +243,7 @@ class Day:
             self.open = price
 
     def watch(self, trades):
-        """On a day without limits trading stops once the trades of an event reach a threshold that no trade reached before."""
+        """On a day without limits trading stops where the trades of an event reach a threshold that has not had its turn."""
         if self.limited:
             return
         reached = {t for price, *_ in trades for t in thresholds_reached(self.open, price)}
