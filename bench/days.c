@@ -1,31 +1,17 @@
 /* Random days: each seed opens a day and makes calls on it, some of them with day, book or lengths damaged for one call, or with
  * the book out of order. */
+#include "chance.h"
 #include "compare.h"
 #include "runs.h"
 #include <stdio.h>
 
 /* ---- chance */
 
-static uint64_t state;
-
-/* The generator SplitMix64: a seed gives the same day on every machine. */
-static uint64_t any_number(void) {
-    state += 0x9e3779b97f4a7c15ull;
-    uint64_t z = state;
-    z = (z ^ z >> 30) * 0xbf58476d1ce4e5b9ull;
-    z = (z ^ z >> 27) * 0x94d049bb133111ebull;
-    return z ^ z >> 31;
-}
-
-static uint64_t chance(uint64_t below) { return any_number() % below; }
-
-static int once_in(uint64_t n) { return chance(n) == 0; }
-
 /* A number that is likely to sit on an edge. */
 static uint64_t edge(void) {
-    static const uint64_t edges[] = {
-        0,     1,     2,     4,     99,    100,   33299,  33300,  33899,   33900,   53819,      53820,          53999,
-        54000, 65535, 65536, 86399, 86400, 999998, 999999, 1000000, 1000001, UINT32_MAX, UINT64_MAX - 1, UINT64_MAX, 1ull << 63};
+    static const uint64_t edges[] = {0,     1,     2,     4,     99,    100,   33299,  33300,  33899,   33900,   34800,
+                                     41399, 41400, 46800, 47400, 53819, 53820, 53999,  54000,  65535,   65536,   86399,
+                                     86400, 999998, 999999, 1000000, 1000001, UINT32_MAX, UINT64_MAX - 1, UINT64_MAX, 1ull << 63};
     return once_in(4) ? chance(2000000) : edges[chance(sizeof edges / sizeof edges[0])];
 }
 
@@ -103,8 +89,10 @@ static int is_idle(void) {
 
 static uint64_t random_time(void) {
     static const uint64_t rows[] = {33300, 33600, 33900, 34200, 41400, 46800, 53820, 54000};
-    uint64_t now = lent.day_length == 64 ? number_at(lent.day, 2) : 0;
+    int is_day = lent.day_length == DAY_BYTES;
+    uint64_t now = is_day ? number_at(lent.day, 2) : 0, halt_end = is_day ? number_at(lent.day, 8) : 0;
     if (once_in(12)) return edge();
+    if (halt_end && once_in(2)) return halt_end - once_in(4);
     if (once_in(3) && !is_idle()) return now + chance(100);
     for (size_t i = 0; i < sizeof rows / sizeof rows[0]; i++)
         if (rows[i] > now) {
@@ -120,7 +108,7 @@ static void damage(void) {
     struct lent *m = &lent;
     size_t n = m->book_length / 40;
     if (once_in(6)) {
-        size_t day = once_in(2) ? 64 : chance(130), book = once_in(3) ? LONGEST - chance(100) : chance(m->book_length + 81);
+        size_t day = once_in(2) ? DAY_BYTES : chance(130), book = once_in(3) ? LONGEST - chance(100) : chance(m->book_length + 81);
         lend(day, book, m->list_length, m->reply_length);
     } else if (once_in(6)) {
         put_number(m->day, 3, 999999);
@@ -128,7 +116,7 @@ static void damage(void) {
         size_t p = chance(n), q = chance(n);
         (once_in(2) ? move_place : exchange_numbers)(p, q);
     } else if (once_in(2) || !n) {
-        size_t at = chance(8);
+        size_t at = chance(DAY_BYTES / 8);
         put_number(m->day, at, edge());
     } else if (once_in(2)) {
         size_t at = chance(5 * n);
@@ -243,11 +231,11 @@ static struct plan plan_day(uint64_t seed) {
 }
 
 void run_seed(uint64_t seed) {
-    state = seed;
+    begin_chance(seed);
     struct plan plan = plan_day(seed);
     uint64_t opening[] = {plan.close, !once_in(4)}, before = failed, count = plan.places > 100 ? 60 : 250;
     fill_memory(any_number);
-    lend(64, 40 * plan.places + (once_in(2) ? chance(40) : 0), TRADE_BYTES, 48);
+    lend(DAY_BYTES, 40 * plan.places + (once_in(2) ? chance(40) : 0), TRADE_BYTES, 48);
     compare(seed, OPEN, opening);
     if (once_in(3)) fill_book(&plan);
     for (uint64_t i = 0; i < count; i++) {

@@ -8,7 +8,10 @@ enum { PLACES = 4096, TOP_PRICE = 999999, SLOTS = 16384, SMALL = 8 };
 
 struct day {
     uint64_t close, limited, time, issued, shares, turnover, first, last;
+    uint64_t halt_end, used_30, used_60; /* a halt's end, 0 while none runs, and the thresholds that have had their turn */
 };
+
+enum { DAY_NUMBERS = DAY_BYTES / 8 };
 
 struct order {
     uint64_t side, account, left, price, number;
@@ -49,14 +52,15 @@ void put_number(uint8_t *b, size_t i, uint64_t value) {
     for (size_t k = 0; k < 8; k++) b[8 * i + k] = (uint8_t)(value >> 8 * k);
 }
 
+/* No record has more numbers than the day. */
 static void read_numbers(const uint8_t *b, size_t at, void *record, size_t count) {
-    uint64_t numbers[8];
+    uint64_t numbers[DAY_NUMBERS];
     for (size_t i = 0; i < count; i++) numbers[i] = number_at(b, at + i);
     memcpy(record, numbers, count * sizeof numbers[0]);
 }
 
 static void write_numbers(uint8_t *b, size_t at, const void *record, size_t count) {
-    uint64_t numbers[8];
+    uint64_t numbers[DAY_NUMBERS];
     memcpy(numbers, record, count * sizeof numbers[0]);
     for (size_t i = 0; i < count; i++) put_number(b, at + i, numbers[i]);
 }
@@ -64,6 +68,8 @@ static void write_numbers(uint8_t *b, size_t at, const void *record, size_t coun
 static void read_book(const uint8_t *b) {
     for (size_t p = 0; p < place_count; p++) read_numbers(b, 5 * p, &places[p], 5);
 }
+
+static void write_day(uint8_t *b) { write_numbers(b, 0, &day, DAY_NUMBERS); }
 
 static void write_trades(struct lent *m) {
     for (size_t t = 0; t < made_count; t++) write_numbers(m->list, 6 * t, &made[t], 6);
@@ -90,11 +96,55 @@ static int phase_at(uint64_t t) {
     return 0;
 }
 
+/* The phase of the day: continuous trading is phase 7 while a halt runs, the noon break stays what it is. */
+static int phase_now(void) {
+    int phase = phase_at(day.time);
+    return phase == 4 && day.halt_end ? 7 : phase;
+}
+
 /* ---- numbers */
+
+static uint64_t apart(uint64_t a, uint64_t b) { return a > b ? a - b : b - a; }
 
 static bool is_price(uint64_t p) { return p >= 1 && p <= TOP_PRICE; }
 
 static bool in_band(uint64_t p) { return 10 * p >= 7 * day.close && 10 * p <= 13 * day.close; }
+
+/* ---- halts */
+
+/* Ten minutes from a second on, but not past 14:57, and not into the noon break: such a halt ends at 13:00. */
+static uint64_t halt_end_from(uint64_t second) {
+    uint64_t end = second + 600;
+    if (end > 53820) return 53820;
+    return phase_at(end) == 5 ? 46800 : end;
+}
+
+/* At least so many per cent of the open above or below it. */
+static bool is_away(uint64_t price, uint64_t percent) { return 100 * apart(price, day.first) >= percent * day.first; }
+
+/* A trade at this price, at this second: each threshold that it reaches has its turn now, or has had it. */
+static void look_at(uint64_t price, uint64_t second) {
+    bool reaches_30 = is_away(price, 30), reaches_60 = is_away(price, 60);
+    if (day.limited) return;
+    if ((reaches_30 && !day.used_30) || (reaches_60 && !day.used_60)) day.halt_end = halt_end_from(second);
+    if (reaches_30) day.used_30 = 1;
+    if (reaches_60) day.used_60 = 1;
+}
+
+/* Some second of continuous trading up to now leads to the end that the day has. The latest are looked at first: mostly it is one
+ * of them. */
+static bool is_led_to(void) {
+    for (uint64_t second = day.time + 1; second-- > 0;)
+        if (phase_at(second) == 4 && halt_end_from(second) == day.halt_end) return true;
+    return false;
+}
+
+static bool halts_sound(void) {
+    if (day.used_30 > 1 || day.used_60 > 1 || (day.used_60 && !day.used_30)) return false;
+    if (!day.halt_end && !day.used_30) return true;
+    if (day.limited || !day.shares || !day.used_30) return false;
+    return !day.halt_end || (day.halt_end > day.time && is_led_to());
+}
 
 /* ---- the hash of numbers */
 
@@ -186,18 +236,19 @@ static bool totals_sound(void) {
 static bool load(const struct lent *m) {
     made_count = 0;
     place_count = m->book_length / 40;
-    if (m->day_length != 64 || place_count < 1 || place_count > PLACES) return false;
-    read_numbers(m->day, 0, &day, 8);
+    if (m->day_length != DAY_BYTES || place_count < 1 || place_count > PLACES) return false;
+    read_numbers(m->day, 0, &day, DAY_NUMBERS);
     read_book(m->book);
     memset(slots, 0, sizeof slots);
-    if (!figures_sound()) return false;
+    if (!figures_sound() || !halts_sound()) return false;
     for (size_t p = 0; p < place_count; p++)
         if (!place_sound(p)) return false;
     if (!in_order()) return false;
     build_levels();
     bool empty = !queue_count[0] && !queue_count[1];
     if ((day.time < 33300 || day.time >= 54000) && !empty) return false;
-    if (day.time >= 33900 && day.time <= 53819 && best(0) && best(1) && best(0) >= best(1)) return false;
+    bool may_cross = day.time < 33900 || day.time > 53819 || day.halt_end;
+    if (!may_cross && best(0) && best(1) && best(0) >= best(1)) return false;
     return totals_sound();
 }
 
@@ -222,10 +273,11 @@ static bool too_many_trades(const struct lent *m) { return made_count > m->list_
 
 uint64_t engine_open(struct lent *m, const uint64_t *asked) {
     size_t count = m->book_length / 40;
-    if (m->day_length != 64 || !is_price(asked[0]) || asked[1] > 1 || count < 1 || count > PLACES) return answer(m, 14, NULL, 0);
+    bool fits = m->day_length == DAY_BYTES && count >= 1 && count <= PLACES;
+    if (!fits || !is_price(asked[0]) || asked[1] > 1) return answer(m, 14, NULL, 0);
     memset(m->book, 0, 40 * count);
-    day = (struct day){asked[0], asked[1], 0, 0, 0, 0, 0, 0};
-    write_numbers(m->day, 0, &day, 8);
+    day = (struct day){.close = asked[0], .limited = asked[1]};
+    write_day(m->day);
     return answer(m, 0, NULL, 0);
 }
 
@@ -257,10 +309,10 @@ static int any_free(void) {
 }
 
 static uint64_t order_refusal(const struct wish *w) {
-    int phase = phase_at(day.time);
+    int phase = phase_now();
     if (w->side > 1 || w->kind > 4) return 2;
     if (!w->account) return 3;
-    if (phase != 1 && phase != 2 && phase != 4 && phase != 6) return 4;
+    if (phase != 1 && phase != 2 && phase != 4 && phase != 6 && phase != 7) return 4;
     if (w->kind && (phase != 4 || !day.limited)) return 5;
     if (!quantity_passes(w)) return 6;
     if (!is_price(w->price)) return 7;
@@ -320,14 +372,15 @@ uint64_t engine_order(struct lent *m, const uint64_t *asked) {
         if (goes) limit = calmer(w.side, aim, w.price);
     }
     day.issued++;
-    if (goes && phase_at(day.time) == 4) left = match(&w, limit, w.kind >= 3 ? 5 : PLACES, &used);
+    if (goes && phase_now() == 4) left = match(&w, limit, w.kind >= 3 ? 5 : PLACES, &used);
     if (too_many_trades(m)) return answer(m, 13, NULL, 5);
     uint64_t price = goes ? rest_price(&w, limit, own_best) : 0;
     if (left && price) {
         resting = left;
         places[any_free()] = (struct order){w.side, w.account, left, price, day.issued};
     }
-    write_numbers(m->day, 0, &day, 8);
+    for (size_t t = 0; t < made_count; t++) look_at(made[t].price, day.time);
+    write_day(m->day);
     write_book(m->book);
     write_trades(m);
     uint64_t values[] = {day.issued, w.quantity - left, resting, left - resting, used};
@@ -338,8 +391,8 @@ uint64_t engine_order(struct lent *m, const uint64_t *asked) {
 
 uint64_t engine_cancel(struct lent *m, const uint64_t *asked) {
     if (!load(m)) return answer(m, 15, NULL, 1);
-    int phase = phase_at(day.time);
-    if (phase != 1 && phase != 4) return answer(m, 4, NULL, 1);
+    int phase = phase_now();
+    if (phase != 1 && phase != 4 && phase != 7) return answer(m, 4, NULL, 1);
     int *slot = slot_of(asked[1]);
     if (!*slot || !asked[1] || places[*slot - 1].account != asked[0]) return answer(m, 12, NULL, 1);
     uint64_t shares = places[*slot - 1].left;
@@ -449,8 +502,6 @@ static void survey(void) {
     if (queue_count[0] + queue_count[1] <= SMALL && engine_tries_left) try_all_prices(most);
 }
 
-static uint64_t apart(uint64_t a, uint64_t b) { return a > b ? a - b : b - a; }
-
 static uint64_t gap(const struct stretch *t) { return apart(t->demand, t->supply); }
 
 /* The price that the tie rules leave, 0 where none qualifies, and how many they leave. */
@@ -508,21 +559,35 @@ static void hold(void) {
     if (price) pair(price, smaller(at->demand, at->supply));
 }
 
+/* The first second after this one at which something happens. */
+static uint64_t next_stop(uint64_t after) {
+    uint64_t stops[] = {33900, 54000, day.halt_end}, next = UINT64_MAX;
+    for (int i = 0; i < 3; i++)
+        if (stops[i] > after && stops[i] < next) next = stops[i];
+    return next;
+}
+
+/* A halt is over before its auction is held; the auction's price may begin another, but not at 14:57. */
+static void stop_at(uint64_t second) {
+    size_t before = made_count;
+    bool ends_halt = second == day.halt_end;
+    if (ends_halt) day.halt_end = 0;
+    hold();
+    if (ends_halt && made_count > before && second != 53820) look_at(made[before].price, second);
+    if (second == 54000) memset(places, 0, place_count * sizeof places[0]);
+}
+
 uint64_t engine_clock(struct lent *m, const uint64_t *asked) {
     uint64_t time = asked[0];
     if (!load(m)) return answer(m, 15, NULL, 2);
     if (time > 86399 || time < day.time) return answer(m, 1, NULL, 2);
-    if (day.time < 33900 && time >= 33900) hold();
-    if (day.time < 54000 && time >= 54000) {
-        hold();
-        memset(places, 0, place_count * sizeof places[0]);
-    }
+    for (uint64_t stop; (stop = next_stop(day.time)) <= time; day.time = stop) stop_at(stop);
     if (too_many_trades(m)) return answer(m, 13, NULL, 2);
     day.time = time;
-    write_numbers(m->day, 0, &day, 8);
+    write_day(m->day);
     write_book(m->book);
     write_trades(m);
-    uint64_t values[] = {(uint64_t)phase_at(time), made_count};
+    uint64_t values[] = {(uint64_t)phase_now(), made_count};
     return answer(m, 0, values, 2);
 }
 

@@ -7,7 +7,7 @@
 #include <stddef.h>
 #include <stdint.h>
 
-enum { TRADE_BYTES = 48 }; /* six numbers */
+enum { DAY_BYTES = 88, TRADE_BYTES = 48 }; /* eleven numbers, and six */
 
 /* Lent memory: what a call reads and writes. A call that has no use for a slice does not look at it. */
 struct lent {

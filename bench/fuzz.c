@@ -27,7 +27,8 @@ static uint64_t whole_number(int bytes) {
 /* A number on an edge, or one of 1, 3 or 8 bytes. */
 static uint64_t number(void) {
     static const uint64_t edges[] = {0,     1,     2,     4,     99,    100,   33300,  33600,   33900,   34200,      41400,
-                                     46800, 53819, 53820, 54000, 86399, 86400, 999999, 1000000, 1000001, UINT32_MAX, UINT64_MAX};
+                                     46800, 53819, 53820, 54000, 86399, 86400, 999999, 1000000, 1000001, UINT32_MAX, UINT64_MAX,
+                                     34800, 40800, 41399, 47400, 53220};
     size_t count = sizeof edges / sizeof edges[0];
     uint64_t chosen = byte();
     if (chosen < count) return edges[chosen];
@@ -79,8 +80,9 @@ static void cancel_place(void) {
 }
 
 static void move_clock(void) {
-    static const uint64_t times[] = {33300, 33600, 33900, 34200, 41400, 46800, 53820, 54000};
-    const uint64_t asked[ASKED] = {times[byte() % 8]};
+    static const uint64_t times[] = {33300, 33600, 33900, 34200, 41400, 46800, 53820, 54000,
+                                     34799, 34800, 40799, 40800, 41399, 47400, 53219, 53220};
+    const uint64_t asked[ASKED] = {times[byte() % 16]};
     check(CLOCK, asked);
 }
 
@@ -97,13 +99,13 @@ static void set_room(void) {
 
 static void set_lengths(void) {
     size_t day = byte(), book = 3 * whole_number(2);
-    lend(day % 2 ? 64 : day, book, lent.list_length, lent.reply_length);
+    lend(day % 2 ? DAY_BYTES : day, book, lent.list_length, lent.reply_length);
 }
 
 static void set_number(void) {
     uint64_t chosen = byte(), places = lent.book_length / 40;
     if (chosen < 128 || !places)
-        put_number(lent.day, chosen % 8, number());
+        put_number(lent.day, chosen % (DAY_BYTES / 8), number());
     else
         put_number(lent.book, chosen % (5 * places), number());
 }
@@ -154,7 +156,7 @@ int LLVMFuzzerTestOneInput(const uint8_t *data, size_t length) {
     uint64_t chosen = byte();
     close_price = closes[chosen / 8 % 4];
     clear_memory(0x5a);
-    lend(64, 40 * sizes[chosen % 8] + chosen / 64, 64 * TRADE_BYTES, 48);
+    lend(DAY_BYTES, 40 * sizes[chosen % 8] + chosen / 64, 64 * TRADE_BYTES, 48);
     const uint64_t opening[ASKED] = {close_price, chosen / 32 % 2};
     check(OPEN, opening);
     for (int i = 0; i < STEPS && input_left; i++) take_step(byte());

@@ -4,8 +4,16 @@
 
 #include <stdint.h>
 
+/* By hand, with the numbers that the rules print. */
 void run_situations(void);
+void run_halts(void);
 void run_session(void);
+
+/* A random day, and one that halts. */
 void run_seed(uint64_t seed);
+void run_halting_seed(uint64_t seed);
+
+/* What the days that halt have shown; where all seeds have been run, each thing often enough. */
+void print_halts(int all_seeds);
 
 #endif

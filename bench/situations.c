@@ -1,50 +1,14 @@
 /* The rehearsed situations of the rules and their whole session, with the numbers that the rules print, the edges of quantity and
  * balance, and the order of the places. */
-#include "../include/flemorix.h"
-#include "compare.h"
+#include "asking.h"
 #include "runs.h"
-#include <string.h>
-
-static uint64_t make(int which, uint64_t a, uint64_t b, uint64_t c, uint64_t d, uint64_t e) {
-    const uint64_t asked[ASKED] = {a, b, c, d, e};
-    return compare(0, which, asked);
-}
-
-static uint64_t move_to(uint64_t time) { return make(CLOCK, time, 0, 0, 0, 0); }
-
-static uint64_t take_out(uint64_t account, uint64_t number) { return make(CANCEL, account, number, 0, 0, 0); }
-
-static uint64_t buy(uint64_t quantity, uint64_t price) { return make(ORDER, 0, 0, 7, quantity, price); }
-
-static uint64_t sell(uint64_t quantity, uint64_t price) { return make(ORDER, 1, 0, 8, quantity, price); }
-
-/* A buy of one of the four market kinds. */
-static uint64_t buy_of_kind(uint64_t kind, uint64_t account, uint64_t quantity, uint64_t limit) {
-    return make(ORDER, 0, kind, account, quantity, limit);
-}
-
-/* The values of a reply, from 1 on. */
-static uint64_t value(size_t i) { return number_at(lent.reply, i); }
-
-/* A trade of the list, as the header names its numbers. */
-static struct flemorix_trade trade_at(size_t i) {
-    struct flemorix_trade trade;
-    _Static_assert(sizeof trade == TRADE_BYTES, "the header's trade is not as long as one in bytes");
-    memcpy(&trade, lent.list + i * sizeof trade, sizeof trade);
-    return trade;
-}
 
 static void expect_left(const char *what, size_t i, uint64_t buyer_left, uint64_t seller_left) {
     expect(what, trade_at(i).buyer_left, buyer_left);
     expect(what, trade_at(i).seller_left, seller_left);
 }
 
-static void open_at(uint64_t close, uint64_t time) {
-    clear_memory(0);
-    lend(64, 40 * 16, TRADE_BYTES * 64, 48);
-    make(OPEN, close, 1, 0, 0, 0);
-    move_to(time);
-}
+static void open_at(uint64_t close, uint64_t time) { open_marked(close, 1, time); }
 
 /* How many prices qualify and from which on, and the report. */
 static void expect_auction(const char *name, uint64_t count, uint64_t from, uint64_t price, int64_t surplus) {

@@ -4,6 +4,7 @@
  * branch is foreseen because it has just been taken. The least time of all rounds counts, as what else runs on the machine only
  * adds, less what it takes to read the clock. Prints docs/SPEED.md's tables: means over the books, and the dearest of them. */
 #define _POSIX_C_SOURCE 199309L
+#include "chance.h"
 #include "plain.h"
 #include <stdio.h>
 #include <stdlib.h>
@@ -14,23 +15,10 @@ enum { ROUNDS = 50, BOOKS = 24, SUMS = 16, MOST = 4096, PRICES = 50 };
 
 /* The lent memory: as it is, as it was before the event, and as the independent engine leaves it. */
 struct memory {
-    uint8_t day[64], book[40 * MOST], list[TRADE_BYTES * MOST], reply[48];
+    uint8_t day[DAY_BYTES], book[40 * MOST], list[TRADE_BYTES * MOST], reply[48];
 };
 static struct memory now, before, after;
 static size_t places, live, buys;
-
-/* ---- chance */
-
-static uint64_t state;
-
-/* The generator SplitMix64: every run measures the same books and events. */
-static uint64_t chance(uint64_t below) {
-    state += 0x9e3779b97f4a7c15ull;
-    uint64_t z = state;
-    z = (z ^ z >> 30) * 0xbf58476d1ce4e5b9ull;
-    z = (z ^ z >> 27) * 0x94d049bb133111ebull;
-    return (z ^ z >> 31) % below;
-}
 
 /* ---- the books */
 
@@ -52,7 +40,7 @@ static void put_order(size_t p, int shape, int random, uint64_t number) {
 static void prepare(int shape, int random) {
     static uint64_t numbers[MOST];
     const uint64_t apart = random && chance(2) ? 999000 / live : 1;
-    const uint64_t day[8] = {1000, 1, shape == CROSSED ? 33300 : 34200, apart * live, 0, 0, 0, 0};
+    const uint64_t day[4] = {1000, 1, shape == CROSSED ? 33300 : 34200, apart * live}; /* all else is 0 */
     for (size_t p = 0; p < live; p++) {
         size_t other = random ? chance(p + 1) : p;
         numbers[p] = numbers[other];
@@ -60,7 +48,7 @@ static void prepare(int shape, int random) {
     }
     buys = 0;
     memset(&before, 0, sizeof before);
-    for (size_t i = 0; i < 8; i++) put_number(before.day, i, day[i]);
+    for (size_t i = 0; i < 4; i++) put_number(before.day, i, day[i]);
     for (size_t p = 0; p < live; p++) put_order(p, shape, random, numbers[p]);
     arrange_book(before.book, places);
 }
@@ -212,7 +200,7 @@ struct times {
 };
 
 static void measure(struct times *t, int round, int shape, int random, int book) {
-    state = (uint64_t)(book + 1) << 32;
+    begin_chance((uint64_t)(book + 1) << 32); /* every run measures the same books and events */
     prepare(shape, random);
     for (int e = 0; e < EVENTS; e++) {
         uint64_t asked[ASKED] = {0};

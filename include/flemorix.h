@@ -19,7 +19,11 @@ extern "C" {
 /* A book has 1 to so many places. */
 #define FLEMORIX_MOST_PLACES 4096
 
-/* A day. All zeros is no day: flemorix_open makes one. */
+/* A day has so many bytes, no more and no less: sizeof (struct flemorix_day). */
+#define FLEMORIX_DAY_BYTES 88
+
+/* A day. All zeros is no day: flemorix_open makes one. The last three numbers tell of halts, which only a day without a price band
+ * has: trading stops for ten minutes at a trade 30% away from the day's first price, and at one 60% away, each once a day. */
 struct flemorix_day {
     uint64_t close;    /* the previous close, in fen */
     uint64_t limited;  /* 1 on a day with a price band, else 0 */
@@ -29,6 +33,9 @@ struct flemorix_day {
     uint64_t turnover; /* fen traded */
     uint64_t first;    /* price of the first trade, 0 while there is none */
     uint64_t last;     /* price of the last trade, 0 while there is none */
+    uint64_t halt_end; /* the second at which the halt that runs ends with an auction, 0 while none runs */
+    uint64_t used_30;  /* 1 once a trade 30% or more away from the first has had its halt, else 0 */
+    uint64_t used_60;  /* 1 once a trade 60% or more away has; then used_30 is 1 too */
 };
 
 /* A place of the book. A free place is all zeros. The places stand in order: buys from best to worst, then sells from best to
@@ -70,6 +77,7 @@ enum flemorix_phase {
     FLEMORIX_CONTINUOUS = 4,     /* from 9:30 and from 13:00 */
     FLEMORIX_NOON = 5,           /* from 11:30 */
     FLEMORIX_CLOSING_CALL = 6,   /* from 14:57: no cancels */
+    FLEMORIX_HALTED = 7,         /* in place of 4 while a halt runs: limit orders, which rest, and cancels */
 };
 
 enum flemorix_refusal {
@@ -87,8 +95,8 @@ enum flemorix_refusal {
     FLEMORIX_NUMBERS = 11,   /* 999,999 numbers issued */
     FLEMORIX_UNKNOWN = 12,   /* no live order has this number and account */
     FLEMORIX_ROOM = 13,      /* the event's trades outnumber the lent trade list */
-    FLEMORIX_OPENING = 14,   /* opening: close not 1 to 999,999, mark not 0 or 1, places not 1 to 4,096, or day not 64 bytes */
-    FLEMORIX_UNSOUND = 15,   /* day not sound or not 64 bytes, book out of order, or places not 1 to 4,096 */
+    FLEMORIX_OPENING = 14,   /* opening: close not 1 to 999,999, mark not 0 or 1, places not 1 to 4,096, or day not 88 bytes */
+    FLEMORIX_UNSOUND = 15,   /* day not sound or not 88 bytes, book out of order, or places not 1 to 4,096 */
 };
 
 /* The replies, one for each call: a buffer may be one of these. The values are 0 where the call is refused. */
@@ -135,8 +143,8 @@ uint64_t flemorix_open(uint8_t *day, size_t day_length, uint8_t *book, size_t bo
 
 /* Enters an order: side 0 buys, 1 sells; for kinds 1 to 4 the price is the protection limit. The balance is what a seller's account
  * has of the share: a sell of 1 to 99 is taken where it equals the balance, one of 100 and more with any. A buy has 0 there. Its
- * trades stand at the front of the trade list, the rest of which stays. Reply: number, filled, resting, withdrawn, levels.
- * 15, 2 to 11, 13. */
+ * trades stand at the front of the trade list, the rest of which stays. Once it is done, a halt may run: the day's halt_end tells.
+ * Reply: number, filled, resting, withdrawn, levels. 15, 2 to 11, 13. */
 uint64_t flemorix_order(uint8_t *day, size_t day_length, uint8_t *book, size_t book_length, uint8_t *trades,
                         size_t trades_length, uint8_t *reply, size_t reply_length, uint64_t side, uint64_t kind,
                         uint64_t account, uint64_t quantity, uint64_t price, uint64_t balance);
@@ -145,8 +153,9 @@ uint64_t flemorix_order(uint8_t *day, size_t day_length, uint8_t *book, size_t b
 uint64_t flemorix_cancel(const uint8_t *day, size_t day_length, uint8_t *book, size_t book_length, uint8_t *reply,
                          size_t reply_length, uint64_t account, uint64_t number);
 
-/* Moves the clock, and holds the auctions that it passes; after the closing one the book is empty. Their trades stand at the
- * front of the trade list. Reply: the phase of the new time, and how many trades. 15, 1, 13. */
+/* Moves the clock, and holds the auctions that it passes, in time order: the opening one, the one that ends a halt, and the closing
+ * one, after which the book is empty. Their trades stand at the front of the trade list. Reply: the phase of the new time, and how
+ * many trades. 15, 1, 13. */
 uint64_t flemorix_clock(uint8_t *day, size_t day_length, uint8_t *book, size_t book_length, uint8_t *trades,
                         size_t trades_length, uint8_t *reply, size_t reply_length, uint64_t time);
 

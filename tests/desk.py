@@ -35,6 +35,13 @@ CLOCK = [
 OPENING_AUCTION = 33_900
 CLOSING_AUCTION = 54_000
 
+# Halts: continuous trading is phase 7 while one runs, and takes orders and cancels then.
+HALTED = (7, True, True)
+HALT_SECONDS = 600
+THRESHOLDS = {30, 60}  # per cent away from the open
+NOON = range(41_400, 46_800)
+CLOSING_CALL = 53_820
+
 
 class Refused(Exception):
     """The number of the refusal is its only argument."""
@@ -70,6 +77,19 @@ def passes_quantity(side, quantity, balance):
         return False
     in_one_go = side == SELL and 1 <= quantity <= 99 and quantity == balance
     return in_one_go or 100 <= quantity <= 1_000_000
+
+
+def thresholds_reached(open_price, price):
+    """Those that a price is at or past, up or down."""
+    return {t for t in THRESHOLDS if price * 100 >= open_price * (100 + t) or price * 100 <= open_price * (100 - t)}
+
+
+def end_of_halt(start):
+    """When a halt ends that starts in this second. Noon has no auction, and at 14:57 the closing call begins."""
+    end = start + HALT_SECONDS
+    if end in NOON:
+        return NOON.stop
+    return min(end, CLOSING_CALL)
 
 
 class Auction:
@@ -158,37 +178,78 @@ class Day:
         self.every_price = every_price
         self.time = 0
         self.issued = 0
+        self.open = None
         self.last = None
         self.live = []
+        self.halted_until = None
+        self.used = set()  # the thresholds that have fired today
 
     # The clock
 
-    def row(self, time):
-        return [row for row in CLOCK if row[0] <= time][-1]
+    def now(self):
+        """Phase, whether it takes orders, and whether it takes cancels."""
+        row = [row for row in CLOCK if row[0] <= self.time][-1][1:]
+        return HALTED if row[0] == 4 and self.halted_until is not None else row
+
+    def phase(self):
+        return self.now()[0]
 
     def move_clock(self, time):
         if time > 86_399 or time < self.time:
             raise Refused(1)
-        # Both auctions are worked out on copies, since a refused move changes nothing.
-        live = [Order(o.number, o.side, o.account, o.left, o.price) for o in self.live]
-        last, trades = self.last, []
-        for second in (OPENING_AUCTION, CLOSING_AUCTION):
-            if self.time < second <= time:
-                auction = Auction(live)
-                price = auction.price(self.close if last is None else last, self.every_price)
-                if price is not None:
-                    for buyer, seller, shares in auction.pairs(price):
-                        buyer.left -= shares
-                        seller.left -= shares
-                        trades.append((price, shares, buyer.number, seller.number, buyer.left, seller.left))
-                    last = price
-                live = [o for o in live if o.left > 0]
-                if second == CLOSING_AUCTION:
-                    live = []
+        before = self.kept()
+        trades = []
+        for second in range(self.time + 1, time + 1):
+            if second in (OPENING_AUCTION, self.halted_until, CLOSING_AUCTION):
+                self.time = second
+                trades += self.begin_second()
+        self.time = time
         if len(trades) > TRADES:
+            self.__dict__.update(before)
             raise Refused(13)
-        self.time, self.live, self.last = time, live, last
-        return trades, "K %d %d" % (self.row(time)[1], len(trades))
+        return trades, "K %d %d" % (self.phase(), len(trades))
+
+    def kept(self):
+        """All of the day as it is now, since a refused move changes nothing."""
+        live = [Order(o.number, o.side, o.account, o.left, o.price) for o in self.live]
+        return dict(self.__dict__, live=live, used=set(self.used))
+
+    def begin_second(self):
+        """Holds the auction with which this second begins; its trades."""
+        trades = self.hold_auction()
+        if self.time == self.halted_until:
+            self.halted_until = None
+            if self.time != CLOSING_CALL:
+                self.watch(trades)
+        if self.time == CLOSING_AUCTION:
+            self.live = []
+        return trades
+
+    def hold_auction(self):
+        auction = Auction(self.live)
+        price = auction.price(self.close if self.last is None else self.last, self.every_price)
+        trades = []
+        for buyer, seller, shares in auction.pairs(price) if price is not None else []:
+            buyer.left -= shares
+            seller.left -= shares
+            trades.append((price, shares, buyer.number, seller.number, buyer.left, seller.left))
+            self.note_trade(price)
+        self.live = [o for o in self.live if o.left > 0]
+        return trades
+
+    def note_trade(self, price):
+        self.last = price
+        if self.open is None:
+            self.open = price
+
+    def watch(self, trades):
+        """On a day without limits trading stops where the trades of an event reach a threshold that has not had its turn."""
+        if self.limited:
+            return
+        reached = {t for price, *_ in trades for t in thresholds_reached(self.open, price)}
+        if reached - self.used:
+            self.used |= reached
+            self.halted_until = end_of_halt(self.time)
 
     # Orders
 
@@ -212,7 +273,7 @@ class Day:
         return price * 100 >= base * 95 or price >= base - 10
 
     def refuse_order(self, side, kind, account, quantity, price, balance):
-        _, phase, takes_orders, _ = self.row(self.time)
+        phase, takes_orders, _ = self.now()
         if side not in (BUY, SELL) or kind > 4:
             raise Refused(2)
         if account == 0:
@@ -237,7 +298,7 @@ class Day:
     def partners(self, side, kind, limit):
         """The resting orders that an order may trade with, in priority order, and the price that kinds 0 to 2 take (None where
         there is none)."""
-        queue = self.queue(1 - side) if self.row(self.time)[1] == 4 else []
+        queue = self.queue(1 - side) if self.phase() == 4 else []
         if kind in (3, 4):
             five = sorted({o.price for o in queue}, reverse=side == SELL)[:5]
             return [o for o in queue if o.price in five and meets(side, limit, o.price)], None
@@ -266,6 +327,7 @@ class Day:
 
         self.issued += 1
         trades = [self.settle(side, *deal) for deal in deals]
+        self.watch(trades)
         resting = left if rests_at is not None else 0
         if resting > 0:
             self.live.append(Order(self.issued, side, account, resting, rests_at))
@@ -277,13 +339,13 @@ class Day:
         partner.left -= shares
         if partner.left == 0:
             self.live.remove(partner)
-        self.last = partner.price
+        self.note_trade(partner.price)
         newest, resting = (self.issued, left), (partner.number, partner.left)
         (buyer, buyer_left), (seller, seller_left) = (newest, resting) if side == BUY else (resting, newest)
         return partner.price, shares, buyer, seller, buyer_left, seller_left
 
     def cancel_order(self, account, number):
-        if not self.row(self.time)[3]:
+        if not self.now()[2]:
             raise Refused(4)
         for o in self.live:
             if o.number == number and o.account == account:

@@ -1,21 +1,25 @@
 #!/usr/bin/env python3
 """Made sessions through the program and through the desk of the tests (desk.py): the replies must be the same.
 
-    tests/generated.py                 random days, long and short, a full book, the longest auctions and sweeps, every byte at
-                                       every position of a line, lines about as long as a chunk; ends with 'N passed, M failed'
-    tests/generated.py SEED COUNT      COUNT random sessions from SEED on
+    tests/generated.py                 random days, long and short, days that halt, a full book, the longest auctions and sweeps,
+                                       every byte at every position of a line, lines about as long as a chunk; ends with
+                                       'N passed, M failed'
+    tests/generated.py SEED COUNT      COUNT random sessions from SEED on, and as many of days that halt
     tests/generated.py --last-number   all 999,999 numbers of a day: a million lines
 """
+import collections
 import itertools
 import sys
 
 import desk
+import halting
 import made
 from program import Counts
 
 SEED = 1_300_000
 COUNT = 200
 LONG_COUNT = 8
+HALTING_COUNT = 150
 
 
 def random_days(counts, seed, count):
@@ -38,11 +42,35 @@ def long_days(counts, seed, count):
         counts.answers("long day %d" % each, session, desk.replies(session))
 
 
+def halting_days(counts, seed, count):
+    """Sessions of days that halt, every fifth also with the desk at every price. Returns what they have shown."""
+    print("generated: halting days with seeds %d to %d" % (seed, seed + count - 1))
+    seen = collections.Counter()
+    for each in range(seed, seed + count):
+        days = halting.HaltingDays(each)
+        session = days.session()
+        expected = desk.replies(session)
+        counts.answers("halting days %d" % each, session, expected)
+        if each % 5 == 0:
+            counts.same("halting days %d, the desk at every price" % each, expected, desk.replies(session, every_price=True))
+        seen += days.seen
+    for name in halting.LEAST:
+        print("generated: %s: %d times" % (name, seen[name]))
+    return seen
+
+
+def all_seen(counts, seen):
+    """Everything that the halting days have to show came up often enough."""
+    for name, least in halting.LEAST.items():
+        counts.same("%s, at least %d times" % (name, least), b"True", b"%r" % (seen[name] >= least))
+
+
 def bounds(counts):
     sessions = {
         "a full book": made.full_book(),
         "the longest opening auction": made.longest_auction(closing=False),
         "the longest closing auction": made.longest_auction(closing=True),
+        "the longest auction of a halt": made.longest_halt(),
         "the longest sweep of a buy": made.longest_sweep(desk.BUY),
         "the longest sweep of a sell": made.longest_sweep(desk.SELL),
         "every byte at every position": made.every_byte(),
@@ -71,11 +99,13 @@ def main():
         last_number(counts)
     elif len(sys.argv) == 3:
         random_days(counts, int(sys.argv[1]), int(sys.argv[2]))
+        halting_days(counts, int(sys.argv[1]), int(sys.argv[2]))
     elif sys.argv[1:]:
         sys.exit("usage: generated.py [SEED COUNT | --last-number]")
     else:
         random_days(counts, SEED, COUNT)
         long_days(counts, SEED, LONG_COUNT)
+        all_seen(counts, halting_days(counts, SEED, HALTING_COUNT))
         bounds(counts)
     counts.finish()
 

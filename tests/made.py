@@ -40,7 +40,7 @@ class RandomDays:
         return lines + ["T 54000"] * (pick.random() < 0.8)
 
     def line(self):
-        _, _, takes_orders, takes_cancels = self.desk.day.row(self.desk.day.time)
+        _, takes_orders, takes_cancels = self.desk.day.now()
         if self.source.random() < (self.steps if takes_orders else 0.7):
             return self.move()
         draw = self.source.random()
@@ -68,7 +68,7 @@ class RandomDays:
 
     def order(self):
         pick = self.source
-        market = self.desk.day.limited and self.desk.day.row(self.desk.day.time)[1] == 4
+        market = self.desk.day.limited and self.desk.day.phase() == 4
         kind = pick.choice([0, 0, 0, 0, 1, 2, 3, 4]) if market else 0
         price = self.close + pick.randint(-self.spread, self.spread)
         if kind != 0 and pick.random() < 0.5:
@@ -160,6 +160,16 @@ def longest_auction(closing, empty_lines=0):
     for n in range(512):
         lines += ["O 0 0 1 200 1000 0", "O 1 0 2 %d 1000 0" % (100 if n == 0 else 200)]
     return text(lines + [""] * empty_lines + ["T 54000", "T 54001"])
+
+
+def longest_halt():
+    """The same 1,024 orders, entered in a halt: 1,023 trades in its auction, 70% above the open, so that another halt begins;
+    nothing is left over for its auction."""
+    lines = ["D 1000 0", "T 33300", "O 0 0 1 100 1000 0", "O 1 0 2 100 1000 0"]
+    lines += ["O 1 0 2 100 1300 0", "T 34200", "O 0 0 1 100 1300 0"]
+    for n in range(512):
+        lines += ["O 0 0 1 200 1700 0", "O 1 0 2 %d 1700 0" % (100 if n == 0 else 200)]
+    return text(lines + ["O 0 0 1 100 1700 0", "T 34799", "T 34800", "T 35399", "T 35400", "T 54000"])
 
 
 def longest_sweep(side):

@@ -10,6 +10,7 @@ import random
 import sys
 
 import desk
+import halting
 import made
 from program import ROOT, Counts, run
 
@@ -71,8 +72,8 @@ def sessions(seed):
         for turn in range(3):
             yield "%s mutated, %d" % (path.name, turn), mutated(random.Random("%d %s" % (seed, turn)), path.read_bytes())
     for turn in range(20):
-        day = made.RandomDays(seed + turn, days=2).session()
-        yield "random days mutated, %d" % turn, mutated(random.Random(seed + turn), day)
+        for name, days in ("random", made.RandomDays(seed + turn, days=2)), ("halting", halting.HaltingDays(seed + turn)):
+            yield "%s days mutated, %d" % (name, turn), mutated(random.Random(seed + turn), days.session())
 
 
 def main():
