@@ -10,10 +10,9 @@ use native.Mathlib.Decide.{decLe}
 use native.Mathlib.Omega.{arith}
 use borrow.Author.Tests.{leb-true, le-leb}
 use lib.Dec.{leb}
-use Rattle.book.specs.Standing.{Price}
+use Rattle.model.specs.Words.{Price, Most, BetterFills, OneFills, Qualifies}
 use Rattle.model.specs.declared.Order.{Order}
 use Rattle.model.specs.Auction.{prices, demand, supply, volume, buysAbove, sellsBelow, buysAt, sellsAt, mostTrades, betterFill, oneSideFills, qualifies}
-use Rattle.auction.specs.Rule.{Most, BetterFills, OneFills, Qualifies}
 use Rattle.model.proofs.Bools.{not-both, and-left, and-right, and-both, not-true-false}
 use Rattle.auction.proofs.Sides.{demand-falls, supply-rises, above-is, below-is, demand-splits, supply-splits}
 use Rattle.auction.proofs.Runs.{all-run, run-all}

@@ -16,12 +16,12 @@ use Rattle.model.specs.Book.{standsOn, better, ahead, insert, inPriority, queue
 use Rattle.model.specs.Matching.{meets}
 use Rattle.model.specs.Auction.{demand, supply}
 use Rattle.model.specs.Sound.{crosses}
-use Rattle.book.specs.Standing.{Each, Fair, Standing}
+use Rattle.model.specs.Words.{Each, Qualifies}
+use Rattle.book.specs.Standing.{Fair, Standing}
 use Rattle.book.proofs.Queues.{Stands, on-live, queue-stands}
 use Rattle.book.proofs.Best.{best-price}
 use Rattle.auction.specs.Interest.{tradesFor, brings, interest}
 use Rattle.auction.specs.Spans.{turned, turnOf}
-use Rattle.auction.specs.Rule.{Qualifies}
 use Rattle.model.proofs.Bools.{not-both, not-true-false, and-left, and-right, and-both}
 use Rattle.auction.proofs.Sums.{part-is, part-none}
 use Rattle.auction.proofs.Sides.{interest-buys, interest-sells, interest-next, interest-end, demand-falls, supply-rises, demand-top, supply-bottom}

@@ -15,7 +15,7 @@ use Rattle.model.specs.Matching.{meets}
 use Rattle.model.proofs.Bools.{not-true-false}
 use Rattle.book.specs.declared.Head.{Head}
 use Rattle.book.specs.Rows.{orderOf}
-use Rattle.book.specs.Standing.{Each}
+use Rattle.model.specs.Words.{Each}
 use Rattle.book.specs.Lines.{line}
 use Rattle.book.specs.Heads.{asOrder, waiting}
 use Rattle.book.proofs.Lists.{each}

@@ -16,4 +16,3 @@ pub mod Stopping
 pub mod Meeting
 pub mod Pricing
 pub mod Rules
-pub mod Stars

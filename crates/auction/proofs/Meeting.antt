@@ -16,7 +16,8 @@ use Rattle.model.specs.Auction.{distance, demand, supply, qualifying}
 use Rattle.model.proofs.Bools.{and-left, and-right}
 use Rattle.book.specs.declared.Head.{Head}
 use Rattle.book.specs.Rows.{bookOf}
-use Rattle.book.specs.Standing.{Price, Each, Ranked}
+use Rattle.model.specs.Words.{Each, Price}
+use Rattle.book.specs.Standing.{Ranked}
 use Rattle.book.specs.Lines.{line}
 use Rattle.book.specs.Heads.{headOf, headPast, waiting}
 use Rattle.book.proofs.Lists.{each, every, each-drop}

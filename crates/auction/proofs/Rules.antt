@@ -22,7 +22,8 @@ use Rattle.model.specs.ClockCall.{auctionPrice}
 use Rattle.model.specs.AuctionCalls.{due}
 use Rattle.book.specs.Standing.{Standing}
 use Rattle.auction.specs.Spans.{turnOf, flatter, nearestIn}
-use Rattle.auction.specs.Rule.{Qualifies, NoGap, Rising, PriceRule}
+use Rattle.model.specs.Words.{Rising, NoGap, Qualifies}
+use Rattle.auction.specs.Rule.{PriceRule}
 use Rattle.model.proofs.Bools.{true-or-false, not-both, not-true-false}
 use Rattle.auction.proofs.Runs.{run-length, run-at, run-has, has-run}
 use Rattle.auction.proofs.Conditions.{test-told, told-test}

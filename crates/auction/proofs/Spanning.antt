@@ -11,7 +11,7 @@ use Rattle.model.specs.Lists.{from}
 use Rattle.model.specs.Auction.{qualifying}
 use Rattle.auction.specs.declared.Span.{Span}
 use Rattle.auction.specs.Spans.{ends, turnOf}
-use Rattle.auction.specs.Rule.{Qualifies}
+use Rattle.model.specs.Words.{Qualifies}
 use Rattle.auction.proofs.Runs.{run-length, run-at}
 use Rattle.auction.proofs.Turning.{Turns, turn-law, between-turns, turned-qualifies}
 

@@ -7,7 +7,8 @@ use lib.ListN.{length, take}
 use Rattle.model.specs.declared.Order.{Order}
 use Rattle.model.specs.Book.{queue}
 use Rattle.book.specs.Rows.{bookOf}
-use Rattle.book.specs.Standing.{Price, Each, Ranked}
+use Rattle.model.specs.Words.{Each, Price}
+use Rattle.book.specs.Standing.{Ranked}
 use Rattle.book.specs.Lines.{line}
 use Rattle.book.proofs.Lists.{each, each-append}
 use Rattle.book.proofs.Queues.{Stands, on-live, queue-stands}

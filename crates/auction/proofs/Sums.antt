@@ -10,7 +10,8 @@ use Rattle.model.specs.declared.Order.{Order}
 use Rattle.model.specs.Choice.{if_then_else_}
 use Rattle.model.specs.Lists.{keep, total}
 use Rattle.model.specs.Auction.{sharesOf}
-use Rattle.book.specs.Standing.{Each, Fair, Ranked}
+use Rattle.model.specs.Words.{Each}
+use Rattle.book.specs.Standing.{Fair, Ranked}
 
 -- ---- a number where a test holds, else 0
 pub part-is : (b : Bool) (n : ℕ) → b ≡ true → (if b then n else 0) ≡ n

@@ -8,12 +8,11 @@ use native.Mathlib.Decide.{decLt, ℕ-discrete}
 use native.Mathlib.Omega.{arith}
 use borrow.Author.Tests.{leb-true, le-leb, ne-eqb, not-false}
 use lib.Dec.{leb}
-use Rattle.book.specs.Standing.{Price}
+use Rattle.model.specs.Words.{Price, Qualifies}
 use Rattle.model.specs.declared.Order.{Order}
 use Rattle.model.specs.Lists.{keep, from}
 use Rattle.model.specs.Auction.{prices, demand, supply, qualifies, qualifying}
 use Rattle.auction.specs.Spans.{covered, turned, turnOf}
-use Rattle.auction.specs.Rule.{Qualifies}
 use Rattle.model.proofs.Bools.{not-both, not-true-false, not-false-true, and-left, and-right, and-both}
 use Rattle.auction.proofs.Runs.{keep-run, run-at}
 use Rattle.auction.proofs.Conditions.{SellsCover, BuysCover, sells-cover-up, buys-cover-down, qualifies-clears, clears-qualifies, test-told, told-test}

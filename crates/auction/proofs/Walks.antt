@@ -16,7 +16,8 @@ use Rattle.model.specs.Auction.{sharesOf}
 use Rattle.model.proofs.Bools.{not-both}
 use Rattle.book.specs.declared.Head.{Head}
 use Rattle.book.specs.Rows.{orderOf, bookOf}
-use Rattle.book.specs.Standing.{Each, Standing, Ranked}
+use Rattle.model.specs.Words.{Each}
+use Rattle.book.specs.Standing.{Standing, Ranked}
 use Rattle.book.specs.Lines.{line}
 use Rattle.book.specs.Heads.{headOf, headPast, asOrder, waiting}
 use Rattle.book.proofs.Lists.{each, keep-keep, total-kept, total-zero}

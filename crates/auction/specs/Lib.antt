@@ -4,4 +4,3 @@ pub mod Spans
 pub mod Walks
 pub mod Rule
 pub mod Fitting
-pub mod Stars

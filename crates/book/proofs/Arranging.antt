@@ -12,7 +12,8 @@ use Rattle.model.specs.Lists.{keep, total}
 use Rattle.model.specs.Book.{free, standsOn, insert, inPriority, queue, headPrice, best, arranged}
 use Rattle.model.specs.Sound.{crosses}
 use Rattle.model.specs.Calls.{cleared}
-use Rattle.book.specs.Standing.{Each, Fair, Apart, Standing, Ranked}
+use Rattle.model.specs.Words.{Each, Apart}
+use Rattle.book.specs.Standing.{Fair, Standing, Ranked}
 use Rattle.book.proofs.Lists.{each, every, each-keep, each-append, each-take, kept-next}
 use Rattle.book.proofs.Sorting.{Distinct}
 use Rattle.book.proofs.Queues.{Place, place-of, each-queue, total-queue}

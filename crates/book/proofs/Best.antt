@@ -9,7 +9,8 @@ use borrow.Author.Tests.{eqb-true, eqb-false, lt-ltb}
 use Rattle.model.specs.declared.Order.{Order}
 use Rattle.model.specs.Lists.{keep}
 use Rattle.model.specs.Book.{standsOn, ahead, queue, headPrice, best}
-use Rattle.book.specs.Standing.{Each, Fair, Standing}
+use Rattle.model.specs.Words.{Each}
+use Rattle.book.specs.Standing.{Fair, Standing}
 use Rattle.book.specs.Priority.{rank, key}
 use Rattle.book.proofs.Lists.{both, each, every, each-keep, kept}
 use Rattle.book.proofs.Sorting.{byKey, Rising, rising-over, each-sorted}

@@ -13,7 +13,8 @@ use Rattle.model.specs.Lists.{keep, all}
 use Rattle.model.specs.Book.{free, isLive, standsOn, queue}
 use Rattle.model.specs.Matching.{settle}
 use Rattle.model.proofs.Bools.{not-both}
-use Rattle.book.specs.Standing.{Each, Fair}
+use Rattle.model.specs.Words.{Each}
+use Rattle.book.specs.Standing.{Fair}
 use Rattle.book.proofs.Lists.{keep-true, keep-false, length-keep}
 use Rattle.book.proofs.Queues.{Place, place-of, live-number, number-live, on-live, queue-length}
 use Rattle.book.proofs.Kept.{Less, after, after-less, free-number}

@@ -12,7 +12,8 @@ use Rattle.model.specs.declared.Trade.{Trade}
 use Rattle.model.specs.Book.{standsOn, other, best, free}
 use Rattle.model.specs.Matching.{meets, within, filledOf, lessBy, settle}
 use Rattle.model.specs.Sound.{crosses}
-use Rattle.book.specs.Standing.{Each, Fair, Standing}
+use Rattle.model.specs.Words.{Each}
+use Rattle.book.specs.Standing.{Fair, Standing}
 use Rattle.book.specs.Priority.{rank}
 use Rattle.book.proofs.Lists.{both, each, every}
 use Rattle.book.proofs.Queues.{on-side, on-live, same-stand}

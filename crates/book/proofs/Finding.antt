@@ -15,7 +15,7 @@ use Rattle.model.specs.Book.{free, isLive}
 use Rattle.model.specs.Calls.{isOwn}
 use Rattle.model.proofs.Bools.{and-left, and-right}
 use Rattle.book.specs.Rows.{orderOf, bookOf}
-use Rattle.book.specs.Standing.{Each, Apart}
+use Rattle.model.specs.Words.{Each, Apart}
 use Rattle.book.specs.Places.{firstWith, placeOf}
 use Rattle.book.proofs.Lists.{each, keep-true, keep-false, keep-all, keep-none}
 use Rattle.book.proofs.Queues.{live-number, ltb-same}

@@ -15,7 +15,8 @@ use Rattle.model.specs.Lists.{keep}
 use Rattle.model.specs.Book.{free, isLive, queue, arranged}
 use Rattle.model.specs.Matching.{lessBy, filledOf, settle}
 use Rattle.book.specs.Rows.{orderOf, bookOf}
-use Rattle.book.specs.Standing.{Each, Fair, Standing, Ranked}
+use Rattle.model.specs.Words.{Each}
+use Rattle.book.specs.Standing.{Fair, Standing, Ranked}
 use Rattle.book.specs.Lines.{line}
 use Rattle.book.specs.Settling.{offFront, placed, FreeFrom}
 use Rattle.book.proofs.Lists.{each, keep-true, keep-false, keep-all}

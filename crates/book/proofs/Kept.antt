@@ -13,7 +13,8 @@ use Rattle.model.specs.Lists.{keep}
 use Rattle.model.specs.Book.{free}
 use Rattle.model.specs.Matching.{filledOf, lessBy, settle}
 use Rattle.model.specs.Calls.{cleared}
-use Rattle.book.specs.Standing.{Each, Fair, Apart, Standing}
+use Rattle.model.specs.Words.{Each, Apart}
+use Rattle.book.specs.Standing.{Fair, Standing}
 use Rattle.book.proofs.Lists.{each, every, each-keep, keep-true, keep-false}
 
 pub fair-free : Fair free

@@ -9,7 +9,7 @@ use lib.ListN.{length, getD, set, take, drop}
 use lib.Seq.{sets}
 use Rattle.model.specs.Choice.{if_then_else_}
 use Rattle.model.specs.Lists.{keep, total}
-use Rattle.book.specs.Standing.{Each}
+use Rattle.model.specs.Words.{Each}
 
 module _ {A : Type 0} where
   pub keep-true : (p : A → Bool) (x : A) (xs : List A) → p x ≡ true → keep p (x ∷ xs) ≡ x ∷ keep p xs

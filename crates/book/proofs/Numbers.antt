@@ -10,7 +10,8 @@ use Rattle.model.specs.declared.Order.{Order}
 use Rattle.model.specs.Choice.{if_then_else_}
 use Rattle.model.specs.Lists.{total}
 use Rattle.model.specs.Book.{isLive, standsOn, queue}
-use Rattle.book.specs.Standing.{Each, Standing}
+use Rattle.model.specs.Words.{Each}
+use Rattle.book.specs.Standing.{Standing}
 use Rattle.book.proofs.Lists.{both, each, every, total-same, total-kept}
 use Rattle.book.proofs.Sorting.{Distinct}
 use Rattle.book.proofs.Queues.{Stands, on-live, on-side, queue-stands, total-queue}

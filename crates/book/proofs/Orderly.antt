@@ -12,7 +12,8 @@ use Rattle.model.specs.declared.Order.{Order}
 use Rattle.model.specs.Lists.{keep}
 use Rattle.model.specs.Book.{free, isLive, standsOn, ahead, queue, arranged, mayFollow, inOrder}
 use Rattle.model.proofs.Bools.{and-left, and-right, and-both, not-both}
-use Rattle.book.specs.Standing.{Each, Fair, Standing, Ordered}
+use Rattle.model.specs.Words.{Each, Ordered}
+use Rattle.book.specs.Standing.{Fair, Standing}
 use Rattle.book.specs.Priority.{key}
 use Rattle.book.specs.Seats.{seat, Seated}
 use Rattle.book.proofs.Lists.{keep-true, keep-false}

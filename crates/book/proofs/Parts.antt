@@ -9,7 +9,8 @@ use lib.Seq.{take-append-add, take-append-seam}
 use Rattle.model.specs.declared.Order.{Order}
 use Rattle.model.specs.Lists.{keep}
 use Rattle.model.specs.Book.{free, standsOn, queue, arranged}
-use Rattle.book.specs.Standing.{Each, Fair, Standing, Ordered, Ranked}
+use Rattle.model.specs.Words.{Each, Ordered}
+use Rattle.book.specs.Standing.{Fair, Standing, Ranked}
 use Rattle.book.specs.Priority.{key}
 use Rattle.book.proofs.Lists.{each, each-append, keep-all, keep-none, keep-append}
 use Rattle.book.proofs.Sorting.{Rising, rising-weakly, sort-weakly}

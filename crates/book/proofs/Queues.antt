@@ -14,7 +14,8 @@ use Rattle.model.specs.declared.Order.{Order}
 use Rattle.model.specs.Lists.{keep, total}
 use Rattle.model.specs.Book.{isLive, standsOn, better, ahead, insert, inPriority, queue}
 use Rattle.model.proofs.Bools.{and-left, and-right}
-use Rattle.book.specs.Standing.{Each, Fair, Apart, Standing}
+use Rattle.model.specs.Words.{Each, Apart}
+use Rattle.book.specs.Standing.{Fair, Standing}
 use Rattle.book.specs.Priority.{rank, key}
 use Rattle.book.proofs.Lists.{both, each, each-keep, kept}
 use Rattle.book.proofs.Sorting.{

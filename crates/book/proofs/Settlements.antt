@@ -11,7 +11,8 @@ use Rattle.model.specs.declared.Trade.{Trade}
 use Rattle.model.specs.Lists.{keep, total}
 use Rattle.model.specs.Book.{free}
 use Rattle.model.specs.Matching.{isIn, filled, filledOf, lessBy, settle}
-use Rattle.book.specs.Standing.{Each, Fair}
+use Rattle.model.specs.Words.{Each}
+use Rattle.book.specs.Standing.{Fair}
 
 -- ---- what trades fill, in all and of an order number
 

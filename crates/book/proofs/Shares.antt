@@ -11,7 +11,7 @@ use Rattle.model.specs.declared.Trade.{Trade}
 use Rattle.model.specs.Lists.{total}
 use Rattle.model.specs.Book.{free}
 use Rattle.model.specs.Matching.{isIn, filledOf, lessBy, settle}
-use Rattle.book.specs.Standing.{Each, Apart}
+use Rattle.model.specs.Words.{Each, Apart}
 use Rattle.book.proofs.Lists.{both, each, every, total-same, total-add, total-zero}
 use Rattle.book.proofs.Settlements.{part, filled-none, filled-cons}
 use Rattle.book.proofs.Kept.{free-left}

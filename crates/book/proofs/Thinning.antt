@@ -10,7 +10,8 @@ use Rattle.model.specs.declared.Trade.{Trade}
 use Rattle.model.specs.Lists.{keep}
 use Rattle.model.specs.Book.{free, isLive, standsOn, queue}
 use Rattle.model.specs.Matching.{settle}
-use Rattle.book.specs.Standing.{Each, Fair, Standing}
+use Rattle.model.specs.Words.{Each}
+use Rattle.book.specs.Standing.{Fair, Standing}
 use Rattle.book.specs.Priority.{key}
 use Rattle.book.proofs.Lists.{every, keep-true, keep-false, keep-keep, keep-same, each-keep}
 use Rattle.book.proofs.Sorting.{sortBy, byKey, thin-sort}

@@ -10,7 +10,7 @@ use borrow.Author.Tests.{lt-ltb, le-ltb}
 use Rattle.model.specs.declared.Order.{Order}
 use Rattle.book.specs.declared.Head.{Head}
 use Rattle.book.specs.Rows.{orderOf, bookOf}
-use Rattle.book.specs.Standing.{Each}
+use Rattle.model.specs.Words.{Each}
 use Rattle.book.specs.Heads.{headOf, headPast, asOrder, waiting}
 use Rattle.book.specs.Lines.{line}
 use Rattle.book.proofs.Lists.{each-drop}

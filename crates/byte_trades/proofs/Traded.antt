@@ -12,8 +12,8 @@ use Rattle.model.specs.declared.Day.{Day}
 use Rattle.model.specs.Calls.{Outcome, written}
 use Rattle.book.specs.Rows.{bookOf, tradeOf, tradesOf}
 use Rattle.book.specs.Promises.{callLeft}
-use Rattle.records.specs.Layout.{dayIn, bookIn, bookBytes, tradesIn, tradesBytes, over}
-use Rattle.records.proofs.Back.{AllBytes, length-book-in, length-trades-in, trades-front, trades-kept, book-kept}
+use Rattle.records.specs.Layout.{AllBytes, dayIn, bookIn, bookBytes, tradesIn, tradesBytes, over}
+use Rattle.records.proofs.Back.{length-book-in, length-trades-in, trades-front, trades-kept, book-kept}
 use Rattle.byte_trades.specs.declared.TradeAsked.{TradeAsked}
 use Rattle.byte_trades.specs.declared.TradeReply.{TradeReply}
 use Rattle.byte_trades.specs.declared.TradeAnswer.{TradeAnswer}

@@ -11,7 +11,7 @@ use Rattle.model.specs.declared.Event as Event
 use Rattle.model.specs.declared.OpenReply as OpenReply
 use Rattle.model.specs.Calls.{OpenOutcome, openCall}
 use Rattle.model.specs.Session.{Desk, opened, openAnswer, clockAnswer, orderAnswer, cancelAnswer, onDesk, eventAnswer, answer, lentPlaces, lentTrades}
-use Rattle.demands.specs.Pricing.{Sound}
+use Rattle.model.specs.Words.{Sound}
 use Rattle.demands.proofs.Demands.{keeping}
 use Rattle.demands.proofs.Pricings.{not-unsound}
 use Rattle.text.specs.Answers.{deskAfter}

@@ -1,7 +1,7 @@
 -- A desk on which no call gives 15.
 use mathlib.Core.Option.{Option, none, some}
 use Rattle.model.specs.Session.{Desk}
-use Rattle.demands.specs.Pricing.{Sound}
+use Rattle.model.specs.Words.{Sound}
 
 -- no day is open, or the open one is sound
 abbrev pub SoundDesk : Option Desk → Type 0

@@ -1,11 +1,10 @@
 -- No two differing outcomes meet a call's promise: reply, day, and every place of lent memory. A row of memory has its five
--- or four numbers; that is all that is asked of the rows. Assumes nothing.
+-- or six numbers; that is all that is asked of the rows. Assumes nothing.
 use Prim.Native.Nat.{ℕ}
 use mathlib.Core.Path.{_≡_, refl, sym, ap, _∙_}
 use mathlib.Core.List.{List, [], _∷_}
 use native.Mathlib.Omega.{arith}
 use lib.ListN.{length}
-use Rattle.model.specs.declared.Order.{Order}
 use Rattle.model.specs.declared.Asked.{Asked}
 use Rattle.model.specs.declared.Day.{Day}
 use Rattle.model.specs.declared.OpenReply.{OpenReply}
@@ -14,12 +13,13 @@ use Rattle.model.specs.declared.ClockAnswer.{ClockAnswer}
 use Rattle.model.specs.declared.CancelReply.{CancelReply}
 use Rattle.model.specs.declared.ReportReply.{ReportReply}
 use Rattle.model.specs.declared.ListReply.{ListReply}
-use Rattle.model.specs.Calls.{Outcome, OpenOutcome, CancelOutcome, openCall, orderCall, cancelCall}
+use Rattle.model.specs.Calls.{Outcome, OpenOutcome, CancelOutcome, orderCall}
 use Rattle.model.specs.ClockCall.{clockCall}
-use Rattle.model.specs.AuctionCalls.{ListOutcome, reportCall, listCall}
+use Rattle.model.specs.AuctionCalls.{ListOutcome}
 use Rattle.book.specs.Rows.{orderOf, rowOf, bookOf, rowsOf, tradeOf, tradeRow, tradesOf, tradeRows}
-use Rattle.book.specs.Standing.{Each}
-use Rattle.book.specs.Promises.{openLeft, callLeft, cancelLeft, listLeft}
+use Rattle.model.specs.Words.{Each}
+use Rattle.book.specs.Promises.{callLeft}
+use Rattle.day.specs.Promises.{OpenPromise, ClockPromise, OrderPromise, CancelPromise, ReportPromise, ListPromise}
 
 -- ---- rows are determined by what they say
 
@@ -70,8 +70,8 @@ pub open-determined :
     (close mark : ℕ) (before m n : List (List ℕ)) (r s : OpenReply)
     → Places m
     → Places n
-    → openLeft r m ≡ openCall close mark (bookOf before)
-    → openLeft s n ≡ openCall close mark (bookOf before)
+    → OpenPromise before close mark r m
+    → OpenPromise before close mark s n
     → (r ≡ s) × (m ≡ n)
 open-determined close mark before m n r s a b e f =
     (ap (λ (o : OpenOutcome). o .reply) (e ∙ sym f), same-places m n a b (ap (λ (o : OpenOutcome). o .book) (e ∙ sym f)))
@@ -98,8 +98,8 @@ pub order-determined :
     → Places n
     → Trades ts
     → Trades us
-    → callLeft r m ts ≡ orderCall d a (bookOf before) (tradesOf lent)
-    → callLeft s n us ≡ orderCall d a (bookOf before) (tradesOf lent)
+    → OrderPromise d before lent a r m ts
+    → OrderPromise d before lent a s n us
     → (r ≡ s) × (m ≡ n) × (ts ≡ us)
 order-determined d a before lent = trading-determined (orderCall d a (bookOf before) (tradesOf lent))
 
@@ -109,8 +109,8 @@ pub clock-determined :
     → Places n
     → Trades ts
     → Trades us
-    → callLeft r m ts ≡ clockCall d time (bookOf before) (tradesOf lent)
-    → callLeft s n us ≡ clockCall d time (bookOf before) (tradesOf lent)
+    → ClockPromise d before lent time r m ts
+    → ClockPromise d before lent time s n us
     → (r ≡ s) × (m ≡ n) × (ts ≡ us)
 clock-determined d time before lent = trading-determined (clockCall d time (bookOf before) (tradesOf lent))
 
@@ -118,20 +118,20 @@ pub cancel-determined :
     (d : Day) (account number : ℕ) (before m n : List (List ℕ)) (r s : CancelReply)
     → Places m
     → Places n
-    → cancelLeft r m ≡ cancelCall d account number (bookOf before)
-    → cancelLeft s n ≡ cancelCall d account number (bookOf before)
+    → CancelPromise d before account number r m
+    → CancelPromise d before account number s n
     → (r ≡ s) × (m ≡ n)
 cancel-determined d account number before m n r s a b e f =
     (ap (λ (o : CancelOutcome). o .reply) (e ∙ sym f), same-places m n a b (ap (λ (o : CancelOutcome). o .book) (e ∙ sym f)))
 
 pub report-determined :
-    (d : Day) (book : List Order) (r s : ReportReply) → r ≡ reportCall d book → s ≡ reportCall d book → r ≡ s
-report-determined d book r s e f = e ∙ sym f
+    (d : Day) (rows : List (List ℕ)) (r s : ReportReply) → ReportPromise d rows r → ReportPromise d rows s → r ≡ s
+report-determined d rows r s e f = e ∙ sym f
 
 pub list-determined :
-    (d : Day) (asked : ℕ) (book : List Order) (lent m n : List ℕ) (r s : ListReply)
-    → listLeft r m ≡ listCall d asked book lent
-    → listLeft s n ≡ listCall d asked book lent
+    (d : Day) (asked : ℕ) (rows : List (List ℕ)) (lent m n : List ℕ) (r s : ListReply)
+    → ListPromise d rows lent asked r m
+    → ListPromise d rows lent asked s n
     → (r ≡ s) × (m ≡ n)
-list-determined d asked book lent m n r s e f =
+list-determined d asked rows lent m n r s e f =
     (ap (λ (o : ListOutcome). o .reply) (e ∙ sym f), ap (λ (o : ListOutcome). o .prices) (e ∙ sym f))

@@ -10,10 +10,9 @@ use model::ListReply;
 use model::ReportReply;
 use soundness::is_sound;
 ghost use mathlib.Core.Path.{_≡_};
-ghost use Rattle.model.specs.AuctionCalls.{reportCall, listCall};
 ghost use Rattle.book.specs.Rows.{bookOf};
 ghost use Rattle.day.specs.Listings.{listRun, listReply};
-ghost use Rattle.book.specs.Promises.{listLeft};
+ghost use Rattle.day.specs.Promises.{ReportPromise, ListPromise};
 
 // The price list before it is written anywhere: refused, or the prices as a run.
 pub enum Listing {
@@ -22,7 +21,7 @@ pub enum Listing {
 }
 
 pub fn report_call(d: Day, rows: &[[u64; 5]]) -> ReportReply
-    ensures { λ r. ⌜ r ≡ reportCall d (bookOf (now (rows .entry))) ⌝ }
+    ensures { λ r. ⌜ ReportPromise d (now (rows .entry)) r ⌝ }
 {
     if !is_sound(d, rows) {
         return ReportReply::Refused(15);
@@ -54,7 +53,7 @@ pub fn list_reply(told: Listing) -> ListReply
 }
 
 pub fn list_call(d: Day, rows: &[[u64; 5]], prices: &mut [u64], asked: u64) -> ListReply
-    ensures { λ r. ⌜ listLeft r (now (prices .exit)) ≡ listCall d asked (bookOf (now (rows .entry))) (now (prices .entry)) ⌝ }
+    ensures { λ r. ⌜ ListPromise d (now (rows .entry)) (now (prices .entry)) asked r (now (prices .exit)) ⌝ }
 {
     let told = list_run(d, rows, prices.len(), asked);
     match told {

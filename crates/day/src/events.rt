@@ -10,14 +10,10 @@ use orders::cancelling::cancel_sound;
 use orders::entering::order_refused;
 use orders::entering::order_sound;
 use soundness::is_sound;
-ghost use mathlib.Core.Path.{_≡_};
-ghost use Rattle.model.specs.Calls.{orderCall, cancelCall};
-ghost use Rattle.model.specs.ClockCall.{clockCall};
-ghost use Rattle.book.specs.Rows.{bookOf, tradesOf};
-ghost use Rattle.book.specs.Promises.{callLeft, cancelLeft};
+ghost use Rattle.day.specs.Promises.{ClockPromise, OrderPromise, CancelPromise};
 
 pub fn clock_call(d: Day, rows: &mut [[u64; 5]], trades: &mut [[u64; 6]], time: u64) -> ClockAnswer
-    ensures { λ r. ⌜ callLeft r (now (rows .exit)) (now (trades .exit)) ≡ clockCall d time (bookOf (now (rows .entry))) (tradesOf (now (trades .entry))) ⌝ }
+    ensures { λ r. ⌜ ClockPromise d (now (rows .entry)) (now (trades .entry)) time r (now (rows .exit)) (now (trades .exit)) ⌝ }
 {
     if !is_sound(d, rows) {
         return clock_refused(d, 15);
@@ -26,7 +22,7 @@ pub fn clock_call(d: Day, rows: &mut [[u64; 5]], trades: &mut [[u64; 6]], time: 
 }
 
 pub fn order_call(d: Day, rows: &mut [[u64; 5]], trades: &mut [[u64; 6]], a: Asked) -> OrderAnswer
-    ensures { λ r. ⌜ callLeft r (now (rows .exit)) (now (trades .exit)) ≡ orderCall d a (bookOf (now (rows .entry))) (tradesOf (now (trades .entry))) ⌝ }
+    ensures { λ r. ⌜ OrderPromise d (now (rows .entry)) (now (trades .entry)) a r (now (rows .exit)) (now (trades .exit)) ⌝ }
 {
     if !is_sound(d, rows) {
         return order_refused(d, 15);
@@ -35,7 +31,7 @@ pub fn order_call(d: Day, rows: &mut [[u64; 5]], trades: &mut [[u64; 6]], a: Ask
 }
 
 pub fn cancel_call(d: Day, rows: &mut [[u64; 5]], account: u64, number: u64) -> CancelReply
-    ensures { λ r. ⌜ cancelLeft r (now (rows .exit)) ≡ cancelCall d account number (bookOf (now (rows .entry))) ⌝ }
+    ensures { λ r. ⌜ CancelPromise d (now (rows .entry)) account number r (now (rows .exit)) ⌝ }
 {
     if !is_sound(d, rows) {
         return CancelReply::Refused(15);

@@ -8,9 +8,8 @@ ghost use mathlib.Core.Path.{_≡_};
 ghost use mathlib.Core.Bool.{_&&_};
 ghost use Rattle.model.specs.Limits.{isPrice};
 ghost use Rattle.model.specs.Sound.{isMark, hasPlaces};
-ghost use Rattle.model.specs.Calls.{openCall};
 ghost use Rattle.book.specs.Rows.{bookOf};
-ghost use Rattle.book.specs.Promises.{openLeft};
+ghost use Rattle.day.specs.Promises.{OpenPromise};
 
 // Previous close, mark and places are what a day can have.
 fn may_open(rows: &[[u64; 5]], close: u64, mark: u64) -> bool
@@ -21,7 +20,7 @@ fn may_open(rows: &[[u64; 5]], close: u64, mark: u64) -> bool
 
 // Every place is made free. An opening reads nothing of the old day.
 pub fn open_call(rows: &mut [[u64; 5]], close: u64, mark: u64) -> OpenReply
-    ensures { λ r. ⌜ openLeft r (now (rows .exit)) ≡ openCall close mark (bookOf (now (rows .entry))) ⌝ }
+    ensures { λ r. ⌜ OpenPromise (now (rows .entry)) close mark r (now (rows .exit)) ⌝ }
 {
     if !may_open(rows, close, mark) {
         return OpenReply::Refused(14);

@@ -17,9 +17,8 @@ use Rattle.model.specs.ClockCall.{clockRules}
 use Rattle.model.specs.Replies.{orderNumbers, cancelNumbers, clockNumbers}
 use Rattle.model.specs.Session.{Desk}
 use Rattle.model.proofs.Rules.{skip}
-use Rattle.book.specs.Standing.{Each}
+use Rattle.model.specs.Words.{Each, Sound}
 use Rattle.model.proofs.Bools.{not-both}
-use Rattle.demands.specs.Pricing.{Sound}
 use Rattle.demands.specs.Running.{isOpening, answeredBy, steppedBy}
 use Rattle.demands.proofs.FirstRules.{not-given}
 use Rattle.demands.proofs.Cases.{order-cases, cancel-cases, clock-cases}

@@ -11,7 +11,8 @@ use Rattle.model.specs.declared.Order.{Order}
 use Rattle.model.specs.declared.Day.{Day}
 use Rattle.model.specs.Book.{free, standsOn, queue, arranged}
 use Rattle.model.specs.Sound.{hasPlaces}
-use Rattle.book.specs.Standing.{Each, Fair, Standing, Ordered}
+use Rattle.model.specs.Words.{Each, Some, Ordered, Sound}
+use Rattle.book.specs.Standing.{Fair, Standing}
 use Rattle.book.proofs.Lists.{both, each, at-each}
 use Rattle.book.proofs.Queues.{Place as Side, place-of}
 use Rattle.book.proofs.Best.{each-on}
@@ -20,8 +21,6 @@ use Rattle.book.proofs.Parts.{spareIn, arranged-is}
 use Rattle.book.proofs.Arranging.{each-arranged, arranged-length, arranged-stands, arranged-ranked, arranged-crosses, total-arranged}
 use Rattle.soundness.specs.SoundDay.{Place}
 use Rattle.soundness.proofs.SoundDays.{day-sound, few-places}
-use Rattle.matching.proofs.Trades.{Some}
-use Rattle.demands.specs.Pricing.{Sound}
 use Rattle.demands.specs.Owning.{StandsOnce}
 use Rattle.demands.proofs.Elements.{some-left, some-right, some-at, each-some}
 use Rattle.demands.proofs.Places.{stands-once}

@@ -17,7 +17,7 @@ use Rattle.book.proofs.Counting.{queues-fit}
 use Rattle.book.proofs.Crossing.{SellsAbove, Uncrossed, uncrossed, not-crossed}
 use Rattle.soundness.specs.SoundDay.{Place, SoundDay}
 use Rattle.soundness.proofs.SoundDays.{sound-day}
-use Rattle.demands.specs.Pricing.{Sound}
+use Rattle.model.specs.Words.{Sound}
 use Rattle.demands.proofs.Cases.{cancel-cases}
 use Rattle.demands.proofs.Pricings.{sound-stands}
 use Rattle.demands.proofs.Wholes.{Whole, Timely, whole-of, timely-of}

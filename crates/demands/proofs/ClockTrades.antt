@@ -18,7 +18,8 @@ use Rattle.model.specs.ClockCall.{auctionTrades, hold, start, moved}
 use Rattle.book.specs.Standing.{Standing}
 use Rattle.pairing.proofs.Auctions.{uncrossed-none, afterwards, afterwards-stands, afterwards-uncrossed}
 use Rattle.pairing.proofs.Moves.{both, moved-by}
-use Rattle.demands.specs.Pricing.{Sound, TradesThere, ClockTrades}
+use Rattle.model.specs.Words.{Sound}
+use Rattle.demands.specs.Pricing.{TradesThere, ClockTrades}
 use Rattle.demands.proofs.Cases.{isMoved, madeOf, clock-cases}
 use Rattle.demands.proofs.Pricings.{sound-stands, trades-there}
 

@@ -6,8 +6,7 @@ use mathlib.Core.Logic.{inl, inr, ⊎-elim}
 use native.Mathlib.Omega.{arith}
 use native.Mathlib.Nat.{le-of-suc-le-suc, not-suc-le-zero}
 use lib.ListN.{length, getD}
-use Rattle.book.specs.Standing.{Each}
-use Rattle.matching.proofs.Trades.{Some}
+use Rattle.model.specs.Words.{Each, Some}
 
 module _ {A : Type 0} where
   pub each-map : {B : Type 0} (P : B → Type 0) (f : A → B) (xs : List A) → Each (λ x. P (f x)) xs → Each P (map f xs)

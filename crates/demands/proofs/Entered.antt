@@ -22,19 +22,18 @@ use Rattle.model.specs.Entry.{entryTrades, restPrice}
 use Rattle.model.specs.Refusals.{_when_, firstOf}
 use Rattle.model.specs.Calls.{orderRules, joined, entered, orderCall}
 use Rattle.model.proofs.Bools.{and-left, and-right, and-true, not-both}
-use Rattle.book.specs.Standing.{Price, Each, Standing}
+use Rattle.model.specs.Words.{Each, Price, Sized, Sound}
+use Rattle.book.specs.Standing.{Standing}
 use Rattle.book.proofs.Lists.{each}
 use Rattle.book.proofs.Kept.{New, free-number}
 use Rattle.soundness.specs.SoundDay.{InBand, Rests, Place, SoundDay}
 use Rattle.soundness.proofs.Clauses.{says-price, says-band}
-use Rattle.soundness.specs.Sized.{Sized}
 use Rattle.soundness.proofs.Sizes.{says-quantity, sized-most}
 use Rattle.soundness.proofs.SoundDays.{sound-day, next-new}
 use Rattle.matching.proofs.EntryLaws.{entry-filled, remainder, ordersThen}
 use Rattle.matching.proofs.EntryKept.{entered-standing, entered-fits, entered-shares}
 use Rattle.matching.proofs.AfterEntry.{entered-uncrossed}
 use Rattle.demands.specs.Refusing.{NoneOf}
-use Rattle.demands.specs.Pricing.{Sound}
 use Rattle.demands.proofs.FirstRules.{gives-none}
 use Rattle.demands.proofs.Refusals.{order-numbers}
 use Rattle.demands.proofs.Cases.{order-cases}

@@ -23,9 +23,9 @@ use Rattle.model.specs.Figures.{nextNumber}
 use Rattle.model.specs.Entry.{opposite, entryTrades, restPrice}
 use Rattle.model.specs.Replies.{restingOf, withdrawnOf}
 use Rattle.model.specs.Calls.{Outcome, ended, joined, entered, orderCall}
-use Rattle.book.specs.Standing.{Each}
+use Rattle.model.specs.Words.{Each, Some}
 use Rattle.book.proofs.Lists.{each}
-use Rattle.matching.proofs.Trades.{Some, Deal}
+use Rattle.matching.proofs.Trades.{Deal}
 use Rattle.matching.proofs.EntryLaws.{entry-cases, taker, entry-filled, entry-levels, entry-deals, entry-allowed, rest-limit}
 use Rattle.demands.specs.Entering.{With, InPriority, Accepted}
 use Rattle.demands.proofs.Elements.{some-map}

@@ -16,7 +16,8 @@ use Rattle.model.specs.Lists.{total}
 use Rattle.model.specs.Book.{standsOn, best, other}
 use Rattle.model.specs.Matching.{meets, within, tradeWith, sweep, filled, lastPrice}
 use Rattle.model.specs.Entry.{bestWithin, entryPrice, opposite, entryTrades, restPrice}
-use Rattle.book.specs.Standing.{Price, Each, Fair}
+use Rattle.model.specs.Words.{Each, Price}
+use Rattle.book.specs.Standing.{Fair}
 use Rattle.book.proofs.Lists.{each}
 use Rattle.book.proofs.Queues.{on-live}
 use Rattle.book.proofs.Best.{on-each, best-has}

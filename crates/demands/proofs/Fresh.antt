@@ -19,7 +19,7 @@ use Rattle.model.specs.Sound.{isMark, hasPlaces}
 use Rattle.model.specs.Refusals.{_when_, firstOf}
 use Rattle.model.specs.Calls.{OpenOutcome, cleared, openRules, openCall}
 use Rattle.model.proofs.Bools.{and-left, and-right}
-use Rattle.book.specs.Standing.{Apart}
+use Rattle.model.specs.Words.{Apart, Sound}
 use Rattle.book.proofs.Lists.{each, total-zero}
 use Rattle.book.proofs.Kept.{free-left, free-number}
 use Rattle.book.proofs.Arranging.{cleared-ranked}
@@ -27,7 +27,6 @@ use Rattle.soundness.specs.SoundDay.{Place, Empty}
 use Rattle.soundness.proofs.Says.{says-le}
 use Rattle.soundness.proofs.Clauses.{says-price}
 use Rattle.soundness.proofs.SoundDays.{day-sound, few-places}
-use Rattle.demands.specs.Pricing.{Sound}
 use Rattle.demands.proofs.Wholes.{Whole, Timely, sound-of}
 
 pub cleared-empty : (book : List Order) → Empty (cleared book)

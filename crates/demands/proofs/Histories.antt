@@ -15,31 +15,11 @@ use Rattle.model.specs.AuctionCalls.{ListOutcome}
 use Rattle.model.specs.Session.{Desk}
 use Rattle.model.proofs.Bools.{not-both}
 use Rattle.soundness.proofs.SoundDays.{sound-day, day-stands, sound-ordered}
-use Rattle.demands.specs.Pricing.{Sound}
+use Rattle.model.specs.Words.{Sound}
 use Rattle.demands.specs.Keeping.{Keeping}
 use Rattle.demands.specs.Running.{isOpening}
-use Rattle.demands.specs.Older.{
-  olderOrderCall,
-  olderCancelCall,
-  olderClockCall,
-  AnyCall,
-  Happens,
-  Reports,
-  Lists,
-  Cancelled,
-  Reported,
-  Listed,
-  older,
-  present,
-  eventSeen,
-  seen,
-  eventDesk,
-  stepped,
-  allSeen,
-  after,
-  SameHistory,
-  SameHistories,
-}
+use Rattle.demands.specs.Histories.{AnyCall, Happens, Reports, Lists, Cancelled, Reported, Listed, present, eventSeen, seen, eventDesk, stepped, allSeen, after}
+use Rattle.demands.specs.Older.{olderOrderCall, olderCancelCall, olderClockCall, older, SameHistory, SameHistories}
 use Rattle.demands.proofs.Twins.{Twin, Agree}
 use Rattle.demands.proofs.OlderReports.{older-report, older-list}
 use Rattle.demands.proofs.OlderCancels.{Freed, older-cancel}

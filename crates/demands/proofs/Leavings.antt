@@ -25,16 +25,15 @@ use Rattle.model.specs.Entry.{entryTrades, restPrice}
 use Rattle.model.specs.Replies.{restingOf}
 use Rattle.model.specs.Calls.{written, ended, joined, entered, orderCall}
 use Rattle.model.specs.ClockCall.{auctionTrades, hold, start, moved, clockCall}
-use Rattle.book.specs.Standing.{Each, Fair, Standing}
+use Rattle.model.specs.Words.{Each, Some, Sound}
+use Rattle.book.specs.Standing.{Fair, Standing}
 use Rattle.book.proofs.Lists.{both as each-both, each, every, each-at}
 use Rattle.book.proofs.Kept.{New, new-fresh, free-number, less-by, standing-settle, fresh-settle}
 use Rattle.book.proofs.Settlements.{filled-none, part, filled-cons, less-some}
 use Rattle.soundness.proofs.SoundDays.{sound-day, next-new}
-use Rattle.matching.proofs.Trades.{Some}
 use Rattle.matching.proofs.EntryLaws.{remainder, ordersThen}
 use Rattle.pairing.proofs.Auctions.{uncrossed-none, settled-fit, afterwards, afterwards-stands, afterwards-uncrossed}
 use Rattle.pairing.proofs.Moves.{both, moved-by}
-use Rattle.demands.specs.Pricing.{Sound}
 use Rattle.demands.specs.Leaving.{leftIn, Falls, lastLeft, Stands, EachFalls, EachStands, Incoming}
 use Rattle.demands.proofs.Elements.{each-map, some-at}
 use Rattle.demands.proofs.Places.{stands-once, behind-equals}

@@ -40,7 +40,10 @@ pub mod OlderCancels
 pub mod OlderClocks
 pub mod OlderOrders
 pub mod Histories
+pub mod Chains
 pub mod Orderings
+pub mod TurnTests
+pub mod LineRefusals
 pub mod Stars
 pub mod ClockTrades
 pub mod Demands

@@ -20,7 +20,7 @@ use Rattle.model.specs.Calls.{orderRules, orderCall}
 use Rattle.model.specs.ClockCall.{moved, clockRules, clockCall}
 use Rattle.model.proofs.Bools.{not-both}
 use Rattle.model.proofs.Rules.{hit}
-use Rattle.book.specs.Standing.{Each}
+use Rattle.model.specs.Words.{Each}
 use Rattle.matching.proofs.EntryLaws.{entry-few}
 use Rattle.pairing.proofs.Moves.{moved-few}
 use Rattle.demands.specs.Refusing.{NeverLacking}

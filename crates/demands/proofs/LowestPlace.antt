@@ -11,7 +11,8 @@ use Rattle.model.specs.declared.Order.{Order}
 use Rattle.model.specs.Lists.{keep, all}
 use Rattle.model.specs.Book.{isLive, standsOn, queue}
 use Rattle.model.proofs.Bools.{not-both}
-use Rattle.book.specs.Standing.{Each, Fair, Apart, Standing}
+use Rattle.model.specs.Words.{Each, Apart}
+use Rattle.book.specs.Standing.{Fair, Standing}
 use Rattle.book.specs.Priority.{key}
 use Rattle.book.proofs.Lists.{both, keep-true, keep-false}
 use Rattle.book.proofs.Sorting.{insertBy, sortBy, byKey}

@@ -22,7 +22,8 @@ use Rattle.model.specs.Refusals.{_when_, firstOf}
 use Rattle.model.specs.Calls.{cleared}
 use Rattle.model.specs.ClockCall.{auctionPrice, auctionTrades, Held, hold, pass, through, start, moved, clockRules, clockCall}
 use Rattle.model.proofs.Bools.{not-both}
-use Rattle.book.specs.Standing.{Price, Standing, Ordered}
+use Rattle.model.specs.Words.{Price, Ordered, Sound}
+use Rattle.book.specs.Standing.{Standing}
 use Rattle.book.proofs.Lists.{each}
 use Rattle.book.proofs.Kept.{standing-settle}
 use Rattle.book.proofs.Arranging.{cleared-ranked}
@@ -30,7 +31,7 @@ use Rattle.soundness.specs.SoundDay.{Empty, SoundDay}
 use Rattle.soundness.proofs.SoundDays.{sound-day, sound-ordered, day-sound, few-places}
 use Rattle.pairing.proofs.Moves.{both, moved-by}
 use Rattle.pairing.proofs.Auctions.{auction-priced, auction-shares, auction-cases, settled-fit, afterwards-uncrossed}
-use Rattle.demands.specs.Pricing.{Sound, EachAuction}
+use Rattle.demands.specs.Pricing.{EachAuction}
 use Rattle.demands.proofs.FirstRules.{gives-none}
 use Rattle.demands.proofs.Refusals.{clock-numbers}
 use Rattle.demands.proofs.Cases.{clock-cases}

@@ -12,13 +12,13 @@ use Rattle.model.specs.Book.{free, isLive, standsOn, queue, arranged}
 use Rattle.model.specs.Refusals.{firstOf}
 use Rattle.model.specs.Calls.{CancelOutcome, isOwn, cancelRules, cancelCall}
 use Rattle.model.proofs.Bools.{not-both}
-use Rattle.book.specs.Standing.{Each, Fair, Apart, Standing}
+use Rattle.model.specs.Words.{Each, Apart, Sound}
+use Rattle.book.specs.Standing.{Fair, Standing}
 use Rattle.book.specs.Priority.{key}
 use Rattle.book.proofs.Lists.{each, every, keep-true, keep-false, total-kept}
 use Rattle.book.proofs.Queues.{Stands, on-live, number-live, queue-stands}
 use Rattle.book.proofs.Kept.{Fresh, fair-free, free-number}
 use Rattle.book.proofs.Thinning.{free-nowhere, free-gone, queue-changed, queue-kept}
-use Rattle.demands.specs.Pricing.{Sound}
 use Rattle.demands.specs.Older.{olderRules, olderCancelCall}
 use Rattle.demands.proofs.Twins.{either, Twin, twin-of, twin-stands, twin-length, twin-alike, twin-none, twin-total}
 use Rattle.demands.proofs.OlderSound.{older-sound, newer-sound}

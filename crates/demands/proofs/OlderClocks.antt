@@ -11,7 +11,7 @@ use Rattle.model.specs.declared.Boundary.{Boundary}
 use Rattle.model.specs.Clock.{passes, boundaries}
 use Rattle.model.specs.Refusals.{firstOf}
 use Rattle.model.specs.ClockCall.{Held, auctionTrades, hold, pass, through, start, moved, clockRules, clockCall}
-use Rattle.demands.specs.Pricing.{Sound}
+use Rattle.model.specs.Words.{Sound}
 use Rattle.demands.specs.Older.{olderHold, olderThrough, olderMoved, olderClockRules, olderClockCall}
 use Rattle.demands.proofs.SameQueues.{auctioned-alike}
 use Rattle.demands.proofs.Twins.{either, Twin, Agree, twin-length, twin-alike, settled-twin, cleared-twin}

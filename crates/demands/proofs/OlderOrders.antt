@@ -20,7 +20,8 @@ use Rattle.model.specs.Entry.{entryTrades, restPrice}
 use Rattle.model.specs.Refusals.{firstOf}
 use Rattle.model.specs.Calls.{orderRules, joined, entered, orderCall}
 use Rattle.model.proofs.Bools.{and-both, not-both}
-use Rattle.book.specs.Standing.{Each, Fair, Standing}
+use Rattle.model.specs.Words.{Each, Sound}
+use Rattle.book.specs.Standing.{Fair, Standing}
 use Rattle.book.proofs.Lists.{each, each-parts, keep-true, keep-false}
 use Rattle.book.proofs.Queues.{number-live, queue-length}
 use Rattle.book.proofs.Best.{each-on}
@@ -29,7 +30,6 @@ use Rattle.book.proofs.Counting.{orders, queues-orders, not-full, has-room, few
 use Rattle.book.proofs.Parts.{not-here, spareIn, arranged-is}
 use Rattle.book.proofs.Arranging.{queue-with}
 use Rattle.soundness.proofs.SoundDays.{sound-day, day-stands, next-new}
-use Rattle.demands.specs.Pricing.{Sound}
 use Rattle.demands.specs.Older.{rest, olderPlaced, olderRules, olderEntered, olderOrderCall}
 use Rattle.demands.proofs.Settled.{settle-length}
 use Rattle.demands.proofs.Entered.{Allowed, allowed}

@@ -6,7 +6,7 @@ use Rattle.model.specs.declared.Order.{Order}
 use Rattle.model.specs.declared.Day.{Day}
 use Rattle.model.specs.ClockCall.{auctionPrice}
 use Rattle.model.specs.AuctionCalls.{reportRules, reportCall, listRules, listCall}
-use Rattle.demands.specs.Pricing.{Sound}
+use Rattle.model.specs.Words.{Sound}
 use Rattle.demands.specs.Older.{olderRules, olderReportCall, olderListCall}
 use Rattle.demands.proofs.SameQueues.{auction-alike, report-alike, due-alike}
 use Rattle.demands.proofs.Twins.{Twin, twin-alike}

@@ -12,7 +12,7 @@ use Rattle.model.proofs.Bools.{and-both}
 use Rattle.book.proofs.Kept.{free-left}
 use Rattle.soundness.specs.SoundDay.{Place, SoundDay}
 use Rattle.soundness.proofs.SoundDays.{says-anywhere, sound-day}
-use Rattle.demands.specs.Pricing.{Sound}
+use Rattle.model.specs.Words.{Sound}
 use Rattle.demands.specs.Older.{olderUnsound}
 use Rattle.demands.proofs.SameQueues.{best-alike}
 use Rattle.demands.proofs.Twins.{Twin, twin-alike, twin-places, twin-each, twin-total}

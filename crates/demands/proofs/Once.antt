@@ -9,7 +9,7 @@ use borrow.Author.Tests.{eq-eqb}
 use Rattle.model.specs.declared.Order.{Order}
 use Rattle.model.specs.Lists.{keep}
 use Rattle.model.specs.Book.{standsOn, queue}
-use Rattle.book.specs.Standing.{Each, Apart}
+use Rattle.model.specs.Words.{Each, Apart}
 use Rattle.book.proofs.Lists.{each, each-keep, total-keep}
 use Rattle.book.proofs.Queues.{each-queue, total-queue}
 use Rattle.book.proofs.Shares.{ofNumber, Only, each-only}

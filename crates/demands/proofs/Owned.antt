@@ -21,10 +21,9 @@ use Rattle.model.specs.Entry.{entryTrades}
 use Rattle.model.specs.Calls.{isOwn, cleared, joined, entered}
 use Rattle.model.specs.ClockCall.{auctionTrades, Held, hold, pass, through, start, moved}
 use Rattle.model.specs.Session.{Desk}
-use Rattle.book.specs.Standing.{Each}
+use Rattle.model.specs.Words.{Each, Some}
 use Rattle.book.proofs.Lists.{each, every, each-keep}
 use Rattle.book.proofs.Kept.{free-number}
-use Rattle.matching.proofs.Trades.{Some}
 use Rattle.model.proofs.Bools.{not-both}
 use Rattle.demands.specs.Running.{
   isOpening,
@@ -144,7 +143,7 @@ module _ (ws : List Owner) (d : Day) (a : Asked) (book : List Order) (w : Owned 
 
 -- ---- events and runs
 
-event-owned :
+pub event-owned :
     (ws : List Owner) (e : Event.Event) → isOpening e ≡ false → (lent : List Trade) (s : Desk)
     → Owned ws (s .book)
     → Owned (ws ++ acceptedBy e lent s) (steppedBy e lent s .book)

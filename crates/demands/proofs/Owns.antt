@@ -23,7 +23,7 @@ use Rattle.book.proofs.Queues.{live-number}
 use Rattle.book.proofs.Finding.{first-passes, own-any, cancel-left}
 use Rattle.book.proofs.TakenOut.{cancel-arranged}
 use Rattle.demands.specs.Refusing.{NoneOf}
-use Rattle.demands.specs.Pricing.{Sound}
+use Rattle.model.specs.Words.{Sound}
 use Rattle.demands.specs.Owning.{TakesOut}
 use Rattle.demands.proofs.FirstRules.{gives-none}
 use Rattle.demands.proofs.Refusals.{cancel-numbers}

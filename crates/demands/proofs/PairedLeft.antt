@@ -17,10 +17,12 @@ use Rattle.model.specs.Matching.{isIn}
 use Rattle.model.specs.Auction.{volume}
 use Rattle.model.specs.Pairing.{Share, cut, headLess, pair, tradesAt}
 use Rattle.model.specs.ClockCall.{auctionPrice, auctionTrades}
-use Rattle.book.specs.Standing.{Each, Fair, Standing}
+use Rattle.model.specs.Words.{Each}
+use Rattle.book.specs.Standing.{Fair, Standing}
 use Rattle.book.proofs.Lists.{both, each}
 use Rattle.book.proofs.Best.{each-on}
-use Rattle.pairing.proofs.Turns.{head-stays, head-goes, dealt, pair-turn, pair-no-buy, pair-no-sell, cut-some, cut-nothing, cut-nobody}
+use Rattle.pairing.specs.Dealing.{dealt}
+use Rattle.pairing.proofs.Turns.{head-stays, head-goes, dealt-quantity, pair-turn, pair-no-buy, pair-no-sell, cut-some, cut-nothing, cut-nobody}
 use Rattle.book.proofs.Queues.{place-of}
 use Rattle.book.proofs.Numbers.{times, times-other, none-bears}
 use Rattle.pairing.proofs.Auctions.{auction-trades-are}
@@ -135,10 +137,6 @@ module _ (n : ℕ) where
     seller-left : (b .number ≡ n → ⊥) → leftIn n (dealt p b s) ≡ s .whole - both-left
     unfolding leftIn dealt
     seller-left d = rw (ne-eqb (b .number) n d)
-
-    dealt-quantity : dealt p b s .quantity ≡ both-left
-    unfolding dealt
-    dealt-quantity = refl
 
   -- ---- turn by turn
 

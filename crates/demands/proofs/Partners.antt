@@ -15,10 +15,10 @@ use Rattle.model.specs.Book.{queue}
 use Rattle.model.specs.Matching.{meets}
 use Rattle.model.specs.Auction.{volume}
 use Rattle.model.specs.Pairing.{Share, cut, headLess, pair, tradesAt}
-use Rattle.book.specs.Standing.{Each, Standing}
+use Rattle.model.specs.Words.{Each, Some}
+use Rattle.book.specs.Standing.{Standing}
 use Rattle.book.proofs.Lists.{each}
 use Rattle.book.proofs.Best.{InTurn, queue-in-turn}
-use Rattle.matching.proofs.Trades.{Some}
 use Rattle.auction.specs.Walks.{reach}
 use Rattle.auction.proofs.Sides.{interest-buys, interest-sells}
 use Rattle.auction.proofs.Walks.{interest-reach, reach-next}

@@ -8,13 +8,13 @@ use native.Mathlib.Nat.{le-of-suc-le-suc, not-suc-le-zero}
 use lib.ListN.{length, getD}
 use Rattle.model.specs.declared.Order.{Order}
 use Rattle.model.specs.Book.{free}
-use Rattle.book.specs.Standing.{Apart, Ranked}
+use Rattle.model.specs.Words.{Some, Apart}
+use Rattle.book.specs.Standing.{Ranked}
 use Rattle.book.specs.Priority.{rank, key}
 use Rattle.book.specs.Seats.{seat, Seated}
 use Rattle.book.proofs.Lists.{each-at}
 use Rattle.book.proofs.Parts.{parts-of}
 use Rattle.book.proofs.Seating.{seat-live, seated}
-use Rattle.matching.proofs.Trades.{Some}
 use Rattle.demands.specs.Owning.{StandsOnce}
 use Rattle.demands.proofs.Elements.{some-place}
 

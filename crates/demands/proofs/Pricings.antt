@@ -21,7 +21,7 @@ use Rattle.model.proofs.Bools.{and-left, and-right, not-both, true-or-false, an
 use Rattle.book.specs.Standing.{Standing, Ranked}
 use Rattle.book.proofs.Crossing.{uncrossed, not-crossed}
 use Rattle.soundness.proofs.SoundDays.{ranked}
-use Rattle.auction.specs.Rule.{Rising}
+use Rattle.model.specs.Words.{Rising, Sound}
 use Rattle.auction.specs.Spans.{ends}
 use Rattle.auction.proofs.Runs.{run-length, run-at}
 use Rattle.auction.proofs.Spanning.{Spans, span-law}
@@ -30,7 +30,7 @@ use Rattle.auction.proofs.Rules.{listed-qualifies, qualifies-listed, due-names,
 use Rattle.pairing.proofs.Auctioned.{buys-filled, sells-filled}
 use Rattle.pairing.proofs.Auctions.{auction-trades-are, auction-filled, auction-priced, auction-cases, afterwards, afterwards-stands, afterwards-uncrossed}
 use Rattle.demands.proofs.Partners.{partners}
-use Rattle.demands.specs.Pricing.{Sound, Listing, Called, OneLeft, TradesThere}
+use Rattle.demands.specs.Pricing.{Listing, Called, OneLeft, TradesThere}
 
 -- ---- a sound day
 

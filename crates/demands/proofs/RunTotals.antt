@@ -6,7 +6,7 @@ use mathlib.Core.List.{List, [], _∷_}
 use native.Mathlib.Omega.{arith}
 use lib.Dec.{eqb}
 use borrow.Author.Tests.{ne-eqb}
-use Rattle.book.specs.Standing.{Price}
+use Rattle.model.specs.Words.{Price, Sound}
 use Rattle.model.specs.declared.Event as Event
 use Rattle.model.specs.declared.Trade.{Trade}
 use Rattle.model.specs.declared.Day.{Day}
@@ -15,7 +15,6 @@ use Rattle.model.specs.Figures.{reference, closePrice}
 use Rattle.model.specs.Session.{Desk}
 use Rattle.book.proofs.Lists.{each-append}
 use Rattle.model.proofs.Bools.{not-both}
-use Rattle.demands.specs.Pricing.{Sound}
 use Rattle.demands.specs.Totalling.{Totals}
 use Rattle.demands.specs.Running.{isOpening, Call, tradesOfEvent, tradedBy, steppedBy, stepped, after, tradesIn}
 use Rattle.demands.proofs.Totals.{Prices, totals-join, totals-none, order-totals, order-prices, clock-totals, clock-prices}

@@ -13,12 +13,10 @@ use Rattle.model.specs.Matching.{firstPrice, lastPrice}
 use Rattle.model.specs.Figures.{freshDay, openPrice, closePrice}
 use Rattle.model.specs.Calls.{cancelCall}
 use Rattle.model.specs.Session.{Desk}
-use Rattle.book.specs.Standing.{Each}
+use Rattle.model.specs.Words.{Each, Some, Sound}
 use Rattle.book.proofs.Lists.{each, each-at}
 use Rattle.book.proofs.Kept.{free-number}
-use Rattle.matching.proofs.Trades.{Some}
 use Rattle.soundness.proofs.SoundDays.{sound-day}
-use Rattle.demands.specs.Pricing.{Sound}
 use Rattle.demands.specs.Totalling.{Totals}
 use Rattle.demands.specs.Running.{Call, Owner, answers, stepped, after, tradesIn, acceptedIn, Fresh, Is, Running}
 use Rattle.demands.proofs.Fresh.{open-fresh, open-call}
@@ -40,7 +38,7 @@ run-not-15 [] s k = tt
 run-not-15 (e ∷ es) s k = (event-not-15 (e .event) (e .within) (e .lent) s k, run-not-15 es (stepped e s) (event-sound (e .event) (e .within) (e .lent) s k))
 
 module _ (s : Desk) (f : Fresh s) where
-  fresh-sound : Sound (s .day) (s .book)
+  pub fresh-sound : Sound (s .day) (s .book)
   fresh-sound = rw (← f .book) (open-fresh (f .close) (f .mark) (f .places) (s .day) (f .opened))
 
   is-fresh : s .day ≡ freshDay (f .close) (f .mark)

@@ -13,7 +13,7 @@ use Rattle.model.specs.declared.Trade.{Trade}
 use Rattle.model.specs.declared.Day.{Day}
 use Rattle.model.specs.Book.{free}
 use Rattle.model.specs.Matching.{filledOf, lessBy, settle}
-use Rattle.book.specs.Standing.{Each}
+use Rattle.model.specs.Words.{Each}
 use Rattle.book.proofs.Lists.{each}
 use Rattle.demands.proofs.Elements.{each-map}
 use Rattle.soundness.specs.SoundDay.{Rests, Place}

@@ -22,15 +22,14 @@ use Rattle.model.specs.Figures.{nextNumber}
 use Rattle.model.specs.Entry.{entryTrades, restPrice}
 use Rattle.model.specs.Calls.{written, joined, entered, orderCall}
 use Rattle.model.specs.ClockCall.{auctionTrades, hold, start, moved, clockCall}
-use Rattle.book.specs.Standing.{Each, Fair, Standing}
+use Rattle.model.specs.Words.{Each, Some, Sound}
+use Rattle.book.specs.Standing.{Fair, Standing}
 use Rattle.book.proofs.Lists.{keep-none, each-at}
 use Rattle.book.proofs.Kept.{standing-settle}
 use Rattle.book.proofs.Settlements.{less-nothing}
-use Rattle.matching.proofs.Trades.{Some}
 use Rattle.matching.proofs.EntryLaws.{remainder, ordersThen}
 use Rattle.pairing.proofs.Auctions.{settled-fit}
 use Rattle.pairing.proofs.Moves.{both, moved-by}
-use Rattle.demands.specs.Pricing.{Sound}
 use Rattle.demands.specs.Owning.{Stays}
 use Rattle.demands.proofs.Elements.{some-map, some-at}
 use Rattle.demands.proofs.Places.{stands-once}

@@ -16,7 +16,7 @@ use Rattle.model.specs.Matching.{fiveBest, atFiveBest, tradeWith, sweep, filled
 use Rattle.model.specs.Figures.{nextNumber}
 use Rattle.model.specs.Entry.{opposite, entryTrades}
 use Rattle.model.proofs.Bools.{not-both}
-use Rattle.book.specs.Standing.{Each}
+use Rattle.model.specs.Words.{Each}
 use Rattle.book.proofs.Lists.{each}
 use Rattle.book.proofs.Kept.{New}
 use Rattle.book.proofs.Settlements.{filled-nil, filled-more, filled-none, part, filled-cons}

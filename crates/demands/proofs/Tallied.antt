@@ -12,7 +12,7 @@ use Rattle.model.specs.declared.Day.{Day}
 use Rattle.model.specs.Lists.{total}
 use Rattle.model.specs.Matching.{filled, firstPrice, lastPrice}
 use Rattle.model.specs.Figures.{money, tally}
-use Rattle.book.specs.Standing.{Price, Each}
+use Rattle.model.specs.Words.{Each, Price}
 use Rattle.matching.proofs.EntryLaws.{last-has}
 use Rattle.demands.proofs.Wholes.{Traded}
 

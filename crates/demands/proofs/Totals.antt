@@ -20,9 +20,8 @@ use Rattle.model.specs.Figures.{at, issue, money, tally}
 use Rattle.model.specs.Entry.{entryTrades}
 use Rattle.model.specs.Calls.{written, entered, orderCall}
 use Rattle.model.specs.ClockCall.{auctionTrades, Held, hold, pass, through, start, moved, clockCall}
-use Rattle.book.specs.Standing.{Price, Each}
+use Rattle.model.specs.Words.{Each, Price, Sound}
 use Rattle.book.proofs.Lists.{each-append}
-use Rattle.demands.specs.Pricing.{Sound}
 use Rattle.demands.specs.Totalling.{Totals}
 use Rattle.demands.proofs.Cases.{order-cases, clock-cases}
 use Rattle.demands.proofs.Entered.{allowed, entered-prices}

@@ -15,7 +15,8 @@ use Rattle.model.specs.Matching.{settle}
 use Rattle.model.specs.Sound.{hasPlaces}
 use Rattle.model.specs.Calls.{Outcome, cleared}
 use Rattle.model.proofs.Bools.{not-both, not-true-false}
-use Rattle.book.specs.Standing.{Each, Fair, Standing}
+use Rattle.model.specs.Words.{Each}
+use Rattle.book.specs.Standing.{Fair, Standing}
 use Rattle.book.proofs.Lists.{both, each, keep-none}
 use Rattle.book.proofs.Queues.{Place, place-of, on-side}
 use Rattle.book.proofs.Best.{each-on, on-each}

@@ -9,7 +9,8 @@ use Rattle.model.specs.declared.Day.{Day}
 use Rattle.model.specs.Lists.{total}
 use Rattle.model.specs.Sound.{crosses}
 use Rattle.model.proofs.Bools.{not-both, not-true-false}
-use Rattle.book.specs.Standing.{Price, Each, Apart, Standing}
+use Rattle.model.specs.Words.{Each, Price, Apart}
+use Rattle.book.specs.Standing.{Standing}
 use Rattle.soundness.specs.SoundDay.{Place, Empty, SoundDay}
 use Rattle.soundness.proofs.Clauses.{says-crosses}
 use Rattle.soundness.proofs.SoundDays.{standing}

@@ -8,9 +8,7 @@ use lib.Dec.{leb}
 use Rattle.model.specs.declared.Order.{Order}
 use Rattle.model.specs.declared.Day.{Day}
 use Rattle.model.specs.Auction.{volume, mostTrades, betterFill, oneSideFills, qualifies, qualifying, leastDifference}
-use Rattle.book.specs.Standing.{Price}
-use Rattle.auction.specs.Rule.{NoGap}
-use Rattle.demands.specs.Pricing.{Sound}
+use Rattle.model.specs.Words.{Price, NoGap, Sound}
 
 pub record OneTest (book : List Order) : Type 0 where
   -- 2 gives 1 and 3

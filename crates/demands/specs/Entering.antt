@@ -18,9 +18,7 @@ use Rattle.model.specs.Matching.{meets, filled, levels, settle}
 use Rattle.model.specs.Entry.{opposite, entryTrades, restPrice}
 use Rattle.model.specs.Replies.{restingOf, withdrawnOf}
 use Rattle.model.specs.Calls.{Outcome, written, joined, orderCall}
-use Rattle.book.specs.Standing.{Each}
-use Rattle.soundness.specs.Sized.{Sized}
-use Rattle.matching.proofs.Trades.{Some}
+use Rattle.model.specs.Words.{Each, Some, Sized}
 
 -- filled, resting and withdrawn add up to the quantity; filled and levels are those of the trades; kinds 3 and 4 have at
 -- most five levels

@@ -9,7 +9,7 @@ use Rattle.model.specs.declared.Day.{Day}
 use Rattle.model.specs.declared.OpenReply as OpenReply
 use Rattle.model.specs.Calls.{openCall, orderCall, cancelCall}
 use Rattle.model.specs.ClockCall.{clockCall}
-use Rattle.demands.specs.Pricing.{Sound}
+use Rattle.model.specs.Words.{Sound}
 
 pub record Keeping : Type 0 where
   pub fresh :

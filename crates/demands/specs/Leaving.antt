@@ -21,8 +21,7 @@ use Rattle.model.specs.Entry.{restPrice}
 use Rattle.model.specs.Replies.{restingOf, withdrawnOf}
 use Rattle.model.specs.Calls.{Outcome, orderCall}
 use Rattle.model.specs.ClockCall.{clockCall}
-use Rattle.book.specs.Standing.{Each}
-use Rattle.demands.specs.Pricing.{Sound}
+use Rattle.model.specs.Words.{Each, Sound}
 use Rattle.demands.specs.Owning.{StandsOnce}
 
 -- what a trade leaves of the order with this number, which has part in it

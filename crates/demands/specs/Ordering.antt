@@ -9,8 +9,7 @@ use Rattle.model.specs.declared.Trade.{Trade}
 use Rattle.model.specs.declared.Day.{Day}
 use Rattle.model.specs.Calls.{orderCall, cancelCall}
 use Rattle.model.specs.ClockCall.{clockCall}
-use Rattle.book.specs.Standing.{Ordered}
-use Rattle.demands.specs.Pricing.{Sound}
+use Rattle.model.specs.Words.{Ordered, Sound}
 
 pub record Ordering : Type 0 where
   pub sound : (d : Day) (book : List Order) → Sound d book → Ordered book
@@ -21,7 +20,6 @@ pub record Ordering : Type 0 where
   pub clock :
       (d : Day) (t : ℕ) (book : List Order) (lent : List Trade) → Sound d book → Ordered (clockCall d t book lent .book)
   -- every place that was there is there: nothing is cut off
-  pub as-many :
-      (d : Day) (a : Asked) (book : List Order) (lent : List Trade)
-      → Sound d book
-      → length (orderCall d a book lent .book) ≡ length book
+  pub order-places : (d : Day) (a : Asked) (book : List Order) (lent : List Trade) → length (orderCall d a book lent .book) ≡ length book
+  pub cancel-places : (d : Day) (account number : ℕ) (book : List Order) → length (cancelCall d account number book .book) ≡ length book
+  pub clock-places : (d : Day) (t : ℕ) (book : List Order) (lent : List Trade) → length (clockCall d t book lent .book) ≡ length book

@@ -16,8 +16,7 @@ use Rattle.model.specs.Book.{free}
 use Rattle.model.specs.Matching.{isIn}
 use Rattle.model.specs.Calls.{Outcome, orderCall, cancelCall}
 use Rattle.model.specs.ClockCall.{clockCall}
-use Rattle.book.specs.Standing.{Each}
-use Rattle.demands.specs.Pricing.{Sound}
+use Rattle.model.specs.Words.{Each, Sound}
 
 -- one place has the number and the account, and no other has the number; that one is taken out, those behind it move up by one
 -- place, and the last place becomes free

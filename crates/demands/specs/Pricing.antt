@@ -18,17 +18,9 @@ use Rattle.model.specs.Matching.{filled, filledOf, settle}
 use Rattle.model.specs.Figures.{reference}
 use Rattle.model.specs.Auction.{volume, qualifying, leftBy}
 use Rattle.model.specs.Pairing.{cut}
-use Rattle.model.specs.Sound.{hasPlaces, sound}
 use Rattle.model.specs.ClockCall.{auctionPrice, auctionTrades, Held, pass, start, clockCall}
 use Rattle.model.specs.AuctionCalls.{due, listCall}
-use Rattle.book.specs.Standing.{Each}
-use Rattle.matching.proofs.Trades.{Some}
-use Rattle.auction.specs.Rule.{Qualifies, Rising}
-use Rattle.pairing.specs.Granted.{granted}
-
--- 1 to 4,096 places, and a sound day: refusal 15 is not given
-abbrev pub Sound : Day → List Order → Type 0
-Sound d book = (hasPlaces book ≡ true) × (sound d book ≡ true)
+use Rattle.model.specs.Words.{Each, Some, Rising, Sound, Qualifies, granted}
 
 -- no buy price reaches a sell price
 abbrev pub NoneReach : List Order → Type 0

@@ -20,7 +20,7 @@ use Rattle.model.specs.Refusals.{Rule, firstOf}
 use Rattle.model.specs.Calls.{openRules, openCall, orderRules, orderCall, cancelRules, cancelCall}
 use Rattle.model.specs.ClockCall.{clockRules, clockCall}
 use Rattle.model.specs.AuctionCalls.{reportRules, reportCall, listRules, listCall}
-use Rattle.book.specs.Standing.{Each}
+use Rattle.model.specs.Words.{Each}
 
 -- none of the rules holds
 abbrev pub NoneOf : List Rule → Type 0

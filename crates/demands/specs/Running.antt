@@ -1,6 +1,6 @@
 -- Demand 2: runs of clock moves, orders and cancels from an accepted opening.
 use Prim.Native.Nat.{ℕ}
-use mathlib.Core.Path.{_≡_}
+use mathlib.Core.Path.{_≡_, refl}
 use mathlib.Core.Bool.{Bool, true, false}
 use mathlib.Core.List.{List, [], _∷_, _++_, map}
 use lib.ListN.{length, getD, take}
@@ -18,9 +18,7 @@ use Rattle.model.specs.Calls.{OpenOutcome, openCall, orderCall, cancelCall}
 use Rattle.model.specs.ClockCall.{clockCall}
 use Rattle.model.specs.Replies.{openNumbers, orderNumbers, cancelNumbers, clockNumbers}
 use Rattle.model.specs.Session.{Desk}
-use Rattle.book.specs.Standing.{Each, Apart}
-use Rattle.matching.proofs.Trades.{Some}
-use Rattle.demands.specs.Pricing.{Sound}
+use Rattle.model.specs.Words.{Each, Some, Apart, Sound}
 
 -- an event that starts a day over
 unfoldable pub isOpening : Event.Event → Bool
@@ -34,6 +32,19 @@ pub record Call : Type 0 where
   pub event : Event.Event
   pub within : isOpening event ≡ false
   pub lent : List Trade
+
+unfoldable pub movesTo : ℕ → List Trade → Call
+unfolding isOpening
+movesTo t lent = record { event = Event.the-variants.Clock t; within = refl; lent = lent }
+
+unfoldable pub enters : Asked → List Trade → Call
+unfolding isOpening
+enters a lent = record { event = Event.the-variants.Order a; within = refl; lent = lent }
+
+-- a cancel cannot trade, so it is lent no list
+unfoldable pub cancels : ℕ → ℕ → Call
+unfolding isOpening
+cancels account number = record { event = Event.the-variants.Cancel account number; within = refl; lent = [] }
 
 -- its answer as the paper's numbers: the refusal first, 0 where it is accepted
 unfoldable pub answeredBy : Event.Event → List Trade → Desk → List ℕ

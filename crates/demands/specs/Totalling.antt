@@ -15,7 +15,7 @@ use Rattle.model.specs.Matching.{filled, firstPrice, lastPrice}
 use Rattle.model.specs.Figures.{money}
 use Rattle.model.specs.Calls.{Outcome, orderCall}
 use Rattle.model.specs.ClockCall.{clockCall}
-use Rattle.demands.specs.Pricing.{Sound}
+use Rattle.model.specs.Words.{Sound}
 
 -- shares, turnover, first and last are those before with the trades added
 pub record Totals (d after : Day) (ts : List Trade) : Type 0 where

@@ -14,7 +14,7 @@ use Rattle.model.specs.Lists.{any}
 use Rattle.model.specs.Figures.{openPrice}
 use Rattle.model.specs.Halts.{away, reach, haltEnd, halting, fires, fired}
 use Rattle.book.specs.Rows.{tradeOf, tradesOf}
-use Rattle.book.specs.Standing.{Each}
+use Rattle.model.specs.Words.{Each}
 use Rattle.book.proofs.Lists.{each-drop}
 use Rattle.book.proofs.Memory.{trades-from}
 use Rattle.book.proofs.Written.{trades-drop}

@@ -4,7 +4,7 @@ use mathlib.Core.List.{List}
 use Rattle.model.specs.declared.Trade.{Trade}
 use Rattle.model.specs.declared.Day.{Day}
 use Rattle.model.specs.Figures.{openPrice}
-use Rattle.book.specs.Standing.{Each}
+use Rattle.model.specs.Words.{Each}
 
 -- none is above the highest price, so that their products fit
 pub record Priced (d : Day) (ts : List Trade) : Type 0 where

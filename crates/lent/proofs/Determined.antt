@@ -5,20 +5,19 @@ use mathlib.Core.Path.{_≡_, sym, ap, _∙_}
 use mathlib.Core.List.{List}
 use Rattle.model.specs.declared.Order.{Order}
 use Rattle.model.specs.Calls.{Outcome}
-use Rattle.book.specs.Rows.{tradesOf}
 use Rattle.day.proofs.Determined.{Trades, same-trades}
 use Rattle.lent.specs.declared.OnDay.{OnDay}
 use Rattle.lent.specs.declared.Answer.{Answer}
 use Rattle.lent.specs.declared.Question.{Question}
 use Rattle.lent.specs.declared.Told.{Told}
-use Rattle.lent.specs.Calls.{eventCall, eventLeft, View, questionCall, questionLeft}
+use Rattle.lent.specs.Calls.{EventPromise, View, QuestionPromise}
 
 pub event-determined :
     (asked : OnDay) (before m n : List Order) (lent ts us : List (List ℕ)) (r s : Answer)
     → Trades ts
     → Trades us
-    → eventLeft r m ts ≡ eventCall asked before (tradesOf lent)
-    → eventLeft s n us ≡ eventCall asked before (tradesOf lent)
+    → EventPromise before lent asked r m ts
+    → EventPromise before lent asked s n us
     → (r ≡ s) × (m ≡ n) × (ts ≡ us)
 event-determined asked before m n lent ts us r s pt pu e f = (
   ap (λ (o : Outcome Answer). o .answer) (e ∙ sym f),
@@ -28,8 +27,8 @@ event-determined asked before m n lent ts us r s pt pu e f = (
 
 pub question-determined :
     (question : Question) (book : List Order) (lent m n : List ℕ) (r s : Told)
-    → questionLeft r m ≡ questionCall question book lent
-    → questionLeft s n ≡ questionCall question book lent
+    → QuestionPromise book lent question r m
+    → QuestionPromise book lent question s n
     → (r ≡ s) × (m ≡ n)
 question-determined question book lent m n r s e f =
     (ap (λ (v : View). v .told) (e ∙ sym f), ap (λ (v : View). v .prices) (e ∙ sym f))

@@ -1,5 +1,6 @@
 -- The calls on a lent slice of order records: what an event or a question leaves is what the definitions' call gives.
 use Prim.Native.Nat.{ℕ}
+use mathlib.Core.Path.{_≡_}
 use mathlib.Core.List.{List}
 use Rattle.model.specs.declared.Order.{Order}
 use Rattle.model.specs.declared.Trade.{Trade}
@@ -46,6 +47,11 @@ eventCall asked book lent = callOf (asked .event) (asked .day) book lent
 abbrev pub eventLeft : Answer.Answer → List Order → List (List ℕ) → Outcome Answer.Answer
 eventLeft answer book trades = record { answer = answer; book = book; trades = tradesOf trades }
 
+-- what a call with an event promises, of the book and the rows of the trade list as they were and as they are left
+abbrev pub EventPromise : List Order → List (List ℕ) → OnDay → Answer.Answer → List Order → List (List ℕ) → Type 0
+EventPromise book trades asked answer book' trades' =
+    eventLeft answer book' trades' ≡ eventCall asked book (tradesOf trades)
+
 -- ---- the calls that only ask
 
 -- what is told, and the price list as it is left
@@ -65,3 +71,7 @@ questionCall (Question.the-variants.List day asked) book lent =
 
 abbrev pub questionLeft : Told.Told → List ℕ → View
 questionLeft told prices = record { told = told; prices = prices }
+
+-- what a call with a question promises, of the book and of the price list as it was and as it is left
+abbrev pub QuestionPromise : List Order → List ℕ → Question.Question → Told.Told → List ℕ → Type 0
+QuestionPromise book prices question told prices' = questionLeft told prices' ≡ questionCall question book prices

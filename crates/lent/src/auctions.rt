@@ -9,7 +9,7 @@ use model::MOST_PLACES;
 use model::Order;
 ghost use mathlib.Core.Path.{_≡_};
 ghost use Rattle.book.specs.Rows.{bookOf};
-ghost use Rattle.lent.specs.Calls.{questionCall, questionLeft};
+ghost use Rattle.lent.specs.Calls.{questionCall, questionLeft, QuestionPromise};
 
 // The call on rows that a question asks for.
 fn answer_question(rows: &[[u64; 5]], prices: &mut [u64], question: Question) -> Told
@@ -23,7 +23,7 @@ fn answer_question(rows: &[[u64; 5]], prices: &mut [u64], question: Question) ->
 
 // A book of more places than a day can have is answered as one of no place.
 pub fn ask_auction(book: &[Order], prices: &mut [u64], question: Question) -> Told
-    ensures { λ r. ⌜ questionLeft r (now (prices .exit)) ≡ questionCall question (now (book .entry)) (now (prices .entry)) ⌝ }
+    ensures { λ r. ⌜ QuestionPromise (now (book .entry)) (now (prices .entry)) question r (now (prices .exit)) ⌝ }
 {
     let mut rows = [[0u64; 5]; MOST_PLACES];
     let k = places(book.len());

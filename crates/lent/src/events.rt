@@ -14,7 +14,7 @@ use model::Order;
 ghost use mathlib.Core.Path.{_≡_};
 ghost use Rattle.book.specs.Rows.{bookOf, tradesOf};
 ghost use Rattle.book.specs.Promises.{callLeft};
-ghost use Rattle.lent.specs.Calls.{eventCall, eventLeft};
+ghost use Rattle.lent.specs.Calls.{eventCall, EventPromise};
 
 // The call on rows that an event asks for.
 fn answer_event(rows: &mut [[u64; 5]], trades: &mut [[u64; 6]], asked: OnDay) -> Answer
@@ -35,7 +35,7 @@ fn answer_event(rows: &mut [[u64; 5]], trades: &mut [[u64; 6]], asked: OnDay) ->
 
 // A book of more places than a day can have is answered as one of no place, and no place of it is set.
 pub fn take_event(book: &mut [Order], trades: &mut [[u64; 6]], asked: OnDay) -> Answer
-    ensures { λ r. ⌜ eventLeft r (now (book .exit)) (now (trades .exit)) ≡ eventCall asked (now (book .entry)) (tradesOf (now (trades .entry))) ⌝ }
+    ensures { λ r. ⌜ EventPromise (now (book .entry)) (now (trades .entry)) asked r (now (book .exit)) (now (trades .exit)) ⌝ }
 {
     let mut rows = [[0u64; 5]; MOST_PLACES];
     let k = places(book.len());

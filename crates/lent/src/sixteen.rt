@@ -7,9 +7,7 @@ use crate::Told;
 use crate::auctions::ask_auction;
 use crate::events::take_event;
 use model::Order;
-ghost use mathlib.Core.Path.{_≡_};
-ghost use Rattle.book.specs.Rows.{tradesOf};
-ghost use Rattle.lent.specs.Calls.{eventCall, eventLeft, questionCall, questionLeft};
+ghost use Rattle.lent.specs.Calls.{EventPromise, QuestionPromise};
 
 // What is handed back.
 pub struct HandedBack {
@@ -18,7 +16,7 @@ pub struct HandedBack {
 }
 
 pub fn take_on_sixteen(book: [Order; 16], trades: &mut [[u64; 6]], asked: OnDay) -> HandedBack
-    ensures { λ r. ⌜ eventLeft (r .answer) (r .book) (now (trades .exit)) ≡ eventCall asked book (tradesOf (now (trades .entry))) ⌝ }
+    ensures { λ r. ⌜ EventPromise book (now (trades .entry)) asked (r .answer) (r .book) (now (trades .exit)) ⌝ }
 {
     let mut places = book;
     let answer = take_event(&mut places, trades, asked);
@@ -29,7 +27,7 @@ pub fn take_on_sixteen(book: [Order; 16], trades: &mut [[u64; 6]], asked: OnDay)
 }
 
 pub fn ask_on_sixteen(book: [Order; 16], prices: &mut [u64], question: Question) -> Told
-    ensures { λ r. ⌜ questionLeft r (now (prices .exit)) ≡ questionCall question book (now (prices .entry)) ⌝ }
+    ensures { λ r. ⌜ QuestionPromise book (now (prices .entry)) question r (now (prices .exit)) ⌝ }
 {
     let places = book;
     ask_auction(&places, prices, question)

@@ -20,7 +20,8 @@ use Rattle.model.specs.Matching.{meets, within, sweep, filled, filledOf, lastPr
 use Rattle.model.specs.Entry.{bestWithin, entryPrice, opposite, entryTrades, restPrice}
 use Rattle.model.specs.Sound.{crosses}
 use Rattle.model.specs.Calls.{joined}
-use Rattle.book.specs.Standing.{Each, Standing}
+use Rattle.model.specs.Words.{Each}
+use Rattle.book.specs.Standing.{Standing}
 use Rattle.book.specs.Priority.{rank}
 use Rattle.book.proofs.Lists.{each, each-append}
 use Rattle.book.proofs.Best.{each-on}

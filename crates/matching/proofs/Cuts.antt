@@ -12,7 +12,8 @@ use Rattle.model.specs.declared.Order.{Order}
 use Rattle.model.specs.Lists.{keep, among, once}
 use Rattle.model.specs.Book.{standsOn, queue}
 use Rattle.model.specs.Matching.{fiveBest, atFiveBest}
-use Rattle.book.specs.Standing.{Each, Standing}
+use Rattle.model.specs.Words.{Each}
+use Rattle.book.specs.Standing.{Standing}
 use Rattle.book.specs.Priority.{rank, key}
 use Rattle.book.proofs.Lists.{keep-true, keep-none, keep-same, every, length-keep}
 use Rattle.book.proofs.Sorting.{Rising}

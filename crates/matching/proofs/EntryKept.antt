@@ -18,7 +18,8 @@ use Rattle.model.specs.Matching.{within, filled, lastPrice, settle}
 use Rattle.model.specs.Figures.{nextNumber}
 use Rattle.model.specs.Entry.{bestWithin, entryPrice, entryTrades, restPrice}
 use Rattle.model.specs.Calls.{joined}
-use Rattle.book.specs.Standing.{Each, Fair, Standing}
+use Rattle.model.specs.Words.{Each}
+use Rattle.book.specs.Standing.{Fair, Standing}
 use Rattle.book.proofs.Lists.{each}
 use Rattle.book.proofs.Best.{best-price}
 use Rattle.book.proofs.Kept.{New, new-fresh, standing-with, standing-settle, fresh-settle}

@@ -22,7 +22,8 @@ use Rattle.model.specs.Matching.{meets, within, fiveBest, atFiveBest, sweep, fi
 use Rattle.model.specs.Figures.{nextNumber}
 use Rattle.model.specs.Entry.{bestWithin, entryPrice, opposite, entryTrades, restPrice}
 use Rattle.model.specs.Calls.{joined}
-use Rattle.book.specs.Standing.{Each, Standing}
+use Rattle.model.specs.Words.{Each, Some}
+use Rattle.book.specs.Standing.{Standing}
 use Rattle.book.proofs.Lists.{each, every, each-keep, length-keep, total-zero}
 use Rattle.book.proofs.Queues.{queue-length}
 use Rattle.book.proofs.Best.{on-each}
@@ -33,7 +34,7 @@ use Rattle.matching.specs.Sweeping.{atBest}
 use Rattle.matching.specs.Settling.{SweptBy}
 use Rattle.matching.proofs.Cuts.{five-best}
 use Rattle.matching.proofs.Partners.{sweep-spent}
-use Rattle.matching.proofs.Trades.{Some, some-each, Deal, each-trade, filled-within, count-within, levels-within}
+use Rattle.matching.proofs.Trades.{some-each, Deal, each-trade, filled-within, count-within, levels-within}
 use Rattle.matching.proofs.Fills.{shares-kept}
 use Rattle.matching.proofs.Entries.{opposite-best}
 

@@ -13,7 +13,8 @@ use Rattle.model.specs.declared.Taker.{Taker}
 use Rattle.model.specs.Lists.{keep, total, among, once}
 use Rattle.model.specs.Book.{standsOn, queue}
 use Rattle.model.specs.Matching.{tradeWith, sweep, isIn, filled, filledOf, settle}
-use Rattle.book.specs.Standing.{Each, Standing}
+use Rattle.model.specs.Words.{Each}
+use Rattle.book.specs.Standing.{Standing}
 use Rattle.book.proofs.Lists.{both, each, each-keep, kept, total-same, total-keep}
 use Rattle.book.proofs.Queues.{each-queue, on-live, total-queue}
 use Rattle.book.proofs.Kept.{New}

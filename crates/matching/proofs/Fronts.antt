@@ -12,7 +12,8 @@ use Rattle.model.specs.declared.Trade.{Trade}
 use Rattle.model.specs.declared.Taker.{Taker}
 use Rattle.model.specs.Book.{standsOn, queue, other, arranged}
 use Rattle.model.specs.Matching.{lessBy, tradeWith, sweep, isIn, filled, filledOf, settle}
-use Rattle.book.specs.Standing.{Each, Standing}
+use Rattle.model.specs.Words.{Each}
+use Rattle.book.specs.Standing.{Standing}
 use Rattle.book.specs.Settling.{offFront, placed}
 use Rattle.book.proofs.Lists.{both, each, every, each-keep, each-parts, map-same}
 use Rattle.book.proofs.Sorting.{Distinct}

@@ -13,7 +13,7 @@ use Rattle.model.specs.declared.Trade.{Trade}
 use Rattle.model.specs.declared.Taker.{Taker}
 use Rattle.model.specs.Book.{other}
 use Rattle.model.specs.Matching.{meets, tradeWith, sweep, isIn, filled, filledOf}
-use Rattle.book.specs.Standing.{Each}
+use Rattle.model.specs.Words.{Each}
 use Rattle.book.specs.Priority.{rank}
 use Rattle.book.proofs.Lists.{both, each, every}
 use Rattle.book.proofs.Settlements.{filled-nil, filled-more, part, filled-cons}

@@ -5,7 +5,6 @@ pub mod Partners
 pub mod Tallies
 pub mod Sweeps
 pub mod Entries
-pub mod Situations
 pub mod Trades
 pub mod Fills
 pub mod Leftovers

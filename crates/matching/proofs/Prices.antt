@@ -8,7 +8,7 @@ use lib.ListN.{length}
 use lib.Dec.{eqb}
 use borrow.Author.Tests.{eq-eqb, ne-eqb, eqb-true, not-false}
 use Rattle.model.specs.Lists.{keep, any, among, once, different}
-use Rattle.book.specs.Standing.{Each}
+use Rattle.model.specs.Words.{Each}
 use Rattle.book.proofs.Lists.{keep-false, keep-keep, keep-all, keep-same, both, each, each-keep, kept}
 use Rattle.book.proofs.Sorting.{Distinct}
 

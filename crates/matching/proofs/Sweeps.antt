@@ -15,7 +15,8 @@ use Rattle.model.specs.declared.Taker.{Taker}
 use Rattle.model.specs.Book.{queue, other}
 use Rattle.model.specs.Matching.{tradeWith, sweep}
 use Rattle.book.specs.Rows.{bookOf, tradeRow, tradeRows}
-use Rattle.book.specs.Standing.{Each, Standing}
+use Rattle.model.specs.Words.{Each}
+use Rattle.book.specs.Standing.{Standing}
 use Rattle.book.specs.Writing.{fitted}
 use Rattle.book.proofs.Lists.{each}
 use Rattle.book.proofs.Queues.{Stands, on-live, queue-stands}

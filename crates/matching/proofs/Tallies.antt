@@ -14,7 +14,8 @@ use Rattle.model.specs.declared.Taker.{Taker}
 use Rattle.model.specs.Lists.{keep, total, once, different}
 use Rattle.model.specs.Book.{queue}
 use Rattle.model.specs.Matching.{tradeWith, sweep, filled, levels, lastPrice}
-use Rattle.book.specs.Standing.{Each, Standing}
+use Rattle.model.specs.Words.{Each}
+use Rattle.book.specs.Standing.{Standing}
 use Rattle.book.specs.Priority.{rank}
 use Rattle.matching.specs.declared.Swept.{Swept}
 use Rattle.matching.specs.Sweeping.{wants, comesTo}

@@ -4,7 +4,7 @@ use Prim.Native.Nat.{ℕ, suc, _-_, _≤_}
 use mathlib.Core.Path.{_≡_, refl, ap, _∙_}
 use mathlib.Core.Bool.{Bool, true, false, cond}
 use mathlib.Core.List.{List, [], _∷_, map}
-use mathlib.Core.Logic.{_⊎_, inl, inr}
+use mathlib.Core.Logic.{inl, inr}
 use native.Mathlib.Omega.{arith}
 use lib.ListN.{length, take, length-take}
 use lib.Dec.{eqb}
@@ -13,7 +13,7 @@ use Rattle.model.specs.declared.Trade.{Trade}
 use Rattle.model.specs.declared.Taker.{Taker}
 use Rattle.model.specs.Lists.{keep, total, among, once}
 use Rattle.model.specs.Matching.{meets, tradeWith, sweep, filled, levels}
-use Rattle.book.specs.Standing.{Each}
+use Rattle.model.specs.Words.{Each, Some}
 use Rattle.book.proofs.Lists.{each, kept}
 use Rattle.matching.specs.Sweeping.{wants, atBest}
 use Rattle.matching.proofs.Prices.{different-few}
@@ -22,12 +22,7 @@ use Rattle.matching.proofs.Partners.{sweep-nil, sweep-cons, wants-allow
 
 -- ---- each trade
 
--- some element has the property
-abbrev pub Some : {A : Type 0} → (A → Type 0) → List A → Type 0
-Some P [] = ⊥
-Some P (x ∷ xs) = P x ⊎ Some P xs
-
--- an element that has it is one that has it
+-- an element that has the property is one that has it
 some-more :
     {A B : Type 0} (P : A → B → Type 0) (x : A) (os xs : List A)
     → Each (λ o. (r : B) → P o r → Some (λ p. P p r) xs) os

@@ -9,7 +9,7 @@ use Rattle.model.specs.declared.Taker.{Taker}
 use Rattle.model.specs.Choice.{if_then_else_}
 use Rattle.model.specs.Book.{queue, other}
 use Rattle.model.specs.Matching.{sweep}
-use Rattle.book.specs.Standing.{Each}
+use Rattle.model.specs.Words.{Each}
 use Rattle.book.specs.Settling.{offFront}
 use Rattle.matching.specs.Sweeping.{atBest}
 

@@ -23,7 +23,8 @@ use Rattle.model.specs.Figures.{tally}
 use Rattle.model.specs.Sound.{crosses}
 use Rattle.model.specs.Calls.{cleared}
 use Rattle.model.specs.ClockCall.{auctionTrades, Held, hold, pass, through, start, moved}
-use Rattle.book.specs.Standing.{Each, Ranked}
+use Rattle.model.specs.Words.{Each}
+use Rattle.book.specs.Standing.{Ranked}
 use Rattle.book.proofs.Lists.{each}
 use Rattle.book.proofs.Kept.{free-left, free-number, standing-settle}
 use Rattle.book.proofs.Arranging.{cleared-ranked, arranged-ranked, total-arranged}

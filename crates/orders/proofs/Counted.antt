@@ -10,7 +10,7 @@ use Rattle.model.specs.declared.Day.{Day}
 use Rattle.model.specs.Matching.{filled, firstPrice}
 use Rattle.model.specs.Figures.{issue, money, tally, openPrice}
 use Rattle.model.specs.Halts.{fired}
-use Rattle.book.specs.Standing.{Each}
+use Rattle.model.specs.Words.{Each}
 use Rattle.halts.specs.Priced.{Priced}
 use Rattle.orders.specs.Taken.{RoomFor}
 

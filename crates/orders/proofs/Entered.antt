@@ -27,7 +27,8 @@ use Rattle.model.specs.Entry.{entryTrades, restPrice}
 use Rattle.model.specs.Calls.{written, ended, joined, entered}
 use Rattle.model.proofs.Bools.{true-or-false}
 use Rattle.book.specs.Rows.{orderOf, bookOf, tradesOf, tradeRows}
-use Rattle.book.specs.Standing.{Each, Standing, Ordered, Ranked}
+use Rattle.model.specs.Words.{Each, Ordered}
+use Rattle.book.specs.Standing.{Standing, Ranked}
 use Rattle.book.specs.Writing.{fitted}
 use Rattle.book.proofs.Written.{fitted-trades, fitted-written}
 use Rattle.book.proofs.Kept.{New, standing-settle}

@@ -11,7 +11,8 @@ use Rattle.model.specs.Book.{queue}
 use Rattle.model.specs.Matching.{filled}
 use Rattle.model.specs.Figures as figures
 use Rattle.model.specs.Entry.{entryTrades}
-use Rattle.book.specs.Standing.{Each, Fair}
+use Rattle.model.specs.Words.{Each}
+use Rattle.book.specs.Standing.{Fair}
 use Rattle.soundness.specs.Ready.{Ready}
 
 -- an order that no rule refuses, with a trade list of so many places

@@ -16,7 +16,8 @@ use Rattle.model.specs.Matching.{filled, filledOf, firstPrice, lastPrice, settl
 use Rattle.model.specs.Figures.{money}
 use Rattle.model.specs.Auction.{sharesOf, demand, supply, volume}
 use Rattle.model.specs.Pairing.{cut, tradesAt}
-use Rattle.book.specs.Standing.{Each, Fair, Standing}
+use Rattle.model.specs.Words.{Each, held, granted}
+use Rattle.book.specs.Standing.{Fair, Standing}
 use Rattle.book.proofs.Lists.{both, each, total-same, total-kept}
 use Rattle.book.proofs.Sorting.{Distinct}
 use Rattle.book.proofs.Queues.{Stands, Place, place-of, on-live, queue-stands, total-queue}
@@ -26,7 +27,6 @@ use Rattle.book.proofs.Shares.{settle-total}
 use Rattle.model.proofs.Bools.{and-left}
 use Rattle.auction.proofs.Sums.{shares-le}
 use Rattle.auction.proofs.Conditions.{volume-is}
-use Rattle.pairing.specs.Granted.{held, granted}
 use Rattle.pairing.proofs.Turns.{pairs, cut-short, fewer-trades}
 use Rattle.pairing.proofs.Waiting.{shares}
 use Rattle.pairing.proofs.Grants.{Filled, pairs-fill, pairs-at, cut-held, in-both}

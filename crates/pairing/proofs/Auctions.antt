@@ -21,12 +21,12 @@ use Rattle.model.specs.Auction.{volume}
 use Rattle.model.specs.Pairing.{cut, tradesAt}
 use Rattle.model.specs.Sound.{crosses}
 use Rattle.model.specs.ClockCall.{auctionPrice, auctionTrades}
-use Rattle.book.specs.Standing.{Each, Standing}
+use Rattle.model.specs.Words.{Each, Qualifies}
+use Rattle.book.specs.Standing.{Standing}
 use Rattle.book.proofs.Lists.{length-keep}
 use Rattle.book.proofs.Kept.{standing-settle}
 use Rattle.book.proofs.Counting.{queues-orders, fewer-orders}
 use Rattle.book.proofs.Arranging.{arranged-stands, arranged-crosses}
-use Rattle.auction.specs.Rule.{Qualifies}
 use Rattle.model.proofs.Bools.{not-both, not-true-false}
 use Rattle.auction.proofs.Sides.{supply-bottom}
 use Rattle.auction.proofs.Conditions.{volume-is}

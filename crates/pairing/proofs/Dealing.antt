@@ -22,9 +22,32 @@ use Rattle.book.proofs.Lists.{length-keep}
 use Rattle.book.proofs.Written.{sets-fitted}
 use Rattle.book.proofs.Waiting.{placed-first, placed-past}
 use Rattle.auction.proofs.Stretches.{Stretches}
-use Rattle.pairing.proofs.Turns.{dealt, pairs, turn, no-buys, cut-nothing}
-use Rattle.pairing.proofs.Waiting.{shares, shareOf, head-cut, head-shares, past-cut, past-shares, head-ready, waiting-cut}
+use Rattle.pairing.specs.Dealing.{shareOf, dealt, LeavesBoth}
+use Rattle.pairing.proofs.Turns.{dealt-quantity, pairs, turn, no-buys, cut-nothing}
+use Rattle.pairing.proofs.Waiting.{shares, head-cut, head-shares, past-cut, past-shares, head-ready, waiting-cut}
 use Rattle.pairing.proofs.Auctioned.{volume-buys, volume-sells, fewer-than-live}
+
+-- ---- the step
+
+module _ (buy sell : Head) (left price : ℕ) {x q : ℕ} (hx : x ≡ min left (buy .left)) (hq : q ≡ min x (sell .left)) where
+  abbrev traded : Trade
+  traded =
+      record {
+        price = price;
+        quantity = q;
+        buyer = buy .number;
+        seller = sell .number;
+        buyerleft = buy .left - q;
+        sellerleft = sell .left - q;
+      }
+
+  -- the smallest of the three is what the two shares have in common
+  pub step-dealt : traded ≡ dealt price (shareOf left buy) (shareOf left sell)
+  unfolding dealt
+  step-dealt = let e : q ≡ min (min left (buy .left)) (min left (sell .left)) = omega arith in rw e
+
+  pub step-leaves : LeavesBoth buy sell traded
+  step-leaves = record { buyer = refl; seller = refl; buyerleft = omega arith; sellerleft = omega arith }
 
 -- ---- what holds at each turn
 
@@ -93,20 +116,18 @@ module _ (rows : List (List ℕ)) (ranked : Ranked (bookOf rows)) {middle end : 
     pub sell-ready : (0 < sell .left) × (sell .at < end)
     sell-ready = head-ready end rows (w .short-sells) (w .full-sells) left sell some (k .sells) (k .selling)
 
-    module _ {x q : ℕ} (hx : x ≡ min left (buy .left)) (hq : q ≡ min x (sell .left)) where
-      pub quantity-some : (0 < q) × (q ≤ left)
-      quantity-some = omega (arith, buy-ready .0, sell-ready .0)
+    module _ {t : Trade} (step : t ≡ dealt price (shareOf left buy) (shareOf left sell)) where
+      abbrev q : ℕ
+      q = t .quantity
 
-      abbrev traded : Trade
-      traded =
-          record {
-            price = price;
-            quantity = q;
-            buyer = buy .number;
-            seller = sell .number;
-            buyerleft = buy .left - q;
-            sellerleft = sell .left - q;
-          }
+      quantity-is : q ≡ min (min left (buy .left)) (min left (sell .left))
+      quantity-is = ap (λ (u : Trade). u .quantity) step ∙ dealt-quantity price (shareOf left buy) (shareOf left sell)
+
+      pub quantity-some : (0 < q) × (q ≤ left)
+      quantity-some = omega (arith, buy-ready .0, sell-ready .0, quantity-is)
+
+      quantity-within : (q ≤ buy .left) × (q ≤ sell .left)
+      quantity-within = omega (arith, quantity-is)
 
       abbrev buy′ : Head
       buy′ = headPast q buy (line (buy .at + 1) middle rows)
@@ -115,29 +136,27 @@ module _ (rows : List (List ℕ)) (ranked : Ranked (bookOf rows)) {middle end : 
       sell′ = headPast q sell (line (sell .at + 1) end rows)
 
       -- the next trade, and those that come then
-      one-turn : coming rows middle end price left buy sell ≡ traded ∷ coming rows middle end price (left - q) buy′ sell′
-      unfolding dealt
+      one-turn : coming rows middle end price left buy sell ≡ t ∷ coming rows middle end price (left - q) buy′ sell′
       one-turn =
           let b : Share = shareOf left buy in
           let c : Share = shareOf left sell in
           let bs = cut (left - buy .left) (line (buy .at + 1) middle rows) in
           let cs = cut (left - sell .left) (line (sell .at + 1) end rows) in
-          let m : min (min left (buy .left)) (min left (sell .left)) ≡ q = omega arith in
           ap₂ (pairs price) (waiting-cut middle rows (w .short-buys) (w .full-buys) left buy some (buy-ready .0))
           (waiting-cut end rows (w .short-sells) (w .full-sells) left sell some (sell-ready .0))
           ∙ turn price b c bs cs
-          ∙ rw m
-          (ap (λ ts. traded ∷ ts)
+          ∙ rw (← quantity-is)
+          (ap₂ (λ u ts. u ∷ ts) (sym step)
           (ap₂ (pairs price)
-          (past-cut middle rows (w .short-buys) (w .full-buys) q buy left some (omega arith) (omega arith))
-          (past-cut end rows (w .short-sells) (w .full-sells) q sell left some (omega arith) (omega arith))))
+          (past-cut middle rows (w .short-buys) (w .full-buys) q buy left some (quantity-some .1) (quantity-within .0))
+          (past-cut end rows (w .short-sells) (w .full-sells) q sell left some (quantity-some .1) (quantity-within .1))))
 
       pub count-fits : made + 1 ≤ 4_096
       count-fits = omega (arith, ap length one-turn, k .count, fewer-than-live price book (ranked .stands), length-keep isLive book, ranked .few)
 
       pub underway-next :
           {b c : Head} {out′ : List (List ℕ)}
-          → out′ ≡ set out made (tradeRow traded)
+          → out′ ≡ set out made (tradeRow t)
           → b ≡ buy′
           → c ≡ sell′
           → Underway rows middle end price lent (left - q) b c (made + 1) out′
@@ -146,11 +165,11 @@ module _ (rows : List (List ℕ)) (ranked : Ranked (bookOf rows)) {middle end : 
           (record {
             count = omega (arith, ap length one-turn, k .count);
             same = rw (add-one made) (sym (ap (λ (ts : List Trade). sets out made (tradeRows ts)) one-turn) ∙ k .same);
-            buys = past-shares middle rows (w .short-buys) (w .full-buys) q buy left (buy-ready .0) (omega arith) (k .buys);
-            sells = past-shares end rows (w .short-sells) (w .full-sells) q sell left (sell-ready .0) (omega arith) (k .sells);
+            buys = past-shares middle rows (w .short-buys) (w .full-buys) q buy left (buy-ready .0) (quantity-within .0) (k .buys);
+            sells = past-shares end rows (w .short-sells) (w .full-sells) q sell left (sell-ready .0) (quantity-within .1) (k .sells);
             buying = placed-past middle rows (w .short-buys) (w .full-buys) q buy (buy-ready .1);
             selling = placed-past end rows (w .short-sells) (w .full-sells) q sell (sell-ready .1);
-            long = length-set out made (tradeRow traded) ∙ k .long;
+            long = length-set out made (tradeRow t) ∙ k .long;
           })
 
   nothing-comes : (buy sell : Head) → coming rows middle end price 0 buy sell ≡ []

@@ -9,10 +9,9 @@ use lib.Dec.{eqb}
 use Rattle.model.specs.declared.Order.{Order}
 use Rattle.model.specs.Choice.{if_then_else_}
 use Rattle.model.specs.Pairing.{cut}
-use Rattle.book.specs.Standing.{Each}
+use Rattle.model.specs.Words.{Each, granted}
 use Rattle.book.proofs.Lists.{both, each}
 use Rattle.book.proofs.Sorting.{Distinct}
-use Rattle.pairing.specs.Granted.{granted}
 use Rattle.pairing.proofs.Turns.{brings, cut-some, cut-nothing, cut-nobody}
 use Rattle.pairing.proofs.Grants.{granted-next, granted-none}
 

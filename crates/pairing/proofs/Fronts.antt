@@ -8,14 +8,14 @@ use Rattle.model.specs.Book.{queue, arranged}
 use Rattle.model.specs.Matching.{lessBy, filledOf, settle}
 use Rattle.model.specs.Auction.{volume}
 use Rattle.model.specs.Pairing.{cut, tradesAt}
-use Rattle.book.specs.Standing.{Each, Standing}
+use Rattle.model.specs.Words.{Each, granted}
+use Rattle.book.specs.Standing.{Standing}
 use Rattle.book.specs.Settling.{offFront, placed}
 use Rattle.book.proofs.Lists.{each, map-same}
 use Rattle.book.proofs.Sorting.{Distinct}
 use Rattle.book.proofs.Kept.{after}
 use Rattle.book.proofs.Numbers.{queue-own}
 use Rattle.book.proofs.Fronts.{lessFront, less-some-more, settled-placed}
-use Rattle.pairing.specs.Granted.{granted}
 use Rattle.pairing.proofs.Filling.{first-grant, later-grants}
 use Rattle.pairing.proofs.Auctioned.{buys-filled, sells-filled}
 

@@ -15,11 +15,12 @@ use Rattle.model.specs.Choice.{if_then_else_}
 use Rattle.model.specs.Lists.{keep, total}
 use Rattle.model.specs.Matching.{filled, isIn, filledOf}
 use Rattle.model.specs.Pairing.{Share, cut, headLess, pair}
-use Rattle.book.specs.Standing.{Each}
+use Rattle.model.specs.Words.{Each, held, granted}
 use Rattle.book.proofs.Lists.{total-keep, kept-next}
 use Rattle.book.proofs.Settlements.{filled-nil, filled-more, part, filled-none, filled-cons}
-use Rattle.pairing.specs.Granted.{held, granted, bought, sold}
-use Rattle.pairing.proofs.Turns.{brings, less, head-stays, head-goes, one-goes, dealt, pair-turn, pair-no-buy, pair-no-sell, pairs, cut-some, cut-nothing, cut-nobody}
+use Rattle.pairing.specs.Fills.{bought, sold}
+use Rattle.pairing.specs.Dealing.{dealt}
+use Rattle.pairing.proofs.Turns.{brings, less, head-stays, head-goes, one-goes, pair-turn, pair-no-buy, pair-no-sell, pairs, cut-some, cut-nothing, cut-nobody}
 use Rattle.pairing.proofs.Waiting.{shares}
 
 -- ---- one more of a list

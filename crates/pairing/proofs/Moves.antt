@@ -16,7 +16,8 @@ use Rattle.model.specs.Sound.{crosses}
 use Rattle.model.specs.Calls.{cleared}
 use Rattle.model.specs.ClockCall.{Held, auctionTrades, auction, resume, lapse, pass, through, start, moved}
 use Rattle.model.proofs.Seconds.{pass-cases, through-keeps}
-use Rattle.book.specs.Standing.{Each, Standing}
+use Rattle.model.specs.Words.{Each}
+use Rattle.book.specs.Standing.{Standing}
 use Rattle.book.proofs.Lists.{each, length-keep}
 use Rattle.book.proofs.Kept.{free-number, standing-cleared}
 use Rattle.book.proofs.Queues.{on-live}

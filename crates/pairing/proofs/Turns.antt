@@ -10,6 +10,7 @@ use lib.ListN.{length}
 use Rattle.model.specs.declared.Order.{Order}
 use Rattle.model.specs.declared.Trade.{Trade}
 use Rattle.model.specs.Pairing.{Share, cut, headLess, pair}
+use Rattle.pairing.specs.Dealing.{dealt}
 
 -- what an order brings to a volume, and a share of which q have traded
 abbrev pub brings : ℕ → Order → Share
@@ -52,18 +53,9 @@ one-goes b s bs ss =
     ]
 
 -- ---- turns enough
--- the trade of two heads
-unfoldable pub dealt : ℕ → Share → Share → Trade
-dealt p b s =
-    let q : ℕ = min (b .left) (s .left) in
-    record {
-      price = p;
-      quantity = q;
-      buyer = b .number;
-      seller = s .number;
-      buyerleft = b .whole - q;
-      sellerleft = s .whole - q;
-    }
+pub dealt-quantity : (p : ℕ) (b s : Share) → dealt p b s .quantity ≡ min (b .left) (s .left)
+unfolding dealt
+dealt-quantity p b s = refl
 
 pub pair-turn :
     (n p : ℕ) (b s : Share) (bs ss : List Share)

@@ -16,21 +16,20 @@ use Rattle.model.specs.Matching.{meets, filledOf, lessBy, settle}
 use Rattle.model.specs.Auction.{demand, supply, volume}
 use Rattle.model.specs.Pairing.{cut, tradesAt}
 use Rattle.model.specs.Sound.{crosses}
-use Rattle.book.specs.Standing.{Each, Standing}
+use Rattle.model.specs.Words.{Each, Qualifies, granted}
+use Rattle.book.specs.Standing.{Standing}
 use Rattle.book.proofs.Lists.{each, every, total-same, total-zero, total-kept}
 use Rattle.book.proofs.Sorting.{Distinct}
 use Rattle.book.proofs.Queues.{total-queue}
 use Rattle.book.proofs.Best.{InTurn, queue-in-turn}
 use Rattle.book.proofs.Kept.{standing-settle}
 use Rattle.auction.specs.Interest.{tradesFor, brings, interest}
-use Rattle.auction.specs.Rule.{Qualifies}
 use Rattle.auction.specs.Walks.{reach}
 use Rattle.model.proofs.Bools.{not-both, not-true-false}
 use Rattle.auction.proofs.Sides.{interest-next, interest-end, interest-buys, interest-sells, demand-falls, supply-rises}
 use Rattle.auction.proofs.Conditions.{volume-is, qualifies-clears}
 use Rattle.auction.proofs.Walks.{interest-reach}
 use Rattle.auction.proofs.Crossing.{ahead-meets, crosses-told, best-demand, best-supply}
-use Rattle.pairing.specs.Granted.{granted}
 use Rattle.pairing.proofs.Filling.{first-grant, later-grants}
 use Rattle.book.proofs.Numbers.{queue-own}
 use Rattle.pairing.proofs.Auctioned.{buys-filled, sells-filled}

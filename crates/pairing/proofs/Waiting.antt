@@ -1,5 +1,5 @@
 -- What the volume that is left grants to those who are still to trade on a side, as the loop goes on.
-use Prim.Native.Nat.{ℕ, _+_, _-_, _≤_, _<_, min}
+use Prim.Native.Nat.{ℕ, _+_, _-_, _≤_, _<_}
 use mathlib.Core.Path.{_≡_, refl, sym, ap, _∙_}
 use mathlib.Core.List.{List, [], _∷_}
 use mathlib.Core.Logic.{inl, inr}
@@ -11,12 +11,13 @@ use Rattle.model.specs.Lists.{total}
 use Rattle.model.specs.Pairing.{Share, cut, headLess}
 use Rattle.book.specs.declared.Head.{Head}
 use Rattle.book.specs.Rows.{bookOf}
-use Rattle.book.specs.Standing.{Each}
+use Rattle.model.specs.Words.{Each}
 use Rattle.book.specs.Lines.{line}
 use Rattle.book.specs.Heads.{headOf, asOrder, waiting}
 use Rattle.book.proofs.Lines.{line-end}
 use Rattle.book.proofs.Waiting.{waiting-some, waiting-none, behind, Placed, then-waiting, less, then-some, then-next}
 use Rattle.auction.proofs.Walks.{Goes, goes}
+use Rattle.pairing.specs.Dealing.{shareOf}
 use Rattle.pairing.proofs.Turns.{head-stays, head-goes, cut-some, cut-nothing}
 
 unfoldable pub shares : List Order → ℕ
@@ -25,10 +26,6 @@ shares os = total (λ o. o .left) os
 shares-none : shares [] ≡ 0
 unfolding shares total
 shares-none = refl
-
--- what a head brings to the volume that is left
-abbrev pub shareOf : ℕ → Head → Share
-shareOf v h = record { number = h .number; left = min v (h .left); whole = h .left }
 
 cut-head :
     (v : ℕ) (h : Head) (os : List Order)

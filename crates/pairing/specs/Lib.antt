@@ -1,2 +1,3 @@
 -- What the pairing's laws say beside the definitions of the model.
-pub mod Granted
+pub mod Fills
+pub mod Dealing

@@ -1,32 +1,28 @@
 -- What is stored is read back, and bytes that are read and stored again are the same bytes. Assumes nothing.
-use Prim.Native.Nat.{ℕ, zero, suc, _+_, _*_, _/_, _^_, _≤_, _<_}
+use Prim.Native.Nat.{ℕ, zero, suc, _+_, _*_, _/_, _≤_}
 use mathlib.Core.Path.{_≡_, refl, sym, ap, _∙_}
 use mathlib.Core.List.{List, [], _∷_, _++_, append-assoc}
 use native.Mathlib.Omega.{arith}
 use native.Mathlib.Nat.{mul-suc, mul-zero, add-comm, mul-le-mul-left}
-use lib.ListN.{length, getD, take, drop, length-append, length-drop, take-append-drop}
+use lib.ListN.{length, take, drop, length-append, length-drop, take-append-drop}
 use lib.Seq.{getD-drop, take-at, drop-at, drop-append-le, take-add, length-take-le}
 use Rattle.model.specs.declared.Order.{Order}
 use Rattle.model.specs.declared.Trade.{Trade}
 use Rattle.model.specs.declared.Day.{Day}
 use Rattle.book.specs.Rows.{orderOf, rowOf}
-use Rattle.book.specs.Standing.{Each}
-use Rattle.records.specs.Layout.{parts, numberIn, numbers, orderIn, dayOf, dayIn, bookIn, pricesIn, digits, flat, bytes, orderBytes, tradeIn, tradeBytes, tradesIn, tradesBytes, bookBytes, dayRow, dayBytes, over}
+use Rattle.model.specs.Words.{Each}
+use Rattle.records.specs.Layout.{AllBytes, Word, Fits, parts, numberIn, numbers, orderIn, dayOf, dayIn, bookIn, pricesIn, digits, flat, bytes, orderBytes, tradeIn, tradeBytes, tradesIn, tradesBytes, bookBytes, dayRow, dayBytes, over}
 use Rattle.records.proofs.Digits.{length-digits, worth-digits, digits-worth}
 use Rattle.records.proofs.Runs.{length-flat, flat-append, flat-drop}
 use Rattle.records.proofs.Sizes.{length-order, length-trade, length-book}
 
--- every element is a byte
-abbrev pub AllBytes : List ℕ → Type 0
-AllBytes b = (i : ℕ) → getD b i 0 < 256
-
-bytes-take : (n : ℕ) (b : List ℕ) → AllBytes b → AllBytes (take n b)
+pub bytes-take : (n : ℕ) (b : List ℕ) → AllBytes b → AllBytes (take n b)
 bytes-take zero b h i = omega arith
 bytes-take (suc n) [] h i = omega arith
 bytes-take (suc n) (x ∷ b) h zero = h 0
 bytes-take (suc n) (x ∷ b) h (suc i) = bytes-take n b (λ j. h (suc j)) i
 
-bytes-drop : (n : ℕ) (b : List ℕ) → AllBytes b → AllBytes (drop n b)
+pub bytes-drop : (n : ℕ) (b : List ℕ) → AllBytes b → AllBytes (drop n b)
 bytes-drop n b h i = rw getD-drop (h (n + i))
 
 pub length-parts : {A : Type 0} (f : List ℕ → A) (size n : ℕ) (b : List ℕ) → length (parts f size n b) ≡ n
@@ -158,11 +154,7 @@ module _ {A : Type 0} (f : List ℕ → A) (g : A → List ℕ) (size : ℕ) (lo
   parts-flat (x ∷ xs) rest h =
       rw (append-assoc, h .0 (flat g xs ++ rest), drop-at (g x) (flat g xs ++ rest) size (long x), parts-flat xs rest (h .1))
 
--- a number of 64 bits
-abbrev pub Word : ℕ → Type 0
-Word x = x < 2 ^ 64
-
-number-back : (x : ℕ) → Word x → (rest : List ℕ) → numberIn (digits 8 x ++ rest) ≡ x
+pub number-back : (x : ℕ) → Word x → (rest : List ℕ) → numberIn (digits 8 x ++ rest) ≡ x
 number-back x h rest = rw (take-at (digits 8 x) rest 8 (length-digits 8 x)) (worth-digits 8 x h)
 
 numbers-back : (ns rest : List ℕ) → Each Word ns → numbers (length ns) (bytes ns ++ rest) ≡ ns
@@ -172,10 +164,6 @@ numbers-back ns rest h = parts-flat numberIn (digits 8) 8 (length-digits 8) ns r
     go : (ns : List ℕ) → Each Word ns → Each (λ x. (rest : List ℕ) → numberIn (digits 8 x ++ rest) ≡ x) ns
     go [] h = tt
     go (x ∷ ns) h = (number-back x (h .0), go ns (h .1))
-
--- a record of numbers of 64 bits
-abbrev pub Fits : Order → Type 0
-Fits o = Each Word (rowOf o)
 
 order-back : (o : Order) → Fits o → (rest : List ℕ) → orderIn (orderBytes o ++ rest) ≡ o
 order-back o h rest = ap orderOf (numbers-back (rowOf o) rest h)

@@ -1,12 +1,27 @@
 -- Numbers, records and lists as bytes, both ways. A number is 8 bytes, least byte first; a record is its numbers in a row, and
 -- a list its records. What follows the last whole record belongs to nothing and stays.
-use Prim.Native.Nat.{ℕ, zero, suc, _+_, _*_, _/_, _%_}
+use Prim.Native.Nat.{ℕ, zero, suc, _+_, _*_, _/_, _%_, _^_, _<_}
 use mathlib.Core.List.{List, [], _∷_, _++_}
 use lib.ListN.{length, getD, take, drop}
 use Rattle.model.specs.declared.Order.{Order}
 use Rattle.model.specs.declared.Trade.{Trade}
 use Rattle.model.specs.declared.Day.{Day}
+use Rattle.model.specs.Words.{Each}
 use Rattle.book.specs.Rows.{orderOf, rowOf, tradeOf, tradeRow}
+
+-- ---- what memory can hold
+
+-- every element is a byte
+abbrev pub AllBytes : List ℕ → Type 0
+AllBytes b = (i : ℕ) → getD b i 0 < 256
+
+-- a number of 64 bits
+abbrev pub Word : ℕ → Type 0
+Word x = x < 2 ^ 64
+
+-- a record of numbers of 64 bits
+abbrev pub Fits : Order → Type 0
+Fits o = Each Word (rowOf o)
 
 -- ---- from bytes
 

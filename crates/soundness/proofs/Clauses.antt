@@ -12,7 +12,7 @@ use Rattle.model.specs.Limits.{isPrice, inBand}
 use Rattle.model.specs.Book.{free, isLive, best}
 use Rattle.model.specs.Sound.{isMark, mayStand, soundFigures, isFree, isOrder, ownNumbers, isEmpty, crosses, between, sharesFit, pricesFit, turnoverFits}
 use Rattle.model.specs.Clock.{isTime}
-use Rattle.book.specs.Standing.{Price, Each, Apart}
+use Rattle.model.specs.Words.{Each, Price, Apart}
 use Rattle.book.proofs.Lists.{each, every}
 use Rattle.soundness.specs.SoundDay.{InBand, Rests, Place}
 use Rattle.soundness.proofs.Says.{Says, says-le, says-eq, says-and, says-or, says-unless, says-too, says-not, says-all, says-none}

@@ -18,7 +18,7 @@ use Rattle.model.proofs.Bools.{not-both}
 use Rattle.bits.specs.Maps.{hasBit, marked}
 use Rattle.bits.proofs.MapLaws.{empty-map, marked-itself, marked-other, length-marked}
 use Rattle.book.specs.Rows.{orderOf, bookOf}
-use Rattle.book.specs.Standing.{Each, Apart}
+use Rattle.model.specs.Words.{Each, Apart}
 use Rattle.book.proofs.Lists.{each, both, every}
 use Rattle.book.proofs.Kept.{free-number}
 use Rattle.soundness.specs.Numbers.{noNumbers, FreshMap}

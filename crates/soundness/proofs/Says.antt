@@ -8,7 +8,7 @@ use lib.Dec.{leb, eqb}
 use borrow.Author.Tests.{leb-true, le-leb, eqb-true, eq-eqb}
 use Rattle.model.specs.Lists.{all, any}
 use Rattle.model.proofs.Bools.{and-left, and-right, and-both, not-both, not-true-false}
-use Rattle.book.specs.Standing.{Each}
+use Rattle.model.specs.Words.{Each}
 
 abbrev pub Says : Bool → Type 0 → Type 0
 Says b P = (b ≡ true → P) × (P → b ≡ true)

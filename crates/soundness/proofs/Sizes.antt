@@ -7,7 +7,7 @@ use native.Mathlib.Omega.{arith}
 use lib.Dec.{eqb}
 use borrow.Author.Tests.{eqb-true, eqb-false}
 use Rattle.model.specs.Limits.{inSize, isOddLot, isQuantity}
-use Rattle.soundness.specs.Sized.{InSize, OddLot, Sized}
+use Rattle.model.specs.Words.{Sized, InSize, OddLot}
 use Rattle.soundness.proofs.Says.{Says, says-le, says-eq, says-and, says-or, says-too}
 
 module _ (side q balance : ℕ) where

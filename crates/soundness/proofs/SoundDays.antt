@@ -15,7 +15,8 @@ use Rattle.model.specs.Book.{free, inOrder}
 use Rattle.model.specs.Figures.{nextNumber}
 use Rattle.model.specs.Sound.{hasPlaces, isFree, isOrder, haltFits, soundAnywhere, sound}
 use Rattle.model.proofs.Bools.{and-left, and-right, and-both}
-use Rattle.book.specs.Standing.{Each, Fair, Apart, Standing, Ordered, Ranked}
+use Rattle.model.specs.Words.{Each, Apart, Ordered}
+use Rattle.book.specs.Standing.{Fair, Standing, Ranked}
 use Rattle.book.proofs.Lists.{each, both}
 use Rattle.book.proofs.Kept.{New, fair-free, free-number}
 use Rattle.book.proofs.Orderly.{told-ordered, ordered-told}

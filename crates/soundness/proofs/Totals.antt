@@ -12,7 +12,8 @@ use Rattle.model.specs.Lists.{total}
 use Rattle.model.specs.Book.{free}
 use Rattle.model.specs.Sound.{isEmpty}
 use Rattle.book.specs.Rows.{orderOf, bookOf}
-use Rattle.book.specs.Standing.{Each, Fair}
+use Rattle.model.specs.Words.{Each}
+use Rattle.book.specs.Standing.{Fair}
 use Rattle.soundness.proofs.Says.{says-eq, says-same}
 use Rattle.soundness.proofs.Clauses.{says-empty}
 use Rattle.soundness.proofs.Onward.{onward}

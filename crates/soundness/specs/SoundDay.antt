@@ -9,7 +9,7 @@ use Rattle.model.specs.declared.Day.{Day}
 use Rattle.model.specs.Lists.{total}
 use Rattle.model.specs.Book.{free, best}
 use Rattle.model.specs.Sound.{isLedTo}
-use Rattle.book.specs.Standing.{Price, Each, Apart}
+use Rattle.model.specs.Words.{Each, Price, Apart}
 
 pub record InBand (close p : ℕ) : Type 0 where
   pub low : 70 * close ≤ 100 * p

@@ -14,7 +14,7 @@ use borrow.Author.Tests.{eq-eqb, ne-eqb, eqb-true, eqb-false}
 use Rattle.model.specs.declared.Command.{Command}
 use Rattle.model.specs.declared.Command.the-variants.{Malformed}
 use Rattle.model.specs.Lines.{Line, onto, linesOf, lineCommand}
-use Rattle.book.specs.Standing.{Each}
+use Rattle.model.specs.Words.{Each}
 use Rattle.text.specs.declared.Bounds as Bounds
 use Rattle.text.specs.declared.NextCommand as NextCommand
 use Rattle.text.specs.Chunks.{asksOf, tailOf, tailLong, boundsAt, nextLine, asksAfter, commandAt, nextCommand, afterFirst}

@@ -16,8 +16,8 @@ use Rattle.model.specs.Sound.{isMark}
 use Rattle.model.specs.Refusals.{_when_, firstOf}
 use Rattle.model.specs.Calls.{openRules, openCall, cancelRules, cancelCall}
 use Rattle.model.specs.Replies.{openNumbers, cancelNumbers}
-use Rattle.records.specs.Layout.{dayIn, bookIn, bookBytes, over}
-use Rattle.records.proofs.Back.{AllBytes, book-kept}
+use Rattle.records.specs.Layout.{AllBytes, dayIn, bookIn, bookBytes, over}
+use Rattle.records.proofs.Back.{book-kept}
 use Rattle.byte_books.specs.declared.BookAsked as BookAsked
 use Rattle.byte_books.specs.declared.BookReply as BookReply
 use Rattle.byte_books.specs.Changing.{BookOutcome, bookRefusal, opened, cancelled, bookCall, bookOn, Changed}

@@ -4,34 +4,14 @@ use Prim.Native.Nat.{ℕ}
 use mathlib.Core.Path.{_≡_, sym, ap, _∙_}
 use mathlib.Core.List.{List}
 use Rattle.model.specs.declared.Asked.{Asked}
-use Rattle.wire.specs.Exports.{
-  OpenLeft,
-  openLeft,
-  openOn,
-  openLeaves,
-  TradeLeft,
-  tradeLeft,
-  orderLeaves,
-  clockLeaves,
-  CancelLeft,
-  cancelLeft,
-  cancelOn,
-  cancelLeaves,
-  ReportLeft,
-  reportLeft,
-  reportOn,
-  reportLeaves,
-  ListLeft,
-  listLeft,
-  listOn,
-  listLeaves,
-}
+use Rattle.wire.specs.Exports.{OpenLeft, TradeLeft, tradeLeft, orderLeaves, clockLeaves, CancelLeft, ReportLeft, ListLeft}
+use Rattle.wire.specs.Promises.{OpenPromise, ClockPromise, OrderPromise, CancelPromise, ReportPromise, ListPromise}
 
 -- `flemorix_open`
 pub open-determined :
     (close mark : ℕ) (day book reply : List ℕ) (r s : ℕ) (day₁ book₁ reply₁ day₂ book₂ reply₂ : List ℕ)
-    → openLeft r day₁ book₁ reply₁ ≡ openLeaves (openOn close mark day book) day book reply
-    → openLeft s day₂ book₂ reply₂ ≡ openLeaves (openOn close mark day book) day book reply
+    → OpenPromise day book reply close mark r day₁ book₁ reply₁
+    → OpenPromise day book reply close mark s day₂ book₂ reply₂
     → (r ≡ s) × (day₁ ≡ day₂) × (book₁ ≡ book₂) × (reply₁ ≡ reply₂)
 open-determined close mark day book reply r s day₁ book₁ reply₁ day₂ book₂ reply₂ e f =
     let g = e ∙ sym f in (
@@ -59,24 +39,24 @@ trading-determined o r s day₁ book₁ trades₁ reply₁ day₂ book₂ trades
 -- `flemorix_order`
 pub order-determined :
     (a : Asked) (day book trades reply : List ℕ) (r s : ℕ) (day₁ book₁ trades₁ reply₁ day₂ book₂ trades₂ reply₂ : List ℕ)
-    → tradeLeft r day₁ book₁ trades₁ reply₁ ≡ orderLeaves a day book trades reply
-    → tradeLeft s day₂ book₂ trades₂ reply₂ ≡ orderLeaves a day book trades reply
+    → OrderPromise day book trades reply a r day₁ book₁ trades₁ reply₁
+    → OrderPromise day book trades reply a s day₂ book₂ trades₂ reply₂
     → (r ≡ s) × (day₁ ≡ day₂) × (book₁ ≡ book₂) × (trades₁ ≡ trades₂) × (reply₁ ≡ reply₂)
 order-determined a day book trades reply = trading-determined (orderLeaves a day book trades reply)
 
 -- `flemorix_clock`
 pub clock-determined :
     (time : ℕ) (day book trades reply : List ℕ) (r s : ℕ) (day₁ book₁ trades₁ reply₁ day₂ book₂ trades₂ reply₂ : List ℕ)
-    → tradeLeft r day₁ book₁ trades₁ reply₁ ≡ clockLeaves time day book trades reply
-    → tradeLeft s day₂ book₂ trades₂ reply₂ ≡ clockLeaves time day book trades reply
+    → ClockPromise day book trades reply time r day₁ book₁ trades₁ reply₁
+    → ClockPromise day book trades reply time s day₂ book₂ trades₂ reply₂
     → (r ≡ s) × (day₁ ≡ day₂) × (book₁ ≡ book₂) × (trades₁ ≡ trades₂) × (reply₁ ≡ reply₂)
 clock-determined time day book trades reply = trading-determined (clockLeaves time day book trades reply)
 
 -- `flemorix_cancel`
 pub cancel-determined :
     (account number : ℕ) (day book reply : List ℕ) (r s : ℕ) (book₁ reply₁ book₂ reply₂ : List ℕ)
-    → cancelLeft r book₁ reply₁ ≡ cancelLeaves (cancelOn day account number book) book reply
-    → cancelLeft s book₂ reply₂ ≡ cancelLeaves (cancelOn day account number book) book reply
+    → CancelPromise day book reply account number r book₁ reply₁
+    → CancelPromise day book reply account number s book₂ reply₂
     → (r ≡ s) × (book₁ ≡ book₂) × (reply₁ ≡ reply₂)
 cancel-determined account number day book reply r s book₁ reply₁ book₂ reply₂ e f =
     let g = e ∙ sym f in
@@ -85,8 +65,8 @@ cancel-determined account number day book reply r s book₁ reply₁ book₂ rep
 -- `flemorix_report`
 pub report-determined :
     (day book reply : List ℕ) (r s : ℕ) (reply₁ reply₂ : List ℕ)
-    → reportLeft r reply₁ ≡ reportLeaves (reportOn day book) reply
-    → reportLeft s reply₂ ≡ reportLeaves (reportOn day book) reply
+    → ReportPromise day book reply r reply₁
+    → ReportPromise day book reply s reply₂
     → (r ≡ s) × (reply₁ ≡ reply₂)
 report-determined day book reply r s reply₁ reply₂ e f =
     let g = e ∙ sym f in (ap (λ (o : ReportLeft). o .returns) g, ap (λ (o : ReportLeft). o .reply) g)
@@ -94,8 +74,8 @@ report-determined day book reply r s reply₁ reply₂ e f =
 -- `flemorix_list`
 pub list-determined :
     (asked : ℕ) (day book prices reply : List ℕ) (r s : ℕ) (prices₁ reply₁ prices₂ reply₂ : List ℕ)
-    → listLeft r prices₁ reply₁ ≡ listLeaves (listOn day asked book prices) prices reply
-    → listLeft s prices₂ reply₂ ≡ listLeaves (listOn day asked book prices) prices reply
+    → ListPromise day book prices reply asked r prices₁ reply₁
+    → ListPromise day book prices reply asked s prices₂ reply₂
     → (r ≡ s) × (prices₁ ≡ prices₂) × (reply₁ ≡ reply₂)
 list-determined asked day book prices reply r s prices₁ reply₁ prices₂ reply₂ e f =
     let g = e ∙ sym f in

@@ -19,8 +19,8 @@ use Rattle.day.specs.declared.auctions.Listing as Listing
 use Rattle.book.specs.Promises as promises
 use Rattle.day.specs.Listings.{listRun, listReply, listPrices}
 use Rattle.day.proofs.AuctionLaws.{list-fits, list-written}
-use Rattle.records.specs.Layout.{bytes, dayIn, bookIn, pricesIn, over}
-use Rattle.records.proofs.Back.{AllBytes, length-prices-in, prices-kept, prices-front}
+use Rattle.records.specs.Layout.{AllBytes, bytes, dayIn, bookIn, pricesIn, over}
+use Rattle.records.proofs.Back.{length-prices-in, prices-kept, prices-front}
 use Rattle.records.proofs.Counted.{length-from}
 use Rattle.replies.specs.Words.{reportWords}
 use Rattle.byte_books.specs.declared.ReadAsked as ReadAsked

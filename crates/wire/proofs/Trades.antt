@@ -11,8 +11,8 @@ use Rattle.model.specs.declared.Day.{Day}
 use Rattle.model.specs.Refusals.{_when_, firstOf}
 use Rattle.model.specs.Calls.{Outcome, orderRules, orderCall}
 use Rattle.model.specs.ClockCall.{clockRules, clockCall}
-use Rattle.records.specs.Layout.{dayIn, dayBytes, bookIn, bookBytes, tradesIn, tradesBytes, over}
-use Rattle.records.proofs.Back.{AllBytes, day-kept, book-kept, trades-kept}
+use Rattle.records.specs.Layout.{AllBytes, dayIn, dayBytes, bookIn, bookBytes, tradesIn, tradesBytes, over}
+use Rattle.records.proofs.Back.{day-kept, book-kept, trades-kept}
 use Rattle.byte_trades.specs.declared.TradeAsked as TradeAsked
 use Rattle.byte_trades.specs.declared.TradeReply.{TradeReply}
 use Rattle.byte_trades.specs.declared.TradeAnswer.{TradeAnswer}

@@ -14,8 +14,8 @@ use replies::open_numbers;
 ghost use mathlib.Core.Path.{_≡_};
 ghost use Rattle.records.specs.Layout.{returned, replied};
 ghost use Rattle.byte_books.specs.Changing.{Changed};
-ghost use Rattle.wire.specs.Exports.{openOn, openLeft, openLeaves, cancelOn, cancelLeft, cancelLeaves};
 ghost use Rattle.wire.specs.Pairs.{bookNumbers, changeOn, DayFits, dayBy};
+ghost use Rattle.wire.specs.Promises.{OpenPromise, CancelPromise};
 
 fn put_book_reply(reply: &mut [u8], told: BookReply) -> u64
     ensures { λ r. ⌜ (r ≡ returned (bookNumbers told)) × (now (reply .exit) ≡ replied (bookNumbers told) (now (reply .entry))) ⌝ }
@@ -71,7 +71,7 @@ pub extern "C" fn flemorix_open(
     close: u64,
     mark: u64,
 ) -> u64
-    ensures { λ r. ⌜ openLeft r (now (day .exit)) (now (book .exit)) (now (reply .exit)) ≡ openLeaves (openOn close mark (now (day .entry)) (now (book .entry))) (now (day .entry)) (now (book .entry)) (now (reply .entry)) ⌝ }
+    ensures { λ r. ⌜ OpenPromise (now (day .entry)) (now (book .entry)) (now (reply .entry)) close mark r (now (day .exit)) (now (book .exit)) (now (reply .exit)) ⌝ }
 {
     let told = change(day, book, BookAsked::Open { close, mark });
     put_opened(day, told);
@@ -86,7 +86,7 @@ pub extern "C" fn flemorix_cancel(
     account: u64,
     number: u64,
 ) -> u64
-    ensures { λ r. ⌜ cancelLeft r (now (book .exit)) (now (reply .exit)) ≡ cancelLeaves (cancelOn (now (day .entry)) account number (now (book .entry))) (now (book .entry)) (now (reply .entry)) ⌝ }
+    ensures { λ r. ⌜ CancelPromise (now (day .entry)) (now (book .entry)) (now (reply .entry)) account number r (now (book .exit)) (now (reply .exit)) ⌝ }
 {
     let told = change(day, book, BookAsked::Cancel { account, number });
     put_book_reply(reply, told)

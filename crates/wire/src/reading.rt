@@ -15,8 +15,8 @@ use replies::list_numbers;
 use replies::report_numbers;
 ghost use mathlib.Core.Path.{_≡_};
 ghost use Rattle.records.specs.Layout.{returned, replied};
-ghost use Rattle.wire.specs.Exports.{reportOn, reportLeft, reportLeaves, listOn, listLeft, listLeaves};
 ghost use Rattle.wire.specs.Pairs.{readNumbers, readFrom, PricesFit, pricesBy};
+ghost use Rattle.wire.specs.Promises.{ReportPromise, ListPromise};
 
 fn put_read_reply(reply: &mut [u8], told: ReadReply) -> u64
     ensures { λ r. ⌜ (r ≡ returned (readNumbers told)) × (now (reply .exit) ≡ replied (readNumbers told) (now (reply .entry))) ⌝ }
@@ -66,7 +66,7 @@ fn put_prices(prices: &mut [u8], told: ReadReply)
 
 #[no_mangle]
 pub extern "C" fn flemorix_report(day: &[u8], book: &[u8], reply: &mut [u8]) -> u64
-    ensures { λ r. ⌜ reportLeft r (now (reply .exit)) ≡ reportLeaves (reportOn (now (day .entry)) (now (book .entry))) (now (reply .entry)) ⌝ }
+    ensures { λ r. ⌜ ReportPromise (now (day .entry)) (now (book .entry)) (now (reply .entry)) r (now (reply .exit)) ⌝ }
 {
     put_read_reply(reply, read(day, book, ReadAsked::Report))
 }
@@ -79,7 +79,7 @@ pub extern "C" fn flemorix_list(
     reply: &mut [u8],
     asked: u64,
 ) -> u64
-    ensures { λ r. ⌜ listLeft r (now (prices .exit)) (now (reply .exit)) ≡ listLeaves (listOn (now (day .entry)) asked (now (book .entry)) (now (prices .entry))) (now (prices .entry)) (now (reply .entry)) ⌝ }
+    ensures { λ r. ⌜ ListPromise (now (day .entry)) (now (book .entry)) (now (prices .entry)) (now (reply .entry)) asked r (now (prices .exit)) (now (reply .exit)) ⌝ }
 {
     let places = prices.len() / NUMBER_BYTES;
     let told = read(day, book, ReadAsked::List { places, asked });

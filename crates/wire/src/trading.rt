@@ -13,8 +13,9 @@ use replies::clock_numbers;
 use replies::order_numbers;
 ghost use mathlib.Core.Path.{_≡_};
 ghost use Rattle.records.specs.Layout.{returned, replied};
-ghost use Rattle.wire.specs.Exports.{tradeLeft, orderLeaves, clockLeaves};
+ghost use Rattle.wire.specs.Exports.{tradeLeft};
 ghost use Rattle.wire.specs.Pairs.{tradeNumbers, eitherLeaves};
+ghost use Rattle.wire.specs.Promises.{ClockPromise, OrderPromise};
 
 fn put_trade_reply(reply: &mut [u8], told: TradeReply) -> u64
     ensures { λ r. ⌜ (r ≡ returned (tradeNumbers told)) × (now (reply .exit) ≡ replied (tradeNumbers told) (now (reply .entry))) ⌝ }
@@ -64,7 +65,7 @@ pub extern "C" fn flemorix_order(
     price: u64,
     balance: u64,
 ) -> u64
-    ensures { λ r. ⌜ tradeLeft r (now (day .exit)) (now (book .exit)) (now (trades .exit)) (now (reply .exit)) ≡ orderLeaves (record { side = side; kind = kind; account = account; quantity = quantity; price = price; balance = balance }) (now (day .entry)) (now (book .entry)) (now (trades .entry)) (now (reply .entry)) ⌝ }
+    ensures { λ r. ⌜ OrderPromise (now (day .entry)) (now (book .entry)) (now (trades .entry)) (now (reply .entry)) (record { side = side; kind = kind; account = account; quantity = quantity; price = price; balance = balance }) r (now (day .exit)) (now (book .exit)) (now (trades .exit)) (now (reply .exit)) ⌝ }
 {
     let a = Asked {
         side,
@@ -85,7 +86,7 @@ pub extern "C" fn flemorix_clock(
     reply: &mut [u8],
     time: u64,
 ) -> u64
-    ensures { λ r. ⌜ tradeLeft r (now (day .exit)) (now (book .exit)) (now (trades .exit)) (now (reply .exit)) ≡ clockLeaves time (now (day .entry)) (now (book .entry)) (now (trades .entry)) (now (reply .entry)) ⌝ }
+    ensures { λ r. ⌜ ClockPromise (now (day .entry)) (now (book .entry)) (now (trades .entry)) (now (reply .entry)) time r (now (day .exit)) (now (book .exit)) (now (trades .exit)) (now (reply .exit)) ⌝ }
 {
     trade(day, book, trades, reply, TradeAsked::Clock(time))
 }

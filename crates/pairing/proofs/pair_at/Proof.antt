@@ -43,28 +43,16 @@ loop-holds c =
     underway-start (a .rows .now) (s .pre .0) w (a .price) (a .trades .now)
     (s .pre .1) (after-head-at .head-at .ensures) (c .head-at2 .ensures)
 
-smaller-requires : tie.Need-smaller-requires Inv-loop μ-loop
-smaller-requires c κs = search needs
-
-smaller-requires-2 : tie.Need-smaller-requires-2 Inv-loop μ-loop
-smaller-requires-2 c κs = search needs
-
-sub-buyerleft : tie.Need-sub-buyerleft Inv-loop μ-loop
-sub-buyerleft c =
-    let after-smaller = c .before in
-    omega (arith, after-smaller .smaller .ensures, c .smaller2 .ensures)
-
-sub-sellerleft : tie.Need-sub-sellerleft Inv-loop μ-loop
-sub-sellerleft c = omega (arith, c .smaller2 .ensures)
+trade-of-heads-requires : tie.Need-trade-of-heads-requires Inv-loop μ-loop
+trade-of-heads-requires c κs = search needs
 
 put-trade-requires : tie.Need-put-trade-requires Inv-loop μ-loop
 put-trade-requires c κs = search needs
 
 add-made : tie.Need-add-made Inv-loop μ-loop
 add-made c =
-    let after-smaller2 = c .before .before .before in
-    let after-smaller = after-smaller2 .before in
-    let in-loop = after-smaller .before in
+    let after-trade = c .before .before .before in
+    let in-loop = after-trade .before in
     let at-loop = in-loop .before in
     let after-free-from = at-loop .before .before .before in
     let s = after-free-from .before .before in
@@ -73,20 +61,14 @@ add-made c =
     record {
       fits = omega (
         arith,
-        count-fits (a .rows .now) (s .pre .0) w (a .price) (a .trades .now) (at-loop .loop .inv) (in-loop .loop-test .taken) (after-smaller .smaller .ensures)
-            (after-smaller2 .smaller2 .ensures),
+        count-fits (a .rows .now) (s .pre .0) w (a .price) (a .trades .now) (at-loop .loop .inv) (in-loop .loop-test .taken)
+            (after-trade .trade-of-heads .ensures .0),
       );
     }
 
-sub-left : tie.Need-sub-left Inv-loop μ-loop
-sub-left c =
-    let after-smaller2 = c .before .before .before in
-    let after-smaller = after-smaller2 .before in
-    omega (arith, after-smaller .smaller .ensures, after-smaller2 .smaller2 .ensures)
-
 head-past-requires : tie.Need-head-past-requires Inv-loop μ-loop
 head-past-requires c κs =
-    let in-loop = c .before .before .before .before .before in
+    let in-loop = c .before .before .before .before in
     let at-loop = in-loop .before in
     let after-free-from = at-loop .before .before .before in
     let s = after-free-from .before .before in
@@ -99,7 +81,7 @@ head-past-requires c κs =
 
 head-past-requires-2 : tie.Need-head-past-requires-2 Inv-loop μ-loop
 head-past-requires-2 c κs =
-    let in-loop = c .before .before .before .before .before .before in
+    let in-loop = c .before .before .before .before .before in
     let at-loop = in-loop .before in
     let after-free-from = at-loop .before .before .before in
     let s = after-free-from .before .before in
@@ -110,11 +92,22 @@ head-past-requires-2 c κs =
           (at-loop .loop .inv) (in-loop .loop-test .taken) .1,
     )
 
+sub-left : tie.Need-sub-left Inv-loop μ-loop
+sub-left c =
+    let after-trade = c .before .before .before .before .before in
+    let in-loop = after-trade .before in
+    let at-loop = in-loop .before in
+    let after-free-from = at-loop .before .before .before in
+    let s = after-free-from .before .before in
+    let a = s .args in
+    let w = sides after-free-from in
+    quantity-some (a .rows .now) (s .pre .0) w (a .price) (a .trades .now)
+    (at-loop .loop .inv) (in-loop .loop-test .taken) (after-trade .trade-of-heads .ensures .0) .1
+
 loop-less : tie.Need-loop-less Inv-loop μ-loop
 loop-less c =
-    let after-smaller2 = c .before .before .before .before .before in
-    let after-smaller = after-smaller2 .before in
-    let in-loop = after-smaller .before in
+    let after-trade = c .before .before .before .before .before in
+    let in-loop = after-trade .before in
     let at-loop = in-loop .before in
     let after-free-from = at-loop .before .before .before in
     let s = after-free-from .before .before in
@@ -123,25 +116,22 @@ loop-less c =
     omega (
       arith,
       quantity-some (a .rows .now) (s .pre .0) w (a .price) (a .trades .now)
-          (at-loop .loop .inv) (in-loop .loop-test .taken) (after-smaller .smaller .ensures)
-          (after-smaller2 .smaller2 .ensures),
+          (at-loop .loop .inv) (in-loop .loop-test .taken) (after-trade .trade-of-heads .ensures .0),
     )
 
 loop-again : tie.Need-loop-again Inv-loop μ-loop
 loop-again c =
     let after-head-past = c .before in
     let after-put-trade = after-head-past .before .before in
-    let after-smaller2 = after-put-trade .before .before in
-    let after-smaller = after-smaller2 .before in
-    let in-loop = after-smaller .before in
+    let after-trade = after-put-trade .before .before in
+    let in-loop = after-trade .before in
     let at-loop = in-loop .before in
     let after-free-from = at-loop .before .before .before in
     let s = after-free-from .before .before in
     let a = s .args in
     let w = sides after-free-from in
     underway-next (a .rows .now) (s .pre .0) w (a .price) (a .trades .now)
-    (at-loop .loop .inv) (in-loop .loop-test .taken) (after-smaller .smaller .ensures)
-    (after-smaller2 .smaller2 .ensures)
+    (at-loop .loop .inv) (in-loop .loop-test .taken) (after-trade .trade-of-heads .ensures .0)
     (after-put-trade .put-trade .ensures) (after-head-past .head-past .ensures) (c .head-past2 .ensures)
 
 same-length : tie.Need-same-length Inv-loop μ-loop
@@ -170,15 +160,12 @@ pair-at-spec =
     head-at-requires
     head-at-requires-2
     loop-holds
-    smaller-requires
-    smaller-requires-2
-    sub-buyerleft
-    sub-sellerleft
+    trade-of-heads-requires
     put-trade-requires
     add-made
-    sub-left
     head-past-requires
     head-past-requires-2
+    sub-left
     loop-less
     loop-again
     same-length

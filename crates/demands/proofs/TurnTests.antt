@@ -1,4 +1,5 @@
--- Every situation of the table is right: each row is tested at its two turning points and their neighbours.
+-- A book's price list and the price that is left, from two numbers: where the sells turn and where the buys do. Each is tested
+-- at itself and one fen below, not at 999,999 prices.
 use Prim.Native.Nat.{ℕ, _+_, _-_, _≤_, _<_}
 use mathlib.Core.Path.{_≡_, refl, ap, _∙_}
 use mathlib.Core.Bool.{Bool, true, false, not, _&&_, _||_}
@@ -7,24 +8,19 @@ use native.Mathlib.Nat.{le-refl}
 use native.Mathlib.Decide.{decLt, ℕ-discrete}
 use native.Mathlib.Omega.{arith}
 use borrow.Author.Tests.{leb-true, lt-ltb, le-ltb, eq-eqb, ne-eqb, not-true}
-use lib.ListN.{getD}
 use lib.Dec.{leb, ltb, eqb}
 use Rattle.model.specs.declared.Order.{Order}
 use Rattle.model.specs.Choice.{if_then_else_}
-use Rattle.model.specs.Lists.{keep, total, from}
-use Rattle.model.specs.Book.{isLive, standsOn}
-use Rattle.model.specs.Auction.{distance, sharesOf, demand, supply, volume, leftBy, surplus}
-use Rattle.model.specs.AuctionCalls.{reportAt}
-use Rattle.book.specs.Standing.{Each}
-use Rattle.auction.specs.Spans.{turned, gap, flatter, nearestIn}
-use Rattle.auction.specs.Stars.{Star, Right, stars, star-a, star-b, star-c, star-d, star-e, star-f}
+use Rattle.model.specs.Lists.{from}
+use Rattle.model.specs.Auction.{qualifying, leftBy}
+use Rattle.auction.specs.Spans.{turned, flatter, nearestIn}
 use Rattle.model.proofs.Bools.{not-both, and-left, and-right}
 use Rattle.auction.proofs.Turning.{Turns, turned-up, unturned-down, between-turns}
 use Rattle.auction.proofs.Spanning.{turns-span, turns-none}
 use Rattle.auction.proofs.Ties.{flattest-one, flattest-many, left-is, none-left, nearest-same}
 
 -- ---- a turning point, tested at it and one fen below
-unfoldable turnTest : List Order → ℕ → ℕ → Bool
+unfoldable pub turnTest : List Order → ℕ → ℕ → Bool
 turnTest os side r =
     (leb 1 r && leb r 1_000_000)
     && (eqb r 1 || not (turned os side (r - 1)))
@@ -57,7 +53,7 @@ turn-tested os side r e =
     }
 
 -- ---- the price left, by the two turning points
-unfoldable leftFrom : List Order → ℕ → ℕ → ℕ → List ℕ
+unfoldable pub leftFrom : List Order → ℕ → ℕ → ℕ → List ℕ
 leftFrom os ref lo end =
     if ltb lo end
     then
@@ -82,34 +78,10 @@ left-from os ref lo end s b = elim (decLt lo end) [
   | no h ↦ rw (le-ltb lo end (omega arith)) (none-left os ref (turns-none os s b (omega arith)))
 ]
 
--- ---- a row
-module _ (s : Star) (lo end : ℕ) (sells : turnTest (s .book) 1 lo ≡ true) (buys : turnTest (s .book) 0 end ≡ true) where
-  row-right :
-      from lo (end - lo) ≡ s .prices
-      → leftFrom (s .book) (s .close) lo end ≡ s .left
-      → reportAt (getD (s .left) 0 0) (s .book) ≡ s .report
-      → Each (λ x. surplus (s .book) (x .price) ≡ x .surplus) (s .shown)
-      → Right s
-  row-right p l r x =
-      let a = turn-tested (s .book) 1 lo sells in
-      let b = turn-tested (s .book) 0 end buys in
-      let left = left-from (s .book) (s .close) lo end a b ∙ l in
-      record {
-        prices-right = between-turns (s .book) a b ∙ p;
-        left-right = left;
-        report-right = ap (λ ps. reportAt (getD ps 0 0) (s .book)) left ∙ r;
-        shown-right = x;
-      }
+-- ---- both, by the tests
+module _ (os : List Order) (lo end : ℕ) (sells : turnTest os 1 lo ≡ true) (buys : turnTest os 0 end ≡ true) where
+  pub tested-list : qualifying os ≡ from lo (end - lo)
+  tested-list = between-turns os (turn-tested os 1 lo sells) (turn-tested os 0 end buys)
 
-pub stars-right : Each Right stars
-unfolding turnTest leftFrom turned from flatter gap nearestIn distance sharesOf demand supply volume surplus keep total isLive standsOn reportAt
-stars-right =
-    let a : Right star-a = row-right star-a 1_000_000 1 refl refl refl refl refl tt in
-    let b : Right star-b = row-right star-b 1000 991 refl refl refl refl refl tt in
-    let c : Right star-c = row-right star-c 1000 1001 refl refl refl refl refl (refl, tt) in
-    let d : Right (star-d 1000 1000) = row-right (star-d 1000 1000) 990 1011 refl refl refl refl refl tt in
-    let d-low : Right (star-d 980 990) = row-right (star-d 980 990) 990 1011 refl refl refl refl refl tt in
-    let d-high : Right (star-d 1030 1010) = row-right (star-d 1030 1010) 990 1011 refl refl refl refl refl tt in
-    let e : Right star-e = row-right star-e 1000 1011 refl refl refl refl refl (refl, tt) in
-    let f : Right star-f = row-right star-f 1000 1002 refl refl refl refl refl (refl, (refl, tt)) in
-    (a, (b, (c, (d, (d-low, (d-high, (e, (f, tt))))))))
+  pub tested-left : (ref : ℕ) → leftBy os ref ≡ leftFrom os ref lo end
+  tested-left ref = left-from os ref lo end (turn-tested os 1 lo sells) (turn-tested os 0 end buys)

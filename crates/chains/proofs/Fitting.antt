@@ -1,0 +1,174 @@
+-- What a sound day leaves fits numbers of 64 bits, so that what an event stores as bytes is read back from them. Accounts alone are not
+-- bounded by soundness: an order in the book has the account of one that stood there, or of the order that came in. Assumes nothing.
+use Prim.Native.Nat.{ℕ, zero, suc, _+_, _/_, _^_, _≤_, _<_}
+use mathlib.Core.Path.{_≡_, refl, ap, subst, _∙_}
+use mathlib.Core.Logic.{inl, inr, ⊎-elim}
+use mathlib.Core.Bool.{false}
+use mathlib.Core.List.{List, [], _∷_, _++_, map}
+use native.Mathlib.Omega.{arith}
+use native.Mathlib.Decide.{ℕ-discrete}
+use lib.ListN.{length, take, drop}
+use Rattle.model.specs.declared.Order.{Order}
+use Rattle.model.specs.declared.Trade.{Trade}
+use Rattle.model.specs.declared.Day.{Day}
+use Rattle.model.specs.declared.Event as Event
+use Rattle.model.specs.declared.OrderReply as OrderReply
+use Rattle.model.specs.Book.{free}
+use Rattle.model.specs.Calls.{orderCall}
+use Rattle.model.specs.Session.{Desk}
+use Rattle.model.specs.Words.{Each, Some, Sound}
+use Rattle.book.specs.Standing.{Fair}
+use Rattle.book.proofs.Lists.{each, each-append}
+use Rattle.soundness.specs.SoundDay.{SoundDay}
+use Rattle.soundness.proofs.SoundDays.{sound-day, day-stands}
+use Rattle.demands.specs.Running.{isOpening, Owner, Is, ownersBy, acceptedBy, steppedBy}
+use Rattle.demands.proofs.Elements.{each-map}
+use Rattle.demands.proofs.Owned.{Known, Owned, event-owned}
+use Rattle.records.specs.Layout.{AllBytes, Word, Fits, worth, parts, numbers, orderIn, bookIn, dayIn, dayRow, dayBytes, bookBytes, over}
+use Rattle.records.proofs.Back.{bytes-take, bytes-drop, length-book-in, day-back, book-back}
+
+abbrev pub WordAccount : Order → Type 0
+WordAccount o = Word (o .account)
+
+-- ---- numbers that are read from bytes
+
+power : (n : ℕ) → 1 ≤ 256 ^ n
+power zero = omega arith
+power (suc n) = let p = power n in omega (arith, p)
+
+few-bytes : (n : ℕ) (b : List ℕ) → length b ≤ n → AllBytes b → worth b < 256 ^ n
+unfolding worth
+few-bytes n [] h s = power n
+few-bytes zero (x ∷ b) h s = absurd (omega (arith, h))
+few-bytes (suc n) (x ∷ b) h s =
+    let w : worth b < 256 ^ n = few-bytes n b (omega (arith, h)) (λ i. s (suc i)) in
+    let x-byte : x < 256 = s 0 in
+    omega (arith, w, x-byte)
+
+at-most : {A : Type 0} (n : ℕ) (xs : List A) → length (take n xs) ≤ n
+at-most zero xs = omega arith
+at-most (suc n) [] = omega arith
+at-most (suc n) (x ∷ xs) = let r = at-most n xs in omega (arith, r)
+
+account-in : (b : List ℕ) → AllBytes b → WordAccount (orderIn b)
+unfolding numbers parts
+account-in b s = few-bytes 8 (take 8 (drop 8 b)) (at-most 8 (drop 8 b)) (bytes-take 8 (drop 8 b) (bytes-drop 8 b s))
+
+each-part : (n : ℕ) (b : List ℕ) → AllBytes b → Each WordAccount (parts orderIn 40 n b)
+unfolding parts
+each-part zero b s = tt
+each-part (suc n) b s = (account-in b s, each-part n (drop 40 b) (bytes-drop 40 b s))
+
+pub accounts-in : (b : List ℕ) → AllBytes b → Each WordAccount (bookIn b)
+unfolding bookIn
+accounts-in b s = each-part (length b / 40) b s
+
+-- ---- accounts after an event
+
+abbrev owner : Order → Owner
+owner o = record { number = o .number; account = o .account; side = o .side }
+
+own-book : (book : List Order) → Owned (map owner book) book
+own-book [] = tt
+own-book (o ∷ os) = (
+  λ _. inl (record { number = refl; account = refl; side = refl }),
+  each (Known (map owner os)) (Known (owner o ∷ map owner os)) os (λ p h n. inr (h n)) (own-book os),
+)
+
+abbrev WordOwner : Owner → Type 0
+WordOwner w = Word (w .account)
+
+known-word : (ws : List Owner) (o : Order) → Each WordOwner ws → Some (Is o) ws → WordAccount o
+known-word [] o e h = absurd h
+known-word (w ∷ ws) o e h = ⊎-elim (λ (i : Is o w). subst Word (i .account) (e .0)) (λ k. known-word ws o (e .1) k) h
+
+place-word : (ws : List Owner) (o : Order) → Each WordOwner ws → Fair o → Known ws o → WordAccount o
+unfolding free
+place-word ws o e f k = elim (ℕ-discrete (o .number) 0) [
+  | yes z ↦ let a : o .account ≡ 0 = ap (λ (p : Order). p .account) (f .none z) in omega (arith, a)
+  | no n ↦ known-word ws o e (k n)
+]
+
+book-words : (ws : List Owner) (book : List Order) → Each WordOwner ws → Each Fair book → Owned ws book → Each WordAccount book
+book-words ws [] e f k = tt
+book-words ws (o ∷ os) e f k = (place-word ws o e (f .0) (k .0), book-words ws os e (f .1) (k .1))
+
+-- the account that an event brings in is a number of 64 bits
+abbrev pub WordEvent : Event.Event → Type 0
+WordEvent (Event.the-variants.Open close mark) = Unit {0}
+WordEvent (Event.the-variants.Clock t) = Unit {0}
+WordEvent (Event.the-variants.Order a) = Word (a .account)
+WordEvent (Event.the-variants.Cancel account number) = Unit {0}
+
+new-owners : (e : Event.Event) (lent : List Trade) (s : Desk) → WordEvent e → Each WordOwner (acceptedBy e lent s)
+unfolding acceptedBy ownersBy
+new-owners (Event.the-variants.Open close mark) lent s w = tt
+new-owners (Event.the-variants.Clock t) lent s w = tt
+new-owners (Event.the-variants.Order a) lent s w = go (orderCall (s .day) a (s .book) lent .answer .reply)
+  where
+    go : (r : OrderReply.OrderReply) → Each WordOwner (ownersBy a r)
+    go (OrderReply.the-variants.Refused n) = tt
+    go (OrderReply.the-variants.Accepted x) = (w, tt)
+new-owners (Event.the-variants.Cancel account number) lent s w = tt
+
+pub event-accounts :
+    (e : Event.Event) → isOpening e ≡ false → (lent : List Trade) (s : Desk)
+    → WordEvent e
+    → Each WordAccount (s .book)
+    → Sound (steppedBy e lent s .day) (steppedBy e lent s .book)
+    → Each WordAccount (steppedBy e lent s .book)
+event-accounts e o lent s w a k =
+    let ws : List Owner = map owner (s .book) in
+    let old : Each WordOwner ws = each-map WordOwner owner (s .book) a in
+    book-words (ws ++ acceptedBy e lent s) (steppedBy e lent s .book)
+    (each-append WordOwner ws (acceptedBy e lent s) old (new-owners e lent s w))
+    (day-stands (steppedBy e lent s .day) (steppedBy e lent s .book) (sound-day (steppedBy e lent s .day) (steppedBy e lent s .book) (k .1)) .fair)
+    (event-owned ws e o lent s (own-book (s .book)))
+
+-- ---- a sound day and its book are read back
+
+order-fits : (o : Order) → Fair o → WordAccount o → Fits o
+order-fits o f a =
+    (omega (arith, f .side), (a, (omega (arith, f .left), (omega (arith, f .price), (omega (arith, f .number), tt)))))
+
+each-fits : (book : List Order) → Each Fair book → Each WordAccount book → Each Fits book
+each-fits [] f a = tt
+each-fits (o ∷ os) f a = (order-fits o (f .0) (a .0), each-fits os (f .1) (a .1))
+
+day-words : (d : Day) (book : List Order) → SoundDay d book → Each Word (dayRow d)
+day-words d book k =
+    let shares : d .shares ≤ 500_000_000_000 = omega (arith, k .shares, k .issued) in
+    let turnover : d .turnover < 2 ^ 64 = omega (arith, shares, k .most) in
+    let prices : Word (d .first) × Word (d .last) = elim (ℕ-discrete (d .shares) 0) [
+      | yes z ↦ (omega (arith, k .untraded z .0), omega (arith, k .untraded z .1))
+      | no n ↦ (omega (arith, k .traded n .0 .high), omega (arith, k .traded n .1 .high))
+    ] in (
+      omega (arith, k .close .high),
+      (
+        omega (arith, k .limited),
+        (
+          omega (arith, k .time),
+          (omega (arith, k .issued), (omega (arith, shares), (turnover, (prices .0, (prices .1, tt))))),
+        ),
+      ),
+    )
+
+abbrev pub both : Day → List Order → Desk
+both d book = record { day = d; book = book }
+
+module _ (d : Day) (book : List Order) (k : Sound d book) where
+  day-read : (day : List ℕ) → dayIn (over (dayBytes d) day) ≡ d
+  unfolding over
+  day-read day = day-back d (drop (length (dayBytes d)) day) (day-words d book (sound-day d book (k .1)))
+
+  book-read : (b : List ℕ) → Each WordAccount book → length book ≡ length (bookIn b) → bookIn (over (bookBytes book) b) ≡ book
+  book-read b a e =
+      book-back book b (each-fits book (day-stands d book (sound-day d book (k .1)) .fair) a) (e ∙ length-book-in b)
+
+  -- so memory in which a sound day and its book are stored holds just these
+  pub desk-read :
+      (day b : List ℕ)
+      → Each WordAccount book
+      → length book ≡ length (bookIn b)
+      → both (dayIn (over (dayBytes d) day)) (bookIn (over (bookBytes book) b)) ≡ both d book
+  desk-read day b a e = rw (day-read day, book-read b a e)

@@ -1,0 +1,5 @@
+-- Chains of calls at each door, begun by an accepted opening.
+pub mod Rows
+pub mod Records
+pub mod Bytes
+pub mod ForC
