@@ -37,7 +37,7 @@ module _ (day book trades reply : List ℕ) (h : hasDay day ≡ true) where
   abbrev clocked : ℕ → Outcome ClockAnswer
   clocked t = clockCall (dayIn day) t (bookIn book) (tradesIn trades)
 
-  clock-left :
+  pub clock-left :
       (t : ℕ)
       → clockLeaves t day book trades reply
       ≡ tradeLeft (returned (clockNumbers (clocked t .answer .reply))) (over (dayBytes (clocked t .answer .day)) day)
@@ -50,7 +50,7 @@ module _ (day book trades reply : List ℕ) (h : hasDay day ≡ true) where
   abbrev entered : Asked → Outcome OrderAnswer
   entered a = orderCall (dayIn day) a (bookIn book) (tradesIn trades)
 
-  order-left :
+  pub order-left :
       (a : Asked)
       → orderLeaves a day book trades reply
       ≡ tradeLeft (returned (orderNumbers (entered a .answer .reply))) (over (dayBytes (entered a .answer .day)) day)
@@ -69,7 +69,7 @@ module _ (day book : List ℕ) (h : hasDay day ≡ true) where
   unfolding reportOn
   report-on = rw h refl
 
-  list-on : (asked : ℕ) (prices : List ℕ) → listOn day asked book prices ≡ listCall (dayIn day) asked (bookIn book) (pricesIn prices)
+  pub list-on : (asked : ℕ) (prices : List ℕ) → listOn day asked book prices ≡ listCall (dayIn day) asked (bookIn book) (pricesIn prices)
   unfolding listOn
   list-on asked prices = rw h refl
 

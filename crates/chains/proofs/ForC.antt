@@ -51,7 +51,7 @@ returned-by (Cancel account number reply) x g s = s .returns
 returned-by (Report reply) x g s = s .returns
 returned-by (Prices asked prices reply) x g s = s .0 .returns
 
-told-refusal : (x : Seen) → returned (numbersIn x) ≡ refusalOf x
+pub told-refusal : (x : Seen) → returned (numbersIn x) ≡ refusalOf x
 unfolding numbersIn refusalOf reportWords reportNumbers word
 told-refusal (Opened r) = refl
 told-refusal (Moved r made trades) = refl

@@ -6,3 +6,5 @@ pub mod Bytes
 pub mod Opened
 pub mod Untouched
 pub mod ForC
+pub mod Returning
+pub mod Writing

@@ -3,3 +3,5 @@ pub mod Rows
 pub mod Records
 pub mod Bytes
 pub mod ForC
+pub mod Returning
+pub mod Writing

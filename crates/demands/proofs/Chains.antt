@@ -52,7 +52,7 @@ step-sound (Happens c) s k =
 step-sound Reports s k = k
 step-sound (Lists asked lent) s k = k
 
-priced : (p : ℕ) (book : List Order) → refusalOf (Reported (reportAt p book)) ≡ 0
+pub priced : (p : ℕ) (book : List Order) → refusalOf (Reported (reportAt p book)) ≡ 0
 unfolding refusalOf reportAt
 priced p book = go (eqb p 0)
   where

@@ -50,7 +50,7 @@ second f false x y r n e = refl
 -- ---- the first rule that holds is the refusal
 
 module _ (close mark : ℕ) (book : List Order) where
-  open-numbers : Numbers (openRules close mark book)
+  pub open-numbers : Numbers (openRules close mark book)
   unfolding openRules _when_
   open-numbers = (real 14 refl, tt)
 
@@ -147,7 +147,7 @@ module _ (d : Day) (t : ℕ) (book : List Order) (lent : List Trade) where
   clock-left n = second (λ (o : Outcome ClockAnswer). o .answer .reply) (eqb (firstOf (clockRules d t book (length lent))) 0) _ _ (ClockReply.the-variants.Refused n) (clock-apart n)
 
 module _ (d : Day) (book : List Order) where
-  report-numbers : Numbers (reportRules d book)
+  pub report-numbers : Numbers (reportRules d book)
   unfolding reportRules _when_
   report-numbers = (real 15 refl, tt)
 
@@ -172,7 +172,7 @@ module _ (d : Day) (book : List Order) where
       report-apart refl
 
 module _ (d : Day) (asked : ℕ) (book : List Order) (lent : List ℕ) where
-  list-numbers : Numbers (listRules d book)
+  pub list-numbers : Numbers (listRules d book)
   unfolding listRules _when_
   list-numbers = (real 15 refl, tt)
 
