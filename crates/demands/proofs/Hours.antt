@@ -1,13 +1,15 @@
--- When orders are taken: not before 33,300, not from 54,000, and from 33,900 to 53,819 in continuous trading alone.
--- Assumes nothing.
+-- When orders are taken: not before 33,300, not from 54,000, and from 33,900 to 53,819 in continuous trading alone; and the phase of a
+-- day, which is the table's where no halt runs. Assumes nothing.
 use Prim.Native.Nat.{ℕ, _≤_, _<_}
 use mathlib.Core.Path.{_≡_, refl, ap, sym, _∙_}
-use mathlib.Core.Bool.{Bool, true, false, cond}
+use mathlib.Core.Bool.{Bool, true, false, cond, not, _&&_}
 use native.Mathlib.Omega.{arith}
-use lib.Dec.{ltb}
-use borrow.Author.Tests.{lt-ltb, le-ltb}
+use lib.Dec.{ltb, eqb}
+use borrow.Author.Tests.{lt-ltb, le-ltb, eq-eqb, eqb-true, eqb-false}
 use Rattle.model.specs.declared.Row.{Row}
+use Rattle.model.specs.declared.Day.{Day}
 use Rattle.model.specs.Clock.{row, closed, laterRows, holding, rowAt, phaseAt, takesOrders, continuous}
+use Rattle.model.specs.Halts.{runs, phaseNow}
 use Rattle.model.proofs.Bools.{not-both}
 
 module _ (t : ℕ) where
@@ -64,3 +66,30 @@ module _ (t : ℕ) where
       go false true e h = refl
       go false false true h = absurd (not-both h refl)
       go false false false h = refl
+
+-- ---- the phase of a day
+
+module _ (d : Day) where
+  pub phase-unhalted : d .halt ≡ 0 → phaseNow d ≡ phaseAt (d .time)
+  unfolding phaseNow runs
+  phase-unhalted z = rw (eq-eqb (d .halt) 0 z) (go (eqb (phaseAt (d .time)) continuous))
+    where
+      go : (b : Bool) → cond (b && false) 7 (phaseAt (d .time)) ≡ phaseAt (d .time)
+      go true = refl
+      go false = refl
+
+  -- where trading is continuous no halt runs
+  pub now-continuous : phaseNow d ≡ continuous → (phaseAt (d .time) ≡ continuous) × (d .halt ≡ 0)
+  unfolding phaseNow runs continuous
+  now-continuous e = go (eqb (phaseAt (d .time)) 4) refl (eqb (d .halt) 0) refl e
+    where
+      go :
+          (b : Bool)
+          → eqb (phaseAt (d .time)) 4 ≡ b
+          → (c : Bool)
+          → eqb (d .halt) 0 ≡ c
+          → cond (b && not c) 7 (phaseAt (d .time)) ≡ 4
+          → (phaseAt (d .time) ≡ 4) × (d .halt ≡ 0)
+      go true x true y h = (eqb-true (phaseAt (d .time)) 4 x, eqb-true (d .halt) 0 y)
+      go true x false y h = absurd (omega (arith, h))
+      go false x c y h = absurd (eqb-false (phaseAt (d .time)) 4 x h)

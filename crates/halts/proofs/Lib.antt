@@ -1,3 +1,4 @@
 pub mod LedTo
 pub mod Fires
 pub mod Fits
+pub mod Kept
