@@ -24,8 +24,10 @@ use Rattle.soundness.proofs.SoundDays.{sound-day, day-stands}
 use Rattle.demands.specs.Running.{isOpening, Owner, Is, ownersBy, acceptedBy, steppedBy}
 use Rattle.demands.proofs.Elements.{each-map}
 use Rattle.demands.proofs.Owned.{Known, Owned, event-owned}
-use Rattle.records.specs.Layout.{AllBytes, Word, Fits, worth, parts, numbers, orderIn, bookIn, dayIn, dayRow, dayBytes, bookBytes, over}
-use Rattle.records.proofs.Back.{bytes-take, bytes-drop, length-book-in, day-back, book-back}
+use Rattle.octets.specs.Numbers.{AllBytes, worth, parts}
+use Rattle.octets.proofs.Digits.{bytes-take, bytes-drop}
+use Rattle.records.specs.Layout.{Word, Fits, numbers, orderIn, bookIn, dayIn, dayRow, dayBytes, bookBytes, over}
+use Rattle.records.proofs.Back.{length-book-in, day-back, book-back}
 
 abbrev pub WordAccount : Order → Type 0
 WordAccount o = Word (o .account)

@@ -31,8 +31,9 @@ use Rattle.demands.proofs.Cases.{order-cases, cancel-cases}
 use Rattle.demands.proofs.Chains.{same-desk, step-sound, chain-holds}
 use Rattle.demands.proofs.Demands.{own-only}
 use Rattle.demands.proofs.Runs.{fresh-sound}
-use Rattle.records.specs.Layout.{Word, numberIn, digits, flat, bytes, over, returned, replied, bookIn, tradesIn}
-use Rattle.records.proofs.Digits.{length-digits}
+use Rattle.octets.specs.Numbers.{digits, flat}
+use Rattle.records.specs.Layout.{Word, numberIn, bytes, over, returned, replied, bookIn, tradesIn}
+use Rattle.octets.proofs.Digits.{length-digits}
 use Rattle.records.proofs.Back.{number-back}
 use Rattle.replies.specs.Words.{word, reportWords}
 use Rattle.chains.specs.Bytes.{Slice, Memory, Asks, Clock, Order as OrderOf, Cancel, Report, Prices, Reply, Gives, Promise, call, numbersIn, Answers, Shows, deskIn, door, OpenedOn}

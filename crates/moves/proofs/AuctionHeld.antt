@@ -1,5 +1,5 @@
--- A boundary's auction, as the code holds it: its trades, the book after them, room for them in the day's figures and in the lent list,
--- and what it comes to. Assumes nothing.
+-- A stop's auction, as the code holds it: its trades, the book after them, room for them in the day's figures and in the lent list, and
+-- what comes of it at each kind of stop. Assumes nothing.
 use Prim.Native.Nat.{ℕ, _+_, _-_, _*_, _^_, _≤_, _<_}
 use mathlib.Core.Path.{_≡_, refl, sym, ap, _∙_}
 use mathlib.Core.Logic.{⊎-elim}
@@ -7,32 +7,41 @@ use mathlib.Core.Bool.{Bool, true, false, cond}
 use mathlib.Core.List.{List, [], _++_, append-nil, map-append}
 use native.Mathlib.Nat.{mul-le-mul-right, mul-add}
 use native.Mathlib.Omega.{arith}
-use lib.ListN.{length, length-map, length-append, length-drop, take, drop, getD, drop-of-length-le}
+use lib.Dec.{eqb}
+use borrow.Author.Tests.{eq-eqb, ne-eqb, eqb-false}
+use lib.ListN.{replicate, length, length-map, length-append, length-drop, take, drop, getD, drop-of-length-le}
 use lib.Seq.{length-take-le, take-all, take-append-le, drop-append-le, take-append-add, drop-append-add, drop-at, drop-drop}
 use Rattle.model.specs.declared.Order.{Order}
 use Rattle.model.specs.declared.Trade.{Trade}
 use Rattle.model.specs.declared.Day.{Day}
-use Rattle.model.specs.declared.Boundary.{Boundary}
 use Rattle.model.specs.Lists.{total}
-use Rattle.model.specs.Clock.{passes}
-use Rattle.model.specs.Book.{arranged}
-use Rattle.model.specs.Matching.{filled, settle}
-use Rattle.model.specs.Figures.{money, tally, reference}
+use Rattle.model.specs.Book.{free, arranged}
+use Rattle.model.specs.Matching.{filled, firstPrice, settle}
+use Rattle.model.specs.Figures.{money, tally, reference, openPrice}
+use Rattle.model.specs.Halts.{halting, fired, resumed}
 use Rattle.model.specs.Auction.{volume, leftBy}
 use Rattle.model.specs.Sound.{crosses}
 use Rattle.model.specs.Pairing.{tradesAt}
 use Rattle.model.specs.Calls.{cleared}
-use Rattle.model.specs.ClockCall.{auctionPrice, auctionTrades, Held, hold, pass, start}
+use Rattle.model.specs.ClockCall.{auctionPrice, auctionTrades, Held, auction, resume, lapse, pass, start}
 use Rattle.book.specs.Rows.{orderOf, bookOf, rowsOf, tradeOf, tradeRow, tradesOf, tradeRows}
+use Rattle.model.proofs.Bools.{not-false-true}
+use Rattle.model.specs.Words.{Each}
 use Rattle.book.specs.Standing.{Standing, Ranked}
 use Rattle.book.specs.Writing.{fitted}
+use Rattle.book.proofs.Lists.{each}
 use Rattle.book.proofs.Memory.{book-rows}
+use Rattle.book.proofs.Arranging.{cleared-frees, arranged-length}
 use Rattle.book.proofs.Written.{fitted-nil, fitted-all, fitted-trades}
 use Rattle.pairing.proofs.Auctioned.{volume-filled}
-use Rattle.pairing.proofs.Auctions.{uncrossed-none, auction-trades-are, auction-money, auction-shares, auction-cases}
+use Rattle.pairing.proofs.Auctions.{uncrossed-none, auction-trades-are, auction-priced, auction-money, auction-shares, auction-cases}
+use Rattle.pairing.proofs.Moves.{pass-due}
+use Rattle.halts.specs.Priced.{Priced}
 use Rattle.moves.specs.declared.Dealt.{Dealt}
 use Rattle.moves.specs.declared.Passage.{Passage}
+use Rattle.moves.specs.Stops.{isStop}
 use Rattle.moves.specs.Moving.{dealt, soFar, Underway, Reached}
+use Rattle.moves.proofs.NextStop.{stop-due}
 
 -- ---- its trades
 
@@ -112,6 +121,20 @@ module _ (h : Held) (u : Underway h) where
         mul-add 999_999 (h .day .shares) (filled ts),
       )
 
+  -- each trade is at the auction's price, and so is the open where it is the first
+  pub prices-fit : Each (λ (t : Trade). t .price ≤ 999_999) ts
+  prices-fit =
+      each (λ (t : Trade). t .price ≡ auctionPrice (h .day) (h .book)) (λ (t : Trade). t .price ≤ 999_999) ts
+      (λ t e. omega (arith, e, price-room)) (auction-priced (h .book) (u .ranked .stands) (h .day))
+
+  pub opened-fit : tally ts (h .day) .first ≤ 999_999
+  unfolding tally
+  opened-fit = go (eqb (h .day .first) 0)
+    where
+      go : (b : Bool) → cond b (firstPrice 0 ts) (h .day .first) ≤ 999_999
+      go true = ⊎-elim (λ k. omega (arith, k .first 0, price-room)) (λ k. rw (k .1) (unfold firstPrice in omega arith)) (auction-cases (h .book) (u .ranked .stands) (h .day))
+      go false = u .opened
+
   figures-fit : (h .day .shares + filled ts < 2 ^ 64) × (h .day .turnover + money ts < 2 ^ 64)
   figures-fit = (omega (arith, sold-room), omega (arith, sold-room, paid-room))
 
@@ -125,7 +148,7 @@ module _ (d : Day) (rows lent : List (List ℕ)) (fits : length (auctionTrades d
   unfolding start
   start-ranked u = u .ranked
 
-  module _ {n : ℕ} {after : List (List ℕ)} (en : n ≡ length new) (ea : after ≡ fitted (tradeRows new) lent) where
+  module _ {n : ℕ} {after : List (List ℕ)} (en : n ≡ length new) (ea : after ≡ fitted (tradeRows new) lent) (kept : length after ≡ length lent) where
     -- the trades are read back from the list
     back : tradesOf (take n after) ≡ new
     back =
@@ -147,47 +170,150 @@ module _ (d : Day) (rows lent : List (List ℕ)) (fits : length (auctionTrades d
     unfolding start
     held-fits u = rw back (figures-fit (start d (bookOf rows)) u)
 
-    module _ (b : Boundary) {rows₁ : List (List ℕ)} {day : Day} (kept : length after ≡ length lent) (ed : day ≡ tally (tradesOf (take n after)) d) where
-      held :
-          bookOf rows₁ ≡ cond (b .lapse) (cleared (bookOf rows)) (arranged (length (bookOf rows)) (settle new (bookOf rows)))
-          → Reached (hold b (start d (bookOf rows))) lent (record { day = day; made = n }) rows₁ after
-      unfolding hold start
-      held f =
-          let g : day ≡ tally new d = ed ∙ ap (λ (l : List Trade). tally l d) back in
-          record { state = rw (g, f, back); within = omega (arith, en, fits); past = past-them }
+    module _ {day : Day} (ed : day ≡ tally (tradesOf (take n after)) d) where
+      tallied : day ≡ tally new d
+      tallied = ed ∙ ap (λ (l : List Trade). tally l d) back
 
-      pub held-lapse :
-          b .lapse ≡ true
-          → rows₁ ≡ rowsOf (cleared (bookOf rows))
-          → Reached (hold b (start d (bookOf rows))) lent (record { day = day; made = n }) rows₁ after
-      held-lapse l er = held (rw l (ap bookOf er ∙ book-rows (cleared (bookOf rows))))
-
-      pub held-on :
-          b .lapse ≡ false
+      -- after an auction
+      pub held :
+          {rows₁ : List (List ℕ)}
           → bookOf rows₁ ≡ arranged (length (bookOf rows)) (settle new (bookOf rows))
-          → Reached (hold b (start d (bookOf rows))) lent (record { day = day; made = n }) rows₁ after
-      held-on l er = held (rw l er)
+          → Reached (auction (start d (bookOf rows))) lent (record { day = day; made = n }) rows₁ after
+      unfolding auction start
+      held f = record { state = rw (tallied, f, back); within = omega (arith, kept, en, fits); past = past-them }
 
--- ---- one boundary, passed or not
+      -- and with the lapse
+      pub closed :
+          {rows₁ : List (List ℕ)}
+          → rows₁ ≡ rowsOf (cleared (bookOf rows))
+          → Reached (lapse (auction (start d (bookOf rows)))) lent (record { day = day; made = n }) rows₁ after
+      unfolding lapse auction start
+      closed {rows₁} f =
+          let g : bookOf rows₁ ≡ cleared (arranged (length (bookOf rows)) (settle new (bookOf rows))) =
+          ap bookOf f ∙ book-rows (cleared (bookOf rows)) ∙ cleared-same
+          in
+          record { state = rw (tallied, g, back); within = omega (arith, kept, en, fits); past = past-them }
+        where
+          -- as many places are free
+          cleared-same : cleared (bookOf rows) ≡ cleared (arranged (length (bookOf rows)) (settle new (bookOf rows)))
+          cleared-same =
+              cleared-frees (bookOf rows)
+              ∙ ap (λ (k : ℕ). replicate k free) (sym (arranged-length (length (bookOf rows)) (settle new (bookOf rows))))
+              ∙ sym (cleared-frees (arranged (length (bookOf rows)) (settle new (bookOf rows))))
 
-pub not-passed :
-    (old new : ℕ) (p : Passage) (b : Boundary) (rows lent : List (List ℕ))
-    → p .made ≤ length lent
-    → passes (b .second) old new ≡ false
-    → Reached (pass old new b (soFar p rows lent)) lent p rows lent
-unfolding pass
-not-passed old new p b rows lent w e = record { state = rw e; within = w; past = refl }
+-- ---- the end of a halt
 
-pub passed : (old new : ℕ) (b : Boundary) (h : Held) → passes (b .second) old new ≡ true → pass old new b h ≡ hold b h
-unfolding pass
-passed old new b h e = rw e
+module _ (d : Day) (rows lent : List (List ℕ)) {p : Passage} {rows₁ after : List (List ℕ)} (r : Reached (auction (start d (bookOf rows))) lent p rows₁ after) where
+  abbrev h : Held
+  h = start d (bookOf rows)
+
+  ended-back : tradesOf (take (p .made) after) ≡ auctionTrades (h .day) (h .book)
+  unfolding auction start
+  ended-back = ap (λ (k : Held). k .trades) (r .state)
+
+  ended-day : p .day ≡ tally (auctionTrades (h .day) (h .book)) (h .day)
+  unfolding auction start
+  ended-day = ap (λ (k : Held). k .day) (r .state)
+
+  module _ {over : Day} (eo : over ≡ resumed (p .day)) where
+    over-is : over ≡ resumed (auction h .day)
+    over-is = eo ∙ ap (λ (k : Held). resumed (k .day)) (r .state)
+
+    -- the open is a price, and so is the auction's
+    pub ended-priced : Underway h → Priced over (tradesOf (take (p .made) after))
+    unfolding start
+    ended-priced u =
+        rw (eo, ended-day, ended-back)
+        (record { opened = unfold openPrice resumed halting in opened-fit h u; trades = prices-fit h u })
+
+    module _ (s : ℕ) where
+      -- at 14:57 nothing fires
+      pub ended-close : s ≡ 53_820 → Reached (resume s h) lent (record { day = over; made = p .made }) rows₁ after
+      unfolding resume
+      ended-close e =
+          record {
+            state = rw (over-is, eq-eqb s 53_820 e, ap (λ (k : Held). k .book) (r .state), ap (λ (k : Held). k .trades) (r .state));
+            within = r .within;
+            past = r .past;
+          }
+
+      -- at any other end the auction's price may
+      pub ended-else :
+          {day : Day}
+          → (s ≡ 53_820 → ⊥)
+          → day ≡ fired s (tradesOf (take (p .made) after)) over
+          → Reached (resume s h) lent (record { day = day; made = p .made }) rows₁ after
+      unfolding resume
+      ended-else {day} n ed =
+          let g : day ≡ fired s (auctionTrades (h .day) (h .book)) (resumed (auction h .day)) =
+          ed ∙ ap (λ (ts : List Trade). fired s ts over) ended-back ∙ ap (fired s (auctionTrades (h .day) (h .book))) over-is
+          in
+          record {
+            state = rw (g, ne-eqb s 53_820 n, ap (λ (k : Held). k .book) (r .state), ap (λ (k : Held). k .trades) (r .state));
+            within = r .within;
+            past = r .past;
+          }
+
+-- ---- by what is due
+
+module _ (s : ℕ) (d : Day) (rows : List (List ℕ)) where
+  abbrev from : Held
+  from = start d (bookOf rows)
+
+  module _ {lent : List (List ℕ)} {p : Passage} {rows₁ after : List (List ℕ)} where
+    pub reached-opening : s ≡ 33_900 → Reached (auction from) lent p rows₁ after → Reached (pass s from) lent p rows₁ after
+    unfolding pass
+    reached-opening e r = rw (eq-eqb s 33_900 e) r
+
+    module _ (n : s ≡ 33_900 → ⊥) where
+      pub reached-end : s ≡ d .halt → Reached (resume s from) lent p rows₁ after → Reached (pass s from) lent p rows₁ after
+      unfolding pass start
+      reached-end e r = rw (ne-eqb s 33_900 n, eq-eqb s (d .halt) e) r
+
+      pub reached-close :
+          isStop (d .halt) s ≡ true
+          → (s ≡ d .halt → ⊥)
+          → Reached (lapse (auction from)) lent p rows₁ after
+          → Reached (pass s from) lent p rows₁ after
+      unfolding pass start
+      reached-close e m r = rw (ne-eqb s 33_900 n, ne-eqb s (d .halt) m, closing) r
+        where
+          closing : eqb s 54_000 ≡ true
+          closing = not-false-true (λ f. stop-due from s (unfold start in e) n (unfold start in m) (eqb-false s 54_000 f))
 
 -- ---- and after the trades so far
 
-module _ (p : Passage) (b : Boundary) (rows lent : List (List ℕ)) (w : p .made ≤ length lent) where
+-- what a stop does is the same, whatever trades came before
+behind :
+    (s : ℕ) (d : Day) (book : List Order) (ts : List Trade)
+    → pass s (record { day = d; book = book; trades = ts })
+    ≡ record { day = pass s (start d book) .day; book = pass s (start d book) .book; trades = ts ++ pass s (start d book) .trades }
+unfolding pass auction resume lapse start
+behind s d book ts = go (eqb s 33_900) (eqb s (d .halt)) (eqb s 54_000)
+  where
+    h : Held
+    h = record { day = d; book = book; trades = ts }
+
+    k : Held
+    k = record { day = d; book = book; trades = [] }
+
+    go :
+        (x y z : Bool)
+        → cond x (auction h) (cond y (resume s h) (cond z (lapse (auction h)) h))
+        ≡ record {
+          day = cond x (auction k) (cond y (resume s k) (cond z (lapse (auction k)) k)) .day;
+          book = cond x (auction k) (cond y (resume s k) (cond z (lapse (auction k)) k)) .book;
+          trades = ts ++ cond x (auction k) (cond y (resume s k) (cond z (lapse (auction k)) k)) .trades;
+        }
+    go true y z = refl
+    go false true z = refl
+    go false false true = refl
+    go false false false = rw (append-nil ts)
+
+module _ (p : Passage) (s : ℕ) (rows lent : List (List ℕ)) (w : p .made ≤ length lent) where
   pub next-underway : Underway (soFar p rows lent) → Underway (start (p .day) (bookOf rows))
   unfolding start
-  next-underway u = record { ranked = u .ranked; shares = u .shares; most = u .most }
+  next-underway u = record { ranked = u .ranked; shares = u .shares; most = u .most; opened = u .opened }
 
   abbrev old : List (List ℕ)
   old = take (p .made) lent
@@ -209,13 +335,18 @@ module _ (p : Passage) (b : Boundary) (rows lent : List (List ℕ)) (w : p .made
   beyond-is =
       drop-of-length-le (drop (p .made) lent) {i = length lent - p .made} (omega (arith, length-drop (p .made) lent))
 
+  -- the stop's trades have room in what is left
   pub next-fits :
-      length (hold b (soFar p rows lent) .trades) ≤ length lent
+      Underway (soFar p rows lent)
+      → isStop (p .day .halt) s ≡ true
+      → length (pass s (soFar p rows lent) .trades) ≤ length lent
       → length (auctionTrades (p .day) (bookOf rows)) ≤ length rest
-  unfolding hold
-  next-fits f =
+  next-fits u e f =
+      let a : pass s (soFar p rows lent) .trades ≡ tradesOf old ++ auctionTrades (p .day) (bookOf rows) =
+      pass-due (soFar p rows lent) (u .ranked .stands) s (stop-due (soFar p rows lent) s e) .trades in
       omega (
         arith,
+        ap length a,
         length-append (tradesOf old) (auctionTrades (p .day) (bookOf rows)),
         length-map old tradeOf,
         old-long,
@@ -223,7 +354,7 @@ module _ (p : Passage) (b : Boundary) (rows lent : List (List ℕ)) (w : p .made
         length-drop (p .made) lent,
       )
 
-  module _ {q : Passage} {rows₁ part : List (List ℕ)} (k : length part ≡ length rest) (r : Reached (hold b (start (p .day) (bookOf rows))) rest q rows₁ part) where
+  module _ {q : Passage} {rows₁ part : List (List ℕ)} (k : length part ≡ length rest) (r : Reached (pass s (start (p .day) (bookOf rows))) rest q rows₁ part) where
     pub sum-fits : p .made + q .made ≤ length lent
     sum-fits = omega (arith, r .within, ap length rest-is, length-drop (p .made) lent)
 
@@ -248,16 +379,13 @@ module _ (p : Passage) (b : Boundary) (rows lent : List (List ℕ)) (w : p .made
         ∙ ap (drop (q .made)) rest-is
         ∙ drop-drop (q .made) (p .made) lent
 
-    pub then-held : Reached (hold b (soFar p rows lent)) lent (record { day = q .day; made = p .made + q .made }) rows₁ after
-    unfolding hold start
+    pub then-held : Reached (pass s (soFar p rows lent)) lent (record { day = q .day; made = p .made + q .made }) rows₁ after
     then-held =
-        let ts = auctionTrades (p .day) (bookOf rows) in
-        let d : q .day ≡ tally (auctionTrades (p .day) (bookOf rows)) (p .day) = ap (λ (h : Held). h .day) (r .state) in
-        let o : bookOf rows₁ ≡ cond (b .lapse) (cleared (bookOf rows)) (arranged (length (bookOf rows)) (settle (auctionTrades (p .day) (bookOf rows)) (bookOf rows))) =
-        ap (λ (h : Held). h .book) (r .state) in
-        let t : tradesOf (take (q .made) part) ≡ auctionTrades (p .day) (bookOf rows) = ap (λ (h : Held). h .trades) (r .state) in
         record {
-          state = rw (d, o, all-back, t);
+          state =
+              ap (λ (l : List Trade). record { day = q .day; book = bookOf rows₁; trades = l }) all-back
+              ∙ ap (λ (h : Held). record { day = h .day; book = h .book; trades = tradesOf old ++ h .trades }) (r .state)
+              ∙ sym (behind s (p .day) (bookOf rows) (tradesOf old));
           within = omega (arith, length-append old (part ++ beyond), length-append part beyond, old-long, r .within);
           past = past-all;
         }

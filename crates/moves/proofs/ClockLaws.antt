@@ -2,7 +2,7 @@
 -- what a move that no rule refuses comes to. Assumes nothing.
 use Prim.Native.Nat.{ℕ, zero, suc, _+_, _-_, _≤_, _<_}
 use mathlib.Core.Path.{_≡_, refl, sym, ap, _∙_}
-use mathlib.Core.Bool.{Bool, true, false, cond}
+use mathlib.Core.Bool.{true, false}
 use mathlib.Core.List.{List, [], _∷_, _++_, map-append}
 use native.Mathlib.Omega.{arith}
 use lib.ListN.{length, take, drop, getD, length-map, take-append-drop}
@@ -12,31 +12,28 @@ use borrow.Author.Tests.{eq-eqb, ne-eqb, eqb-false, le-leb, lt-leb, le-ltb, ltb-
 use Rattle.model.specs.declared.Order.{Order}
 use Rattle.model.specs.declared.Trade.{Trade}
 use Rattle.model.specs.declared.Day.{Day}
-use Rattle.model.specs.declared.Boundary.{Boundary}
+use Rattle.model.specs.declared.Row.{Row}
 use Rattle.model.specs.declared.ClockReply.the-variants.{Refused, Moved}
-use Rattle.model.specs.Clock.{isTime, phaseAt, boundaries}
+use Rattle.model.specs.Clock.{isTime, rowAt, passed}
 use Rattle.model.specs.Figures.{at}
+use Rattle.model.specs.Halts.{phaseNow}
 use Rattle.model.specs.Refusals.{_when_, firstOf, unsound}
 use Rattle.model.specs.Calls.{written}
 use Rattle.model.specs.ClockCall.{auctionTrades, Held, pass, through, start, moved, clockRules, clockCall}
+use Rattle.model.proofs.Seconds.{through-by-way, through-quiet}
 use Rattle.model.proofs.Rules.{hit, skip, Numbered, NoneHolds, none-holds}
 use Rattle.book.specs.Rows.{orderOf, bookOf, tradeOf, tradesOf}
 use Rattle.book.specs.Standing.{Ranked}
+use Rattle.book.proofs.Written.{trades-drop}
 use Rattle.book.specs.Promises.{callLeft}
 use Rattle.pairing.proofs.Moves.{moved-few}
 use Rattle.soundness.specs.Ready.{Ready}
 use Rattle.moves.specs.declared.Dealt.{Dealt}
 use Rattle.moves.specs.declared.Passage.{Passage}
-use Rattle.moves.specs.Moving.{passesAny, dealt, soFar, Underway, Reached}
-use Rattle.moves.proofs.Boundaries.{
-  start-underway,
-  pass-grows,
-  through-underway,
-  few-grow,
-  through-next,
-  through-all,
-  moved-trades,
-}
+use Rattle.moves.specs.Stops.{isStop, nextStop}
+use Rattle.moves.specs.Moving.{dealt, soFar, Underway, Reached}
+use Rattle.moves.proofs.NextStop.{stop-there, through-none, through-to}
+use Rattle.moves.proofs.Stopping.{start-underway, through-underway, pass-grows, through-grows, moved-none, moved-trades}
 
 -- ---- the places for its trades
 
@@ -48,30 +45,21 @@ module _ (d : Day) (t : ℕ) (rows : List (List ℕ)) (s : Ranked (bookOf rows))
       (le-ltb places (length (moved d t (bookOf rows) .trades))
       (omega (arith, moved-few (bookOf rows) (s .stands) d t, length-map rows orderOf)))
 
-  module _ {p : Bool} (e : p ≡ passesAny (d .time) t boundaries) where
-    counted : moved d t (bookOf rows) .trades ≡ cond p (auctionTrades d (bookOf rows)) []
-    counted =
-        moved-trades d t (bookOf rows) s
-        ∙ ap (λ (q : Bool). cond q (auctionTrades d (bookOf rows)) []) (sym e)
-
-    pub none-lacks : p ≡ false → false ≡ ltb places (length (moved d t (bookOf rows) .trades))
-    none-lacks n =
+  module _ (l : d .time ≤ t) {stop : ℕ} (e : stop ≡ nextStop (d .halt) (d .time) t) where
+    pub none-lacks : stop ≡ 0 → false ≡ ltb places (length (moved d t (bookOf rows) .trades))
+    none-lacks z =
         sym
-        (ap (λ (ts : List Trade). ltb places (length ts)) counted
-        ∙ ap (λ (q : Bool). ltb places (length (cond q (auctionTrades d (bookOf rows)) []))) n
-        ∙ le-ltb places 0 (omega arith))
+        (ap (λ (ts : List Trade). ltb places (length ts)) (moved-none d t (bookOf rows) s l e z) ∙ le-ltb places 0 (omega arith))
 
     pub auction-lacks :
         {r : Dealt}
-        → p ≡ true
+        → (stop ≡ 0 → ⊥)
         → r ≡ dealt (auctionTrades d (bookOf rows))
         → ltb places (r .made) ≡ ltb places (length (moved d t (bookOf rows) .trades))
     unfolding dealt
     auction-lacks n f =
         ap (λ (x : Dealt). ltb places (x .made)) f
-        ∙ sym
-        (ap (λ (ts : List Trade). ltb places (length ts)) counted
-        ∙ ap (λ (q : Bool). ltb places (length (cond q (auctionTrades d (bookOf rows)) []))) n)
+        ∙ sym (ap (λ (ts : List Trade). ltb places (length ts)) (moved-trades d t (bookOf rows) s l e n))
 
 -- ---- which rule is the first
 
@@ -145,8 +133,8 @@ module _ {h : Held} {lent : List (List ℕ)} {p : Passage} {rows trades : List (
       ∙ ap (λ (ts : List Trade). h .trades ++ ts) (trades-drop (p .made) lent)
       ∙ ap (λ (n : ℕ). h .trades ++ drop n (tradesOf lent)) reached-made
 
-  -- a step from here
-  module _ (old new : ℕ) (b : Boundary) {q : Passage} {rows₁ after : List (List ℕ)} (s : Reached (pass old new b (soFar p rows trades)) trades q rows₁ after) where
+  -- a stop from here
+  module _ (stop : ℕ) {q : Passage} {rows₁ after : List (List ℕ)} (s : Reached (pass stop (soFar p rows trades)) trades q rows₁ after) where
     made-grows : p .made ≤ q .made
     made-grows =
         omega (
@@ -154,63 +142,92 @@ module _ {h : Held} {lent : List (List ℕ)} {p : Passage} {rows trades : List (
           made-here s,
           length-map (take (p .made) trades) tradeOf,
           length-take-le (p .made) trades (r .within),
-          pass-grows old new b (soFar p rows trades),
+          pass-grows stop (soFar p rows trades),
         )
       where
-        made-here : Reached (pass old new b (soFar p rows trades)) trades q rows₁ after → q .made ≡ length (pass old new b (soFar p rows trades) .trades)
+        made-here : Reached (pass stop (soFar p rows trades)) trades q rows₁ after → q .made ≡ length (pass stop (soFar p rows trades) .trades)
         made-here x =
             sym (length-map (take (q .made) after) tradeOf ∙ length-take-le (q .made) after (x .within))
             ∙ ap (λ (k : Held). length (k .trades)) (x .state)
 
-    step : Reached (pass old new b h) lent q rows₁ after
+    step : Reached (pass stop h) lent q rows₁ after
     step =
         record {
-          state = s .state ∙ ap (pass old new b) (r .state);
+          state = s .state ∙ ap (pass stop) (r .state);
           within = s .within;
           past = s .past ∙ further (p .made) (q .made) trades lent made-grows (r .past);
         }
 
--- ---- from boundary to boundary
+-- ---- from stop to stop
 
-pub reached-start : (d : Day) (rows lent : List (List ℕ)) → Reached (start d (bookOf rows)) lent (record { day = d; made = 0 }) rows lent
-unfolding start
-reached-start d rows lent = record { state = refl; within = omega arith; past = refl }
+module _ (d : Day) (rows lent : List (List ℕ)) (from : ℕ) where
+  -- the state at this second of the move
+  abbrev here : Held
+  here = through (passed (d .time) from) (start d (bookOf rows))
 
-module _ (d : Day) (t : ℕ) (rows lent : List (List ℕ)) (bs : List Boundary) (k : ℕ) where
-  -- after the first k of these boundaries
-  abbrev pub After : Passage → List (List ℕ) → List (List ℕ) → Type 0
-  After p rows₁ trades = Reached (through (d .time) t (take k bs) (start d (bookOf rows))) lent p rows₁ trades
+  abbrev pub At : Passage → List (List ℕ) → List (List ℕ) → Type 0
+  At p rows₁ trades = Reached (through (passed (d .time) from) (start d (bookOf rows))) lent p rows₁ trades
 
-  module _ {p : Passage} {rows₁ trades : List (List ℕ)} (r : After p rows₁ trades) where
-    pub after-underway : Ready d (bookOf rows) → Underway (soFar p rows₁ trades)
-    after-underway s = rw (r .state) (through-underway (d .time) t (take k bs) (start d (bookOf rows)) (start-underway d (bookOf rows) s))
+  module _ {p : Passage} {rows₁ trades : List (List ℕ)} (r : At p rows₁ trades) where
+    pub at-underway : Ready d (bookOf rows) → Underway (soFar p rows₁ trades)
+    at-underway s =
+        rw (r .state) (through-underway (passed (d .time) from) (start d (bookOf rows)) (start-underway d (bookOf rows) s))
 
-    module _ (b : Boundary) (l : k < length bs) where
-      then-state : pass (d .time) t (getD bs k b) (soFar p rows₁ trades) ≡ through (d .time) t (take (k + 1) bs) (start d (bookOf rows))
-      then-state = ap (pass (d .time) t (getD bs k b)) (r .state) ∙ through-next (d .time) t bs b k (start d (bookOf rows)) l
+    module _ (t : ℕ) (past : d .time ≤ from) {stop : ℕ} (e : stop ≡ nextStop (p .day .halt) from t) where
+      halt-here : stop ≡ nextStop (here .day .halt) from t
+      halt-here = e ∙ ap (λ (k : Held). nextStop (k .day .halt) from t) (r .state)
 
-      pub after-fits :
-          length (through (d .time) t bs (start d (bookOf rows)) .trades) ≤ length lent
+      pub stop-ahead : (stop ≡ 0 → ⊥) → (from < stop) × (stop ≤ t) × (isStop (p .day .halt) stop ≡ true)
+      stop-ahead n = stop-there (soFar p rows₁ trades) from t e n
+
+      -- the move up to the stop is the move up to here, and what is due at it
+      to-stop : (stop ≡ 0 → ⊥) → pass stop here ≡ through (passed (d .time) stop) (start d (bookOf rows))
+      to-stop n =
+          sym
+          (through-by-way (d .time) from stop (start d (bookOf rows)) past (omega (arith, stop-ahead n .0))
+          ∙ through-to here from t halt-here n)
+
+      pub at-fits :
+          (stop ≡ 0 → ⊥)
+          → length (moved d t (bookOf rows) .trades) ≤ length lent
           → length trades ≡ length lent
-          → length (pass (d .time) t (getD bs k b) (soFar p rows₁ trades) .trades) ≤ length trades
-      after-fits f e =
+          → length (pass stop (soFar p rows₁ trades) .trades) ≤ length trades
+      unfolding moved
+      at-fits n f k =
+          let l : d .time ≤ stop = omega (arith, stop-ahead n .0) in
           omega (
             arith,
-            ap (λ (h : Held). length (h .trades)) then-state,
-            few-grow (d .time) t bs (k + 1) (start d (bookOf rows)),
+            ap (λ (h : Held). length (pass stop h .trades)) (r .state),
+            ap (λ (h : Held). length (h .trades)) (to-stop n),
+            ap (λ (h : Held). length (h .trades)) (through-by-way (d .time) stop t (start d (bookOf rows)) l (stop-ahead n .1)),
+            through-grows (passed stop t) (through (passed (d .time) stop) (start d (bookOf rows))),
           )
 
-      pub after-next :
-          {q : Passage} {rows₂ after : List (List ℕ)}
-          → Reached (pass (d .time) t (getD bs k b) (soFar p rows₁ trades)) trades q rows₂ after
-          → Reached (through (d .time) t (take (k + 1) bs) (start d (bookOf rows))) lent q rows₂ after
-      after-next {q} {rows₂} {after} s =
-          rw (through-next (d .time) t bs b k (start d (bookOf rows)) l) at (step r (d .time) t (getD bs k b) s)
+      pub at-next :
+          (stop ≡ 0 → ⊥)
+          → {q : Passage} {rows₂ after : List (List ℕ)}
+          → Reached (pass stop (soFar p rows₁ trades)) trades q rows₂ after
+          → Reached (through (passed (d .time) stop) (start d (bookOf rows))) lent q rows₂ after
+      at-next n {q} {rows₂} {after} s = rw (to-stop n) at (step r stop s)
 
-    pub after-all : length bs ≤ k → Reached (through (d .time) t bs (start d (bookOf rows))) lent p rows₁ trades
-    after-all l = rw (through-all (d .time) t bs k (start d (bookOf rows)) l) at r
+      pub at-last : from ≤ t → stop ≡ 0 → Reached (moved d t (bookOf rows)) lent p rows₁ trades
+      unfolding moved
+      at-last l z =
+          rw (through-by-way (d .time) from t (start d (bookOf rows)) past l ∙ through-none here from t halt-here l z) r
+
+pub at-start : (d : Day) (rows lent : List (List ℕ)) → At d rows lent (d .time) (record { day = d; made = 0 }) rows lent
+at-start d rows lent =
+    let z : through (passed (d .time) (d .time)) (start d (bookOf rows)) ≡ start d (bookOf rows) =
+    unfold passed in through-quiet (suc (d .time)) (d .time - d .time) (start d (bookOf rows)) (λ s a b. absurd (omega (arith, a, b)))
+    in
+    rw z (unfold start in record { state = refl; within = omega arith; past = refl })
 
 -- ---- what the call comes to
+
+-- the row of the new time
+pub row-then : (d : Day) (t : ℕ) {day : Day} {row : Row} → day ≡ at t d → row ≡ rowAt t → row ≡ rowAt (day .time)
+unfolding at
+row-then d t e f = rw e f
 
 module _ (d : Day) (t : ℕ) (rows lent : List (List ℕ)) {n : ℕ} (e : n ≡ firstOf (clockRules d t (bookOf rows) (length lent))) where
   first : firstOf (clockRules d t (bookOf rows) (length (tradesOf lent))) ≡ n
@@ -226,7 +243,7 @@ module _ (d : Day) (t : ℕ) (rows lent : List (List ℕ)) {n : ℕ} (e : n ≡ 
       (p : Passage) (rows₁ after : List (List ℕ)) {phase : ℕ} {day : Day}
       → n ≡ 0
       → Reached (moved d t (bookOf rows)) lent p rows₁ after
-      → phase ≡ phaseAt t
+      → phase ≡ phaseNow day
       → day ≡ at t (p .day)
       → callLeft (record { reply = Moved phase (p .made); made = p .made; day = day }) rows₁ after
       ≡ clockCall d t (bookOf rows) (tradesOf lent)
@@ -236,4 +253,4 @@ module _ (d : Day) (t : ℕ) (rows lent : List (List ℕ)) {n : ℕ} (e : n ≡ 
       let b : bookOf rows₁ ≡ moved d t (bookOf rows) .book = ap (λ (h : Held). h .book) (r .state) in
       let w : tradesOf after ≡ written (moved d t (bookOf rows) .trades) (tradesOf lent) = reached-written r in
       let e : day ≡ at t (moved d t (bookOf rows) .day) = g ∙ ap (λ (h : Held). at t (h .day)) (r .state) in
-      rw (first, eq-eqb n 0 z, f, m, b, w, e)
+      rw (first, eq-eqb n 0 z, f ∙ ap phaseNow e, m, b, w, e)

@@ -1,3 +1,4 @@
+pub mod NextStop
 pub mod AuctionHeld
-pub mod Boundaries
+pub mod Stopping
 pub mod ClockLaws

@@ -1,5 +1,7 @@
 // A move of the clock, on a day that is known to be sound.
+pub mod holding;
 pub mod moving;
+pub mod stops;
 
 // An auction's trades: how many, and the shares that they are of.
 pub struct Dealt {

@@ -5,30 +5,17 @@ use mathlib.Core.List.{List, [], _∷_, _++_, append-assoc}
 use native.Mathlib.Omega.{arith}
 use native.Mathlib.Nat.{mul-suc, mul-zero, add-comm, mul-le-mul-left}
 use lib.ListN.{length, take, drop, length-append, length-drop, take-append-drop}
-use lib.Seq.{getD-drop, take-at, drop-at, drop-append-le, take-add, length-take-le}
+use lib.Seq.{take-at, drop-at, drop-append-le, take-add, length-take-le}
 use Rattle.model.specs.declared.Order.{Order}
 use Rattle.model.specs.declared.Trade.{Trade}
 use Rattle.model.specs.declared.Day.{Day}
 use Rattle.book.specs.Rows.{orderOf, rowOf}
 use Rattle.model.specs.Words.{Each}
-use Rattle.records.specs.Layout.{AllBytes, Word, Fits, parts, numberIn, numbers, orderIn, dayOf, dayIn, bookIn, pricesIn, digits, flat, bytes, orderBytes, tradeIn, tradeBytes, tradesIn, tradesBytes, bookBytes, dayRow, dayBytes, over}
-use Rattle.records.proofs.Digits.{length-digits, worth-digits, digits-worth}
-use Rattle.records.proofs.Runs.{length-flat, flat-append, flat-drop}
+use Rattle.octets.specs.Numbers.{AllBytes, digits, parts, flat}
+use Rattle.octets.proofs.Digits.{length-digits, worth-digits, digits-worth, bytes-take, bytes-drop}
+use Rattle.octets.proofs.Parts.{length-flat, length-parts, flat-append, flat-drop}
+use Rattle.records.specs.Layout.{Word, Fits, numberIn, numbers, orderIn, dayOf, dayIn, bookIn, pricesIn, bytes, orderBytes, tradeIn, tradeBytes, tradesIn, tradesBytes, bookBytes, dayRow, dayBytes, over}
 use Rattle.records.proofs.Sizes.{length-order, length-trade, length-book}
-
-pub bytes-take : (n : ℕ) (b : List ℕ) → AllBytes b → AllBytes (take n b)
-bytes-take zero b h i = omega arith
-bytes-take (suc n) [] h i = omega arith
-bytes-take (suc n) (x ∷ b) h zero = h 0
-bytes-take (suc n) (x ∷ b) h (suc i) = bytes-take n b (λ j. h (suc j)) i
-
-pub bytes-drop : (n : ℕ) (b : List ℕ) → AllBytes b → AllBytes (drop n b)
-bytes-drop n b h i = rw getD-drop (h (n + i))
-
-pub length-parts : {A : Type 0} (f : List ℕ → A) (size n : ℕ) (b : List ℕ) → length (parts f size n b) ≡ n
-unfolding parts
-length-parts f size zero b = refl
-length-parts f size (suc n) b = ap suc (length-parts f size n (drop size b))
 
 pub length-book-in : (b : List ℕ) → length (bookIn b) ≡ length b / 40
 unfolding bookIn

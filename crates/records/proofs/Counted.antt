@@ -7,8 +7,9 @@ use native.Mathlib.Nat.{sub-zero}
 use lib.ListN.{length}
 use lib.Seq.{sets, length-sets}
 use Rattle.model.specs.Lists.{from}
-use Rattle.records.specs.Layout.{digits, flat, bytes, over}
-use Rattle.records.proofs.Digits.{length-digits}
+use Rattle.octets.specs.Numbers.{digits, flat}
+use Rattle.octets.proofs.Digits.{length-digits}
+use Rattle.records.specs.Layout.{bytes, over}
 use Rattle.records.proofs.Runs.{sets-on, sets-over}
 use Rattle.records.proofs.Sizes.{length-bytes}
 

@@ -1,14 +1,13 @@
--- One number as eight bytes: read from the last byte down, written from the first byte up, and the way back from either. Assumes
--- nothing.
-use Prim.Native.Nat.{ℕ, zero, suc, _+_, _*_, _-_, _/_, _%_, _^_, _≤_, _<_}
-use mathlib.Core.Path.{_≡_, refl, ap, _∙_}
-use mathlib.Core.List.{List, [], _∷_}
+-- One number as eight bytes: read from the last byte down, written from the first byte up. Assumes nothing.
+use Prim.Native.Nat.{ℕ, suc, _+_, _*_, _-_, _/_, _%_, _^_, _≤_, _<_}
+use mathlib.Core.Path.{_≡_, refl, _∙_}
+use mathlib.Core.List.{List}
 use native.Mathlib.Omega.{arith}
-use native.Mathlib.Nat.{div-add-mod, mod-eq-of-lt, div-eq-of-lt, div-lt-iff-lt-mul, add-mul-div-left, add-mul-mod-self-left, pow-suc, pow-le-pow-right, zero-add, add-zero}
+use native.Mathlib.Nat.{pow-suc, pow-le-pow-right, add-zero}
 use lib.Dec.{lit<}
 use lib.ListN.{length, getD, take, drop, set, length-set}
 use lib.Seq.{sets, drop-cons}
-use Rattle.records.specs.Layout.{worth, digits}
+use Rattle.octets.specs.Numbers.{worth, digits}
 
 -- ---- reading
 
@@ -88,30 +87,3 @@ unfolding digits
 putting-end b₀ at x {b} {rest} {i} p h =
     let e : i ≡ 8 = omega (arith, p .done) in
     rw e at (p .same)
-
--- ---- back again
-
-pub length-digits : (n x : ℕ) → length (digits n x) ≡ n
-unfolding digits
-length-digits zero x = refl
-length-digits (suc n) x = ap suc (length-digits n (x / 256))
-
--- a number that fits its bytes is what they are worth
-pub worth-digits : (n x : ℕ) → x < 256 ^ n → worth (digits n x) ≡ x
-unfolding worth digits
-worth-digits zero x h = omega arith
-worth-digits (suc n) x h =
-    let f : x / 256 < 256 ^ n = div-lt-iff-lt-mul (lit< tt) .1 (rw pow-suc at h) in
-    let e : 256 * (x / 256) + x % 256 ≡ x = div-add-mod x 256 in
-    rw (worth-digits n (x / 256) f) (omega arith)
-
--- bytes are the digits of what they are worth
-pub digits-worth : (b : List ℕ) → ((i : ℕ) → getD b i 0 < 256) → digits (length b) (worth b) ≡ b
-unfolding worth digits
-digits-worth [] h = refl
-digits-worth (x ∷ b) h =
-    let l : x < 256 = h 0 in
-    let m : (x + 256 * worth b) % 256 ≡ x = add-mul-mod-self-left x 256 (worth b) ∙ mod-eq-of-lt l in
-    let d : (x + 256 * worth b) / 256 ≡ worth b =
-    add-mul-div-left x (worth b) (lit< tt) ∙ rw (div-eq-of-lt l, zero-add) in
-    rw (m, d, digits-worth b (λ i. h (suc i)))

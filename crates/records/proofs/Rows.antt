@@ -6,7 +6,7 @@ use native.Mathlib.Omega.{arith}
 use native.Mathlib.Nat.{zero-add}
 use lib.ListN.{length, getD, drop, set, length-map, length-set, List·getD-map}
 use lib.Seq.{sets}
-use Rattle.records.specs.Layout.{parts, flat}
+use Rattle.octets.specs.Numbers.{parts, flat}
 use Rattle.records.proofs.Runs.{
   Loading,
   loading-start,

@@ -1,15 +1,15 @@
--- Runs of records: read one after the other into a list, written one after the other into bytes, and the way back from either,
--- over the record and its size. Assumes nothing.
-use Prim.Native.Nat.{ℕ, zero, suc, _+_, _*_, _-_, _≤_, _<_}
+-- Runs of records: read one after the other into a list, written one after the other into bytes, over the record and its size. Assumes nothing.
+use Prim.Native.Nat.{ℕ, suc, _+_, _*_, _-_, _≤_, _<_}
 use mathlib.Core.Path.{_≡_, refl, sym, _∙_}
-use mathlib.Core.List.{List, [], _∷_, _++_, append-assoc, append-nil}
+use mathlib.Core.List.{List, _++_, append-nil}
 use native.Mathlib.Omega.{arith}
-use native.Mathlib.Nat.{add-zero, zero-add, add-assoc, mul-suc, mul-zero, sub-zero, add-comm}
+use native.Mathlib.Nat.{add-zero, zero-add, add-assoc, mul-suc, mul-zero, sub-zero}
 use native.Mathlib.Numerals.{add-one}
-use lib.ListN.{length, getD, take, drop, set, length-append, length-set}
-use lib.Seq.{sets, sets-eq, length-sets, drop-cons, drop-drop, drop-length, drop-append-add, take-all, take-suc-set, append-snoc}
+use lib.ListN.{length, getD, take, drop, set, length-set}
+use lib.Seq.{sets, sets-eq, length-sets, drop-cons, drop-drop, drop-length, take-all, take-suc-set, append-snoc}
 use Rattle.book.proofs.Lists.{sets-more}
-use Rattle.records.specs.Layout.{parts, flat, over}
+use Rattle.octets.specs.Numbers.{parts, flat}
+use Rattle.records.specs.Layout.{over}
 
 place-next : (at size i : ℕ) → at + size * (i + 1) ≡ at + size * i + size
 place-next at size i = rw (add-one, mul-suc) (sym (add-assoc at (size * i) size))
@@ -101,29 +101,3 @@ module _ {A : Type 0} (f : A → List ℕ) (size : ℕ) (xs : List A) (b₀ : Li
 pub sets-over : (new old : List ℕ) → length new ≤ length old → sets old 0 new ≡ over new old
 unfolding over
 sets-over new old h = sets-eq new old 0 (rw zero-add h) ∙ rw zero-add
-
--- ---- back again
-
-pub length-flat :
-    {A : Type 0} (f : A → List ℕ) (size : ℕ) → ((x : A) → length (f x) ≡ size) → (xs : List A) → length (flat f xs) ≡ size * length xs
-unfolding flat
-length-flat f size h [] = sym (mul-zero size)
-length-flat f size h (x ∷ xs) = rw (length-append, h x, length-flat f size h xs, mul-suc) (add-comm size (size * length xs))
-
-pub flat-append : {A : Type 0} (f : A → List ℕ) (xs ys : List A) → flat f (xs ++ ys) ≡ flat f xs ++ flat f ys
-unfolding flat
-flat-append f [] ys = refl
-flat-append f (x ∷ xs) ys = rw (flat-append f xs ys) (sym (append-assoc (f x) (flat f xs) (flat f ys)))
-
-pub flat-drop :
-    {A : Type 0} (f : A → List ℕ) (size : ℕ)
-    → ((x : A) → length (f x) ≡ size)
-    → (k : ℕ) (xs : List A)
-    → k ≤ length xs
-    → flat f (drop k xs) ≡ drop (size * k) (flat f xs)
-unfolding flat
-flat-drop f size h zero xs l = rw mul-zero
-flat-drop f size h (suc k) [] l = absurd (omega arith)
-flat-drop f size h (suc k) (x ∷ xs) l =
-    let m : size * suc k ≡ length (f x) + size * k = mul-suc size k ∙ add-comm (size * k) size ∙ rw (h x) in
-    rw (m, drop-append-add) (flat-drop f size h k xs (omega arith))

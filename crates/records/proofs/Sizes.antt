@@ -7,9 +7,10 @@ use Rattle.model.specs.declared.Order.{Order}
 use Rattle.model.specs.declared.Trade.{Trade}
 use Rattle.model.specs.declared.Day.{Day}
 use Rattle.book.specs.Rows.{rowOf, tradeRow}
-use Rattle.records.specs.Layout.{digits, bytes, orderBytes, tradeBytes, bookBytes, tradesBytes, dayRow, dayBytes}
-use Rattle.records.proofs.Digits.{length-digits}
-use Rattle.records.proofs.Runs.{length-flat}
+use Rattle.octets.specs.Numbers.{digits}
+use Rattle.octets.proofs.Digits.{length-digits}
+use Rattle.octets.proofs.Parts.{length-flat}
+use Rattle.records.specs.Layout.{bytes, orderBytes, tradeBytes, bookBytes, tradesBytes, dayRow, dayBytes}
 
 pub length-bytes : (ns : List ℕ) → length (bytes ns) ≡ 8 * length ns
 unfolding bytes

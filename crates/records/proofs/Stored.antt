@@ -7,7 +7,8 @@ use lib.ListN.{length, take, length-map}
 use lib.Seq.{sets, take-all, length-take-le}
 use Rattle.model.specs.declared.Day.{Day}
 use Rattle.book.specs.Rows.{orderOf, bookOf, tradeOf, tradesOf}
-use Rattle.records.specs.Layout.{parts, flat, bytes, dayRow, dayBytes, orderIn, orderBytes, bookIn, bookBytes, tradeBytes, tradesBytes, over, replied}
+use Rattle.octets.specs.Numbers.{parts, flat}
+use Rattle.records.specs.Layout.{bytes, dayRow, dayBytes, orderIn, orderBytes, bookIn, bookBytes, tradeBytes, tradesBytes, over, replied}
 use Rattle.records.proofs.Runs.{sets-over}
 use Rattle.records.proofs.Sizes.{length-bytes, length-day, length-book, length-trades}
 

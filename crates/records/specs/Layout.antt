@@ -1,19 +1,17 @@
 -- Numbers, records and lists as bytes, both ways. A number is 8 bytes, least byte first; a record is its numbers in a row, and
 -- a list its records. What follows the last whole record belongs to nothing and stays.
-use Prim.Native.Nat.{ℕ, zero, suc, _+_, _*_, _/_, _%_, _^_, _<_}
+use Prim.Native.Nat.{ℕ, _/_, _^_, _<_}
 use mathlib.Core.List.{List, [], _∷_, _++_}
 use lib.ListN.{length, getD, take, drop}
 use Rattle.model.specs.declared.Order.{Order}
 use Rattle.model.specs.declared.Trade.{Trade}
 use Rattle.model.specs.declared.Day.{Day}
 use Rattle.model.specs.Words.{Each}
+use Rattle.octets.specs.Numbers.{worth, digits, parts, flat}
+pub use Rattle.octets.specs.Numbers.{AllBytes}
 use Rattle.book.specs.Rows.{orderOf, rowOf, tradeOf, tradeRow}
 
 -- ---- what memory can hold
-
--- every element is a byte
-abbrev pub AllBytes : List ℕ → Type 0
-AllBytes b = (i : ℕ) → getD b i 0 < 256
 
 -- a number of 64 bits
 abbrev pub Word : ℕ → Type 0
@@ -24,16 +22,6 @@ abbrev pub Fits : Order → Type 0
 Fits o = Each Word (rowOf o)
 
 -- ---- from bytes
-
--- what some bytes are worth, least byte first
-unfoldable pub worth : List ℕ → ℕ
-worth [] = 0
-worth (b ∷ bs) = b + 256 * worth bs
-
--- n things of so many bytes each, every one read off the front
-unfoldable pub parts : {A : Type 0} → (List ℕ → A) → ℕ → ℕ → List ℕ → List A
-parts f size zero b = []
-parts f size (suc n) b = f b ∷ parts f size n (drop size b)
 
 abbrev pub numberIn : List ℕ → ℕ
 numberIn b = worth (take 8 b)
@@ -75,15 +63,6 @@ unfoldable pub pricesIn : List ℕ → List ℕ
 pricesIn b = numbers (length b / 8) b
 
 -- ---- to bytes
-
--- a number as so many bytes
-unfoldable pub digits : ℕ → ℕ → List ℕ
-digits zero x = []
-digits (suc n) x = x % 256 ∷ digits n (x / 256)
-
-unfoldable pub flat : {A : Type 0} → (A → List ℕ) → List A → List ℕ
-flat f [] = []
-flat f (x ∷ xs) = f x ++ flat f xs
 
 unfoldable pub bytes : List ℕ → List ℕ
 bytes ns = flat (digits 8) ns

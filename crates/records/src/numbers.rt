@@ -4,7 +4,8 @@ ghost use mathlib.Core.Path.{_≡_};
 ghost use Prim.Native.Nat.{_+_, _*_, _≤_, _<_};
 ghost use lib.ListN.{length, drop};
 ghost use lib.Seq.{sets};
-ghost use Rattle.records.specs.Layout.{numberIn, numbers, digits, bytes, over};
+ghost use Rattle.octets.specs.Numbers.{digits};
+ghost use Rattle.records.specs.Layout.{numberIn, numbers, bytes, over};
 ghost use Rattle.model.specs.Lists.{from};
 
 fn wide(x: u8) -> u64

@@ -1,4 +1,4 @@
--- `moves::moving::clock_sound` meets its contract: refused, or the boundaries on the way, the new time and its phase. Assumes nothing.
+-- `moves::moving::clock_sound` meets its contract: refused, or the stops on the way, the new time and the day's phase. Assumes nothing.
 use mathlib.Core.Path.{_≡_, refl, sym, ap, _∙_}
 use mathlib.Core.Logic.{⊎-elim}
 use lib.ListN.{length}
@@ -8,9 +8,9 @@ use Rattle.model.specs.ClockCall.{clockRules}
 use Rattle.book.specs.Rows.{bookOf}
 use Rattle.book.specs.Promises.{callLeft}
 use Rattle.soundness.proofs.Readiness.{ready-if}
-use Rattle.moves.proofs.ClockLaws.{clock-late, clock-back, clock-list, clock-none, move-fits, clock-refused, clock-accepted}
+use Rattle.moves.proofs.ClockLaws.{clock-late, clock-back, clock-list, clock-none, move-fits, clock-refused, row-then, clock-accepted}
 use borrow.Author.Needs.{needs}
-use borrow.Author.Tests.{eqb-false}
+use borrow.Author.Tests.{eqb-false, ltb-false}
 use Rattle.moves.proofs.moving.clock_sound.Statement.{statement}
 use Rattle.moves.proofs.moving.clock_sound.Tie as tie
 
@@ -35,7 +35,7 @@ returns c =
 lacks-places-requires : tie.Need-lacks-places-requires
 lacks-places-requires c κs =
     let s = c .before .before .before .before in
-    ready-if (s .args .d) (bookOf (s .args .rows .now)) (s .pre)
+    (ready-if (s .args .d) (bookOf (s .args .rows .now)) (s .pre), ltb-false (s .args .time) (s .args .d .time) (c .before .if2 .left))
 
 clock-refused-requires-2 : tie.Need-clock-refused-requires-2
 clock-refused-requires-2 c κs = search needs
@@ -69,20 +69,34 @@ none c =
     clock-none (a .d) (a .time) (bookOf (a .rows .now)) (length (a .trades .now)) (began l .pre) (timely l .before .before .if1 .left) (timely l .if2 .left)
     (sym (l .lacks-places .ensures) ∙ c .if3 .left)
 
-pass-boundaries-requires : tie.Need-pass-boundaries-requires
-pass-boundaries-requires c κs =
+pass-stops-requires : tie.Need-pass-stops-requires
+pass-stops-requires c κs =
     let e = c .before .before in
-    let s = began (e .before) in
+    let l = e .before in
+    let s = began l in
     let a = s .args in (
       ready-if (a .d) (bookOf (a .rows .now)) (s .pre),
-      move-fits (a .d) (a .time) (bookOf (a .rows .now)) (length (a .trades .now)) (none e) refl,
+      (
+        ltb-false (a .time) (a .d .time) (timely l .if2 .left),
+        (
+          timely l .before .before .if1 .left,
+          move-fits (a .d) (a .time) (bookOf (a .rows .now)) (length (a .trades .now)) (none e) refl,
+        ),
+      ),
     )
-
-phase-at-requires : tie.Need-phase-at-requires
-phase-at-requires c κs = search needs
 
 day-at-requires : tie.Need-day-at-requires
 day-at-requires c κs = search needs
+
+row-at-requires : tie.Need-row-at-requires
+row-at-requires c κs = search needs
+
+phase-now-requires : tie.Need-phase-now-requires
+phase-now-requires c κs =
+    let d = c .before in
+    let p = d .before .before .before in
+    let a = began (p .before .before .before .before) .args in
+    row-then (p .pass-stops .result .day) (a .time) (d .day-at .ensures) (c .row-at .ensures)
 
 same-length-2 : tie.Need-same-length-2
 same-length-2 c = search needs
@@ -92,16 +106,17 @@ same-length-3 c = search needs
 
 returns-3 : tie.Need-returns-3
 returns-3 c =
-    let p = c .before .before .before .before in
+    let d = c .before .before in
+    let p = d .before .before .before in
     let e = p .before .before .before in
     let a = began (e .before) .args in
-    clock-accepted (a .d) (a .time) (a .rows .now) (a .trades .now) (none e) (p .pass-boundaries .result)
-    (p .pass-boundaries .last .1 .0)
-    (p .pass-boundaries .last .1 .1 .0)
+    clock-accepted (a .d) (a .time) (a .rows .now) (a .trades .now) (none e) (p .pass-stops .result)
+    (p .pass-stops .last .1 .0)
+    (p .pass-stops .last .1 .1 .0)
     refl
-    (p .pass-boundaries .ensures)
-    (c .before .phase-at .ensures)
-    (c .day-at .ensures)
+    (p .pass-stops .ensures)
+    (c .phase-now .ensures)
+    (d .day-at .ensures)
 
 pub clock-sound-spec : {M : Type 1} → statement M
 clock-sound-spec =
@@ -113,9 +128,10 @@ clock-sound-spec =
     clock-refused-requires-2
     same-length
     returns-2
-    pass-boundaries-requires
-    phase-at-requires
+    pass-stops-requires
     day-at-requires
+    row-at-requires
+    phase-now-requires
     same-length-2
     same-length-3
     returns-3)

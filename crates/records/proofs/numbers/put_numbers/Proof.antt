@@ -2,8 +2,9 @@
 use Prim.Native.Nat.{_-_}
 use borrow.Author.Needs.{needs}
 use lib.ListN.{length}
-use Rattle.records.specs.Layout.{bytes, digits}
-use Rattle.records.proofs.Digits.{length-digits}
+use Rattle.octets.specs.Numbers.{digits}
+use Rattle.octets.proofs.Digits.{length-digits}
+use Rattle.records.specs.Layout.{bytes}
 use Rattle.records.proofs.Runs.{Storing, storing-start, storing-next, storing-end}
 use Rattle.records.proofs.numbers.put_numbers.Statement.{statement}
 use Rattle.records.proofs.numbers.put_numbers.Tie as tie
