@@ -3,11 +3,11 @@ use Prim.Native.Nat.{ℕ, suc, _+_, _-_, _*_, _≤_, _<_}
 use mathlib.Core.Path.{_≡_, refl, ap, _∙_}
 use mathlib.Core.Logic.{inr, ⊎-elim}
 use mathlib.Core.Bool.{Bool, true, false, cond, not, _&&_, _||_}
-use mathlib.Core.List.{List, [], _∷_}
+use mathlib.Core.List.{List, _∷_}
 use native.Mathlib.Omega.{arith}
 use lib.ListN.{length}
 use lib.Dec.{leb, eqb}
-use borrow.Author.Tests.{leb-true, eqb-true, eqb-false, eq-eqb, not-false}
+use borrow.Author.Tests.{leb-true, eqb-false, eq-eqb, not-false}
 use Rattle.model.specs.declared.Order.{Order}
 use Rattle.model.specs.declared.Asked.{Asked}
 use Rattle.model.specs.declared.Trade.{Trade}
@@ -18,12 +18,12 @@ use Rattle.model.specs.Limits.{isPrice, inBand}
 use Rattle.model.specs.Book.{isLive, queue, arranged}
 use Rattle.model.specs.Matching.{filled, settle}
 use Rattle.model.specs.Figures.{nextNumber, issue, tally}
-use Rattle.model.specs.Halts.{phaseNow, reach, haltEnd, halting, fires, fired}
+use Rattle.model.specs.Halts.{reach, haltEnd, halting, fires, fired}
 use Rattle.model.specs.Entry.{entryTrades, restPrice}
 use Rattle.model.specs.Refusals.{_when_, firstOf}
 use Rattle.model.specs.Calls.{orderRules, joined, entered, orderCall}
 use Rattle.model.proofs.Bools.{and-left, and-right, and-true, not-both}
-use Rattle.model.proofs.HaltEnds.{Continuous, continuous-hours, ends}
+use Rattle.model.proofs.HaltEnds.{continuous-hours, ends}
 use Rattle.model.specs.Words.{Each, Price, Sized, Sound}
 use Rattle.book.specs.Standing.{Standing}
 use Rattle.book.proofs.Lists.{each}
@@ -33,7 +33,6 @@ use Rattle.soundness.specs.SoundDay.{InBand, Rests, Place, Empty, SoundDay}
 use Rattle.soundness.proofs.Clauses.{says-price, says-band}
 use Rattle.soundness.proofs.Sizes.{says-quantity, sized-most}
 use Rattle.soundness.proofs.SoundDays.{sound-day, sound-halt, next-new}
-use Rattle.matching.proofs.Entries.{other-phase}
 use Rattle.matching.proofs.EntryLaws.{entry-filled, remainder, ordersThen}
 use Rattle.matching.proofs.EntryKept.{entered-standing, entered-fits, entered-shares}
 use Rattle.matching.proofs.AfterEntry.{entered-uncrossed}
@@ -45,7 +44,7 @@ use Rattle.demands.proofs.Pricings.{sound-stands}
 use Rattle.demands.proofs.Wholes.{Traded, Whole, timely-of}
 use Rattle.demands.proofs.Hours.{none-early, none-late, then-continuous, phase-unhalted, now-continuous}
 use Rattle.demands.proofs.HaltDays.{same-whole, same-halting, halt-waits, halt-begins}
-use Rattle.demands.proofs.Firing.{fires-unlimited, fires-some, mark-set}
+use Rattle.demands.proofs.Firing.{fires-unlimited, fires-some, traded-now, mark-set}
 use Rattle.demands.proofs.Tallied.{traded-tally}
 use Rattle.demands.proofs.Settled.{Later, settle-places}
 use Rattle.demands.proofs.Arranged.{arranged-sound}
@@ -253,19 +252,10 @@ module _ (d : Day) (a : Asked) (book : List Order) (s : Sound d book) (k : Allow
       (record { thirty = refl; sixty = refl; limited = refl; shares = omega arith }) refl (omega arith) (sound-halt d book (s .1) .ahead))
       orders-fit
 
-  -- trades that fire were made in continuous trading
-  fired-now : (ts ≡ [] → ⊥) → Continuous (d .time)
-  unfolding continuous
-  fired-now n = go (eqb (phaseNow d) 4) refl
-    where
-      go : (b : Bool) → eqb (phaseNow d) 4 ≡ b → Continuous (d .time)
-      go true e = continuous-hours (d .time) (now-continuous d (eqb-true (phaseNow d) 4 e) .0)
-      go false e = absurd (n (other-phase d a book (phaseNow d) refl (eqb-false (phaseNow d) 4 e)))
-
   begun : fires ts next ≡ true → Then (halting (haltEnd (d .time)) 1 (cond (reach 60 ts next) 1 (next .used60)) next)
-  unfolding halting tally issue
+  unfolding halting tally issue continuous
   begun f =
-      let now = fired-now (fires-some ts next f) in
+      let now = continuous-hours (d .time) (now-continuous d (traded-now d a book (fires-some ts next f)) .0) in
       let e = halting (haltEnd (d .time)) 1 (cond (reach 60 ts next) 1 (next .used60)) next in
       arranged-sound e book orders (s .0)
       (same-whole next e (same-halting (haltEnd (d .time)) 1 (cond (reach 60 ts next) 1 (next .used60)) next) orders entered-whole)

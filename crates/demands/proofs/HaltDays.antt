@@ -1,6 +1,6 @@
 -- A day's halt through its events: what its end says of the hours, and the day while it waits, when it begins and once it is over.
 -- Assumes nothing.
-use Prim.Native.Nat.{ℕ, _≤_, _<_}
+use Prim.Native.Nat.{ℕ, zero, suc, _≤_, _<_}
 use mathlib.Core.Path.{_≡_, refl, sym, _∙_, subst}
 use mathlib.Core.Logic.{_⊎_, ⊎-elim}
 use mathlib.Core.List.{List}
@@ -13,7 +13,10 @@ use Rattle.model.specs.Halts.{haltEnd, halting, fired, resumed}
 use Rattle.model.specs.ClockCall.{Held, auction, resume}
 use Rattle.model.proofs.HaltEnds.{Continuous, Ends, ends, LedTo, led-told, told-led}
 use Rattle.halts.proofs.Kept.{fired-cases, resume-cases}
+use Rattle.model.specs.Words.{Sound}
 use Rattle.soundness.specs.SoundDay.{HaltDay}
+use Rattle.soundness.proofs.SoundDays.{sound-day, sound-halt}
+use Rattle.demands.specs.Halting.{Halted}
 use Rattle.demands.proofs.Wholes.{Whole}
 use Rattle.demands.proofs.Settled.{places-later}
 
@@ -116,6 +119,28 @@ running d k n =
       ahead = k .ahead n;
       latest = e .latest;
       lands = e .lands;
+    }
+
+-- ---- what a sound day says of it
+
+pub none-runs : (d : Day) → ((d .halt ≡ 0 → ⊥) → ⊥) → d .halt ≡ 0
+none-runs d h = go (d .halt) h
+  where
+    go : (n : ℕ) → ((n ≡ 0 → ⊥) → ⊥) → n ≡ 0
+    go zero h = refl
+    go (suc n) h = absurd (h (λ z. omega (arith, z)))
+
+pub day-halted : (d : Day) (book : List Order) → Sound d book → Halted d
+day-halted d book s =
+    let k = sound-halt d book (s .1) in
+    record {
+      unlimited = λ u.
+          let h = k .unlimited u in
+          (omega (arith, h .0, sound-day d book (s .1) .limited), h .1);
+      thirty-first = k .thirty-first;
+      uses = k .uses;
+      ahead = λ n. let r = running d k n in (r .begun, r .ahead, r .latest);
+      over = λ l. none-runs d (λ n. let r = running d k n in omega (arith, l, r .ahead, r .latest));
     }
 
 -- ---- the day then: the same thresholds are used

@@ -49,4 +49,8 @@ pub mod TurnTests
 pub mod LineRefusals
 pub mod Stars
 pub mod ClockTrades
+pub mod Starting
+pub mod Ending
+pub mod Marks
+pub mod Collecting
 pub mod Demands

@@ -169,7 +169,7 @@ module _ (d : Day) where
         begun : SoFar d (start d book)
         begun = unfold start in record { stands = sound-stands d book s; prices = tt; totals = totals-none d }
 
-    moved-totals : (t : ℕ) → Totals d (at t (moved d t book .day)) (moved d t book .trades)
+    pub moved-totals : (t : ℕ) → Totals d (at t (moved d t book .day)) (moved d t book .trades)
     unfolding at
     moved-totals t =
         let k = so-far t .totals in
