@@ -50,7 +50,7 @@ fn change_rows(d: Day, rows: &mut [[u64; 5]], asked: BookAsked) -> BookReply
 
 // The bytes as rows, the call on the rows, and the rows as bytes again.
 fn change_in(day: &[u8], book: &mut [u8], rows: &mut [[u64; 5]], asked: BookAsked) -> BookReply
-    requires { ⌜ length (now day) ≡ 64 ⌝ }
+    requires { ⌜ length (now day) ≡ 88 ⌝ }
     requires { ⌜ length (now rows) ≡ length (now book) / 40 ⌝ }
     ensures { λ r. ⌜ Changed (bookOn (now (day .entry)) (now (book .entry)) asked) (now (book .entry)) r (now (book .exit)) ⌝ }
 {
@@ -62,7 +62,7 @@ fn change_in(day: &[u8], book: &mut [u8], rows: &mut [[u64; 5]], asked: BookAske
 
 // In the largest room.
 fn change_in_large(day: &[u8], book: &mut [u8], asked: BookAsked) -> BookReply
-    requires { ⌜ length (now day) ≡ 64 ⌝ }
+    requires { ⌜ length (now day) ≡ 88 ⌝ }
     requires { ⌜ length (now book) / 40 ≤ 4_096 ⌝ }
     ensures { λ r. ⌜ Changed (bookOn (now (day .entry)) (now (book .entry)) asked) (now (book .entry)) r (now (book .exit)) ⌝ }
 {
@@ -72,7 +72,7 @@ fn change_in_large(day: &[u8], book: &mut [u8], asked: BookAsked) -> BookReply
 }
 
 fn change_in_small(day: &[u8], book: &mut [u8], asked: BookAsked) -> BookReply
-    requires { ⌜ length (now day) ≡ 64 ⌝ }
+    requires { ⌜ length (now day) ≡ 88 ⌝ }
     requires { ⌜ length (now book) / 40 ≤ 1_024 ⌝ }
     ensures { λ r. ⌜ Changed (bookOn (now (day .entry)) (now (book .entry)) asked) (now (book .entry)) r (now (book .exit)) ⌝ }
 {
@@ -82,7 +82,7 @@ fn change_in_small(day: &[u8], book: &mut [u8], asked: BookAsked) -> BookReply
 }
 
 fn change_in_tiny(day: &[u8], book: &mut [u8], asked: BookAsked) -> BookReply
-    requires { ⌜ length (now day) ≡ 64 ⌝ }
+    requires { ⌜ length (now day) ≡ 88 ⌝ }
     requires { ⌜ length (now book) / 40 ≤ 64 ⌝ }
     ensures { λ r. ⌜ Changed (bookOn (now (day .entry)) (now (book .entry)) asked) (now (book .entry)) r (now (book .exit)) ⌝ }
 {
@@ -93,7 +93,7 @@ fn change_in_tiny(day: &[u8], book: &mut [u8], asked: BookAsked) -> BookReply
 
 // In a room as small as the book allows.
 pub fn change_bytes(day: &[u8], book: &mut [u8], asked: BookAsked) -> BookReply
-    requires { ⌜ length (now day) ≡ 64 ⌝ }
+    requires { ⌜ length (now day) ≡ 88 ⌝ }
     requires { ⌜ length (now book) / 40 ≤ 4_096 ⌝ }
     ensures { λ r. ⌜ Changed (bookOn (now (day .entry)) (now (book .entry)) asked) (now (book .entry)) r (now (book .exit)) ⌝ }
 {

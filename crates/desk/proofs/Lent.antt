@@ -19,7 +19,7 @@ use Rattle.model.specs.declared.OpenReply as OpenReply
 use Rattle.model.specs.declared.OrderReply as OrderReply
 use Rattle.model.specs.declared.ClockReply as ClockReply
 use Rattle.model.specs.Book.{free}
-use Rattle.model.specs.Clock.{phaseAt}
+use Rattle.model.specs.Halts.{phaseNow}
 use Rattle.model.specs.Figures.{at, freshDay}
 use Rattle.model.specs.Entry.{entryTrades}
 use Rattle.model.specs.Sound.{hasPlaces}
@@ -62,7 +62,7 @@ clockBy d t book n lent =
     (record {
       answer =
           record {
-            reply = ClockReply.the-variants.Moved (phaseAt t) (length (moved d t book .trades));
+            reply = ClockReply.the-variants.Moved (phaseNow (at t (moved d t book .day))) (length (moved d t book .trades));
             made = length (moved d t book .trades);
             day = at t (moved d t book .day);
           };

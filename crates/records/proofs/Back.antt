@@ -108,12 +108,12 @@ pub trades-front :
 unfolding tradesBytes tradesIn
 trades-front new b s k = over-front tradeIn tradeBytes 48 trade-again length-trade new (length b / 48) b (omega arith) s k
 
-day-again : (b : List ℕ) → 64 ≤ length b → AllBytes b → dayBytes (dayIn b) ≡ take 64 b
+day-again : (b : List ℕ) → 88 ≤ length b → AllBytes b → dayBytes (dayIn b) ≡ take 88 b
 unfolding dayBytes dayIn numbers parts
-day-again b h s = numbers-again 8 b h s
+day-again b h s = numbers-again 11 b h s
 
-pub day-kept : (b : List ℕ) → length b ≡ 64 → AllBytes b → over (dayBytes (dayIn b)) b ≡ b
-day-kept b h s = kept _ b 64 (day-again b (omega arith) s) (omega arith)
+pub day-kept : (b : List ℕ) → length b ≡ 88 → AllBytes b → over (dayBytes (dayIn b)) b ≡ b
+day-kept b h s = kept _ b 88 (day-again b (omega arith) s) (omega arith)
 
 pub prices-kept : (b : List ℕ) → AllBytes b → over (bytes (pricesIn b)) b ≡ b
 unfolding pricesIn

@@ -12,7 +12,7 @@ use Rattle.records.specs.Layout.{bytes, dayRow, dayBytes, orderIn, order
 use Rattle.records.proofs.Runs.{sets-over}
 use Rattle.records.proofs.Sizes.{length-bytes, length-day, length-book, length-trades}
 
-pub day-put : (b : List ℕ) (d : Day) (b' : List ℕ) → 64 ≤ length b → b' ≡ sets b 0 (bytes (dayRow d)) → b' ≡ over (dayBytes d) b
+pub day-put : (b : List ℕ) (d : Day) (b' : List ℕ) → 88 ≤ length b → b' ≡ sets b 0 (bytes (dayRow d)) → b' ≡ over (dayBytes d) b
 unfolding dayBytes
 day-put b d b' h e = e ∙ sets-over (dayBytes d) b (omega (arith, length-day d))
 

@@ -35,7 +35,7 @@ orderIn b = orderOf (numbers 5 b)
 abbrev pub tradeIn : List ℕ → Trade
 tradeIn b = tradeOf (numbers 6 b)
 
--- close, mark, time, numbers issued, shares, turnover, first, last
+-- close, mark, time, numbers issued, shares, turnover, first, last, the halt's end, 30% used, 60% used
 abbrev pub dayOf : List ℕ → Day
 dayOf n =
     record {
@@ -47,10 +47,13 @@ dayOf n =
       turnover = getD n 5 0;
       first = getD n 6 0;
       last = getD n 7 0;
+      halt = getD n 8 0;
+      used30 = getD n 9 0;
+      used60 = getD n 10 0;
     }
 
 unfoldable pub dayIn : List ℕ → Day
-dayIn b = dayOf (numbers 8 b)
+dayIn b = dayOf (numbers 11 b)
 
 -- a book, a trade list and a price list: the whole records that the bytes hold
 unfoldable pub bookIn : List ℕ → List Order
@@ -81,7 +84,7 @@ tradesBytes ts = flat tradeBytes ts
 
 abbrev pub dayRow : Day → List ℕ
 dayRow d =
-    d .close ∷ d .limited ∷ d .time ∷ d .issued ∷ d .shares ∷ d .turnover ∷ d .first ∷ d .last ∷ []
+    d .close ∷ d .limited ∷ d .time ∷ d .issued ∷ d .shares ∷ d .turnover ∷ d .first ∷ d .last ∷ d .halt ∷ d .used30 ∷ d .used60 ∷ []
 
 unfoldable pub dayBytes : Day → List ℕ
 dayBytes d = bytes (dayRow d)

@@ -7,12 +7,12 @@ ghost use Prim.Native.Nat.{_≤_};
 ghost use lib.ListN.{length};
 ghost use Rattle.records.specs.Layout.{dayIn, dayBytes, over};
 
-// The day that 64 bytes hold.
+// The day that 88 bytes hold.
 pub fn day_in(b: &[u8]) -> Day
-    requires { ⌜ 64 ≤ length (now b) ⌝ }
+    requires { ⌜ 88 ≤ length (now b) ⌝ }
     ensures { λ r. ⌜ r ≡ dayIn (now (b .entry)) ⌝ }
 {
-    let mut v = [0u64; 8];
+    let mut v = [0u64; 11];
     read_numbers(b, 0, &mut v[..]);
     Day {
         close: v[0],
@@ -23,11 +23,14 @@ pub fn day_in(b: &[u8]) -> Day
         turnover: v[5],
         first: v[6],
         last: v[7],
+        halt: v[8],
+        used30: v[9],
+        used60: v[10],
     }
 }
 
 pub fn put_day(b: &mut [u8], d: Day)
-    requires { ⌜ 64 ≤ length (now b) ⌝ }
+    requires { ⌜ 88 ≤ length (now b) ⌝ }
     ensures { λ _. ⌜ now (b .exit) ≡ over (dayBytes d) (now (b .entry)) ⌝ }
 {
     let row = [
@@ -39,6 +42,9 @@ pub fn put_day(b: &mut [u8], d: Day)
         d.turnover,
         d.first,
         d.last,
+        d.halt,
+        d.used30,
+        d.used60,
     ];
     put_numbers(b, 0, &row[..]);
 }

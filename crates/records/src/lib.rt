@@ -8,7 +8,7 @@ pub mod rooms;
 // How many bytes each of them has.
 pub const NUMBER_BYTES: usize = 8;
 
-pub const DAY_BYTES: usize = 64;
+pub const DAY_BYTES: usize = 88;
 
 pub const ORDER_BYTES: usize = 40;
 

@@ -116,6 +116,9 @@ fn before_the_day() -> Stand {
         turnover: 0,
         first: 0,
         last: 0,
+        halt: 0,
+        used30: 0,
+        used60: 0,
     };
     Stand { day, book }
 }

@@ -45,24 +45,24 @@ module _ (day book : List ℕ) (asked : BookAsked.BookAsked) where
   change-unread {r} u e s =
       let k : Changed (record { reply = bookRefusal asked; book = bookIn book }) book r book =
       record { told = e; places = sym (book-kept book s) } in
-      ⊎-elim (λ h. rw (ne-eqb (length day) 64 h) k)
-      (λ h. rw (eq-eqb (length day) 64 (h .0), too-many-change (dayIn day) book asked (h .1)) k)
+      ⊎-elim (λ h. rw (ne-eqb (length day) 88 h) k)
+      (λ h. rw (eq-eqb (length day) 88 (h .0), too-many-change (dayIn day) book asked (h .1)) k)
       u
 
   pub change-read :
       {r : BookReply.BookReply} {left : List ℕ}
-      → length day ≡ 64
+      → length day ≡ 88
       → Changed (bookOn day book asked) book r left
       → Changed (changeOn day book asked) book r left
   unfolding changeOn
-  change-read h c = rw (eq-eqb (length day) 64 h) c
+  change-read h c = rw (eq-eqb (length day) 88 h) c
 
-  refused-by : {r : BookReply.BookReply} → r ≡ changeOn day book asked .reply → (length day ≡ 64 → ⊥) → r ≡ bookRefusal asked
+  refused-by : {r : BookReply.BookReply} → r ≡ changeOn day book asked .reply → (length day ≡ 88 → ⊥) → r ≡ bookRefusal asked
   unfolding changeOn
-  refused-by e h = rw (ne-eqb (length day) 64 h) at e
+  refused-by e h = rw (ne-eqb (length day) 88 h) at e
 
   pub day-fits : {r : BookReply.BookReply} → r ≡ changeOn day book asked .reply → DayFits r day
-  day-fits e d f = elim (ℕ-discrete (length day) 64) [
+  day-fits e d f = elim (ℕ-discrete (length day) 88) [
     | yes h ↦ h
     | no h ↦ absurd (refusal-opens-none asked d (sym (refused-by e h) ∙ f))
   ]

@@ -45,7 +45,7 @@ changeOn day book asked =
 
 -- a day was opened only where there is memory for it
 abbrev pub DayFits : BookReply.BookReply → List ℕ → Type 0
-DayFits told day = (d : Day) → told ≡ BookReply.the-variants.Open (Opened d) → length day ≡ 64
+DayFits told day = (d : Day) → told ≡ BookReply.the-variants.Open (Opened d) → length day ≡ 88
 
 unfoldable pub dayBy : BookReply.BookReply → List ℕ → List ℕ
 dayBy (BookReply.the-variants.Open r) day = dayLeft r day

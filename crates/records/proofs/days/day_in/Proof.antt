@@ -1,4 +1,4 @@
--- `records::days::day_in` meets its contract: the eight numbers that were read, by name. Assumes nothing.
+-- `records::days::day_in` meets its contract: the eleven numbers that were read, by name. Assumes nothing.
 use mathlib.Core.Path.{ap}
 use borrow.Author.Needs.{needs}
 use Rattle.records.specs.Layout.{dayOf, dayIn}
@@ -35,6 +35,15 @@ array-read-t26 c = search needs
 array-read-t29 : tie.Need-array-read-t29
 array-read-t29 c = search needs
 
+array-read-t32 : tie.Need-array-read-t32
+array-read-t32 c = search needs
+
+array-read-t35 : tie.Need-array-read-t35
+array-read-t35 c = search needs
+
+array-read-t38 : tie.Need-array-read-t38
+array-read-t38 c = search needs
+
 returns : tie.Need-returns
 unfolding dayIn
 returns c = ap dayOf (c .before .read-numbers .ensures)
@@ -53,4 +62,7 @@ day-in-spec =
     array-read-t23
     array-read-t26
     array-read-t29
+    array-read-t32
+    array-read-t35
+    array-read-t38
     returns)
