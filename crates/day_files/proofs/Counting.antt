@@ -52,7 +52,7 @@ unfolding countFile counted
 one-due file e k = ap counted (sym (reads-one file e k))
 
 -- the first refusal of a block is that of all from there on
-refused-first :
+pub refused-first :
     (whole blocks place n : ℕ) (rest : List ℕ)
     → n ≡ firstOf (blockRules whole place (take 512 rest))
     → (n ≡ 0 → ⊥)
@@ -120,11 +120,11 @@ module _ (file : List ℕ) {whole total done : ℕ} (k : Counting file whole tot
       (sym (refused-first whole (whole - (done + 1)) (suc done) n (drop (512 * done) file) (s .0) (s .1) ∙ tests-here)) (s .1)
 
 -- behind the last block
-tail-tests : (whole place : ℕ) (rest : List ℕ) → 0 < length rest → firstOf (rulesFrom whole zero place rest) ≡ 26
+pub tail-tests : (whole place : ℕ) (rest : List ℕ) → 0 < length rest → firstOf (rulesFrom whole zero place rest) ≡ 26
 unfolding rulesFrom firstOf _when_
 tail-tests whole place rest h = rw (lt-ltb 0 (length rest) h)
 
-no-tests : (whole place : ℕ) (rest : List ℕ) → length rest ≤ 0 → firstOf (rulesFrom whole zero place rest) ≡ 0
+pub no-tests : (whole place : ℕ) (rest : List ℕ) → length rest ≤ 0 → firstOf (rulesFrom whole zero place rest) ≡ 0
 unfolding rulesFrom firstOf _when_
 no-tests whole place rest h = rw (le-ltb 0 (length rest) h)
 

@@ -65,12 +65,12 @@ module _ (more : List ℕ) where
 
 -- ---- chunk by chunk
 
-tail-unended : (chunk : List ℕ) → Cut chunk → Unended (tailOf (linesOf chunk))
+pub tail-unended : (chunk : List ℕ) → Cut chunk → Unended (tailOf (linesOf chunk))
 unfolding tailOf
 tail-unended chunk (cut t rest u e c) = rw (e, lines-ended t rest u) (tail-unended rest c)
 tail-unended chunk (uncut u) = rw (lines-open chunk u) (rw (open-tail chunk) u)
 
-part-unended : (n : ℕ) (t : List ℕ) → Unended t → Unended (take n t)
+pub part-unended : (n : ℕ) (t : List ℕ) → Unended t → Unended (take n t)
 part-unended zero t u = tt
 part-unended (suc n) [] u = tt
 part-unended (suc n) (b ∷ t) u = (u .0, part-unended n t (u .1))

@@ -69,7 +69,7 @@ pub fn next_command(chunk: &[u8], at: usize, long: bool) -> NextCommand
 }
 
 // Moves the bytes from `start` up to `end` to the front.
-fn to_front(buf: &mut [u8], start: usize, end: usize)
+pub fn to_front(buf: &mut [u8], start: usize, end: usize)
     requires { ⌜ (start ≤ end) × (end ≤ length (now buf)) ⌝ }
     ensures { λ _. ⌜ now (buf .exit) ≡ take (end - start) (drop start (now (buf .entry))) ++ drop (end - start) (now (buf .entry)) ⌝ }
 {

@@ -1,0 +1,6 @@
+-- Laws of the packer.
+pub mod Growing
+pub mod Stored
+pub mod LineByLine
+pub mod Ended
+pub mod Chunks

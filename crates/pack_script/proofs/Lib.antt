@@ -1,0 +1,2 @@
+-- The laws of the packer's turns.
+pub mod Turns

@@ -1,0 +1,2 @@
+-- What the packer promises between a read and a write.
+pub mod Serving

@@ -1,0 +1,1 @@
+// The rescue of a damaged day file.

@@ -1,0 +1,2 @@
+-- The law of a read.
+pub mod Filling

@@ -1,0 +1,4 @@
+-- Laws of unpacking.
+pub mod Put
+pub mod Chunks
+pub mod Promised

@@ -1,0 +1,25 @@
+-- `unpack::put_refused` meets its contract. Assumes nothing.
+use borrow.Author.Needs.{needs}
+use Rattle.printing.proofs.Printed.{nothing-put, put-as}
+use Rattle.unpack.proofs.Put.{refused-none, refused-some}
+use Rattle.unpack.proofs.put_refused.Statement.{statement}
+use Rattle.unpack.proofs.put_refused.Tie as tie
+
+returns : tie.Need-returns
+returns c = put-as (refused-none _ _ (c .if1 .taken)) nothing-put
+
+slice-aggregate-put-reply : tie.Need-slice-aggregate-put-reply
+slice-aggregate-put-reply c = search needs
+
+put-reply-requires : tie.Need-put-reply-requires
+put-reply-requires c κs = search needs
+
+same-length : tie.Need-same-length
+same-length c = search needs
+
+returns-2 : tie.Need-returns-2
+returns-2 c = put-as (refused-some _ _ (c .before .before .before .before .before .if1 .left)) (c .before .before .put-reply .ensures)
+
+pub put-refused-spec : {M : Type 1} → statement M
+put-refused-spec =
+    tie.close (tie.spec returns slice-aggregate-put-reply put-reply-requires same-length returns-2)

@@ -1,0 +1,2 @@
+-- The laws of the unpacker's turns.
+pub mod Turns
