@@ -28,7 +28,7 @@ use Rattle.demands.proofs.Hours.{phase-noon}
 use Rattle.demands.proofs.HaltDays.{day-halted}
 use Rattle.demands.proofs.Starting.{order-starts}
 use Rattle.demands.proofs.Ending.{auction-passed, clock-halts}
-use Rattle.demands.proofs.Marks.{once-a-day, limited-none}
+use Rattle.demands.proofs.HaltRuns.{once-a-day, limited-none}
 use Rattle.demands.proofs.Collecting.{collects}
 use Rattle.demands.proofs.Histories as histories
 use Rattle.demands.proofs.Orderings as orderings

@@ -273,6 +273,21 @@ module _ (d : Day) (book : List Order) (s : Sound d book) where
             sixty = ap (λ (k : Held). k .day .used60) e;
           }
 
+  -- 30% is used by orders alone: in a halt it is used already
+  pub moved-thirty : (t : ℕ) → d .time ≤ t → moved d t book .day .used30 ≡ d .used30
+  unfolding at
+  moved-thirty t l = go (earlier t (d .halt)) (eqb (d .halt) 0) refl
+    where
+      k : ByMove d t (moved d t book .trades) (at t (moved d t book .day))
+      k = by-move t l
+
+      go : (t < d .halt) ⊎ (d .halt ≤ t) → (b : Bool) → eqb (d .halt) 0 ≡ b → moved d t book .day .used30 ≡ d .used30
+      go x true e = k .none (eqb-true (d .halt) 0 e) .thirty
+      go (inl m) false e = k .goes-on m .thirty
+      go (inr m) false e =
+          let n = eqb-false (d .halt) 0 e in
+          ⊎-elim (λ x. over-free n t m (x .1) .1) (λ x. another n t m (x .2) (x .0) (x .1) .thirty ∙ sym (halt .uses n)) (held-either n t m)
+
   pub clock-halts :
       (t : ℕ) (lent : List Trade) (phase made : ℕ)
       → clockCall d t book lent .answer .reply ≡ Moved phase made

@@ -52,5 +52,7 @@ pub mod ClockTrades
 pub mod Starting
 pub mod Ending
 pub mod Marks
+pub mod Reaching
+pub mod HaltRuns
 pub mod Collecting
 pub mod Demands

@@ -1,7 +1,6 @@
--- The marks of the two thresholds over a run: none goes back, so each counts how often its threshold fired; and a limited day has none.
--- Assumes nothing.
+-- The marks of the two thresholds over a run: none goes back, so each counts how often its threshold fired. Assumes nothing.
 use Prim.Native.Nat.{ℕ, _+_, _≤_}
-use mathlib.Core.Path.{_≡_, refl, ap, _∙_}
+use mathlib.Core.Path.{_≡_, refl, _∙_}
 use mathlib.Core.Bool.{Bool, true, false, cond, not, _&&_}
 use mathlib.Core.List.{List, [], _∷_}
 use native.Mathlib.Omega.{arith}
@@ -12,7 +11,7 @@ use Rattle.model.specs.declared.Trade.{Trade}
 use Rattle.model.specs.declared.Day.{Day}
 use Rattle.model.specs.declared.Event as Event
 use Rattle.model.specs.Clock.{passed}
-use Rattle.model.specs.Figures.{freshDay, at, issue, tally}
+use Rattle.model.specs.Figures.{at, issue, tally}
 use Rattle.model.specs.Halts.{reach, halting, fired, resumed}
 use Rattle.model.specs.Calls.{entered}
 use Rattle.model.specs.ClockCall.{Held, auction, lapse, pass, start, moved}
@@ -23,13 +22,10 @@ use Rattle.model.specs.Words.{Sound}
 use Rattle.halts.proofs.Kept.{fired-cases, resume-cases}
 use Rattle.soundness.specs.SoundDay.{HaltDay}
 use Rattle.soundness.proofs.SoundDays.{sound-halt}
-use Rattle.demands.specs.Running.{isOpening, Call, steppedBy, stepped, after, Fresh}
-use Rattle.demands.specs.Halting.{firings, OnceADay, NoHalt}
+use Rattle.demands.specs.Running.{isOpening, Call, steppedBy, stepped, after}
+use Rattle.demands.specs.Halting.{firings}
 use Rattle.demands.proofs.Cases.{order-cases, clock-cases}
 use Rattle.demands.proofs.Answers.{event-sound}
-use Rattle.demands.proofs.Runs.{run-sound, fresh-sound, is-fresh}
-use Rattle.demands.proofs.HaltDays.{none-runs}
-use Rattle.demands.proofs.Hours.{phase-unhalted}
 
 -- ---- a mark that is set stays set, and a limited day stays one
 
@@ -74,7 +70,7 @@ module _ (d : Day) where
       let k : Onward d n = record { thirty = λ u. u; sixty = λ u. u; limited = refl } in
       fired-cases (Onward d) (d .time) ts n (λ _. k) (λ _. set-onward _ (reach 60 ts n) d n k)
 
-event-onward : (e : Event.Event) → isOpening e ≡ false → (lent : List Trade) (s : Desk) → Onward (s .day) (steppedBy e lent s .day)
+pub event-onward : (e : Event.Event) → isOpening e ≡ false → (lent : List Trade) (s : Desk) → Onward (s .day) (steppedBy e lent s .day)
 unfolding isOpening steppedBy entered
 event-onward (Event.the-variants.Open close mark) o lent s = absurd (not-both refl o)
 event-onward (Event.the-variants.Clock t) o lent s =
@@ -95,7 +91,7 @@ one-more m n a b k = go (eqb m 0) refl (eqb n 0) refl
 
 -- a mark that is 0 or 1 on sound days, and never goes back
 module _ (mark : Day → ℕ) (most : (d : Day) → HaltDay d → mark d ≤ 1) (back : (d e : Day) → Onward d e → mark d ≡ 1 → mark e ≡ 1) where
-  run-fires : (cs : List Call) (s : Desk) → Sound (s .day) (s .book) → mark (s .day) + firings mark cs s ≡ mark (after cs s .day)
+  pub run-fires : (cs : List Call) (s : Desk) → Sound (s .day) (s .book) → mark (s .day) + firings mark cs s ≡ mark (after cs s .day)
   unfolding firings after
   run-fires [] s k = omega arith
   run-fires (c ∷ cs) s k =
@@ -107,41 +103,10 @@ module _ (mark : Day → ℕ) (most : (d : Day) → HaltDay d → mark d ≤ 1) 
       in
       omega (arith, e, run-fires cs (stepped c s) k′)
 
-run-limited : (cs : List Call) (s : Desk) → after cs s .day .limited ≡ s .day .limited
+pub run-onward : (cs : List Call) (s : Desk) → Onward (s .day) (after cs s .day)
 unfolding after
-run-limited [] s = refl
-run-limited (c ∷ cs) s = run-limited cs (stepped c s) ∙ event-onward (c .event) (c .within) (c .lent) s .limited
-
--- ---- from an opening
-
-module _ (cs : List Call) (s : Desk) (f : Fresh s) where
-  sound : Sound (s .day) (s .book)
-  sound = fresh-sound s f
-
-  halt : HaltDay (after cs s .day)
-  halt = sound-halt (after cs s .day) (after cs s .book) (run-sound cs s sound .1)
-
-  unused : (s .day .used30 ≡ 0) × (s .day .used60 ≡ 0)
-  unfolding freshDay
-  unused = (ap (λ (d : Day). d .used30) (is-fresh s f), ap (λ (d : Day). d .used60) (is-fresh s f))
-
-  pub once-a-day : OnceADay cs s
-  once-a-day =
-      let thirty = run-fires (λ d. d .used30) (λ d k. k .thirty) (λ d e k. k .thirty) cs s sound in
-      let sixty = run-fires (λ d. d .used60) (λ d k. k .sixty) (λ d e k. k .sixty) cs s sound in
-      record {
-        thirty = omega (arith, thirty, unused .0);
-        sixty = omega (arith, sixty, unused .1);
-        thirty-once = omega (arith, thirty, unused .0, halt .thirty);
-        sixty-once = omega (arith, sixty, unused .1, halt .sixty);
-        both = halt .thirty-first;
-      }
-
-  pub limited-none : s .day .limited ≡ 1 → NoHalt (after cs s .day)
-  limited-none l =
-      let d = after cs s .day in
-      let n : d .used30 ≡ 1 → ⊥ = λ u. halt .unlimited u .0 (run-limited cs s ∙ l) in
-      let thirty : d .used30 ≡ 0 = omega (arith, halt .thirty, n) in
-      let m : d .used60 ≡ 1 → ⊥ = λ u. n (halt .thirty-first u) in
-      let z : d .halt ≡ 0 = none-runs d (λ r. n (halt .uses r)) in
-      record { halt = z; thirty = thirty; sixty = omega (arith, halt .sixty, m); phase = phase-unhalted d z }
+run-onward [] s = onward-itself (s .day)
+run-onward (c ∷ cs) s =
+    let k = event-onward (c .event) (c .within) (c .lent) s in
+    let l = run-onward cs (stepped c s) in
+    record { thirty = λ u. l .thirty (k .thirty u); sixty = λ u. l .sixty (k .sixty u); limited = l .limited ∙ k .limited }

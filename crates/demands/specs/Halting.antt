@@ -2,9 +2,9 @@
 -- a day; what a halt does to orders; and that demand 3 covers the auction at its end.
 use Prim.Native.Nat.{ℕ, _+_, _-_, _*_, _≤_, _<_}
 use mathlib.Core.Path.{_≡_}
-use mathlib.Core.Logic.{_⊎_}
+use mathlib.Core.Logic.{_⊎_, _↔_}
 use mathlib.Core.Bool.{true, not, _&&_}
-use mathlib.Core.List.{List, [], _∷_}
+use mathlib.Core.List.{List, [], _∷_, _++_}
 use lib.ListN.{take}
 use lib.Dec.{eqb}
 use Rattle.model.specs.declared.Order.{Order}
@@ -12,6 +12,7 @@ use Rattle.model.specs.declared.Asked.{Asked}
 use Rattle.model.specs.declared.Trade.{Trade}
 use Rattle.model.specs.declared.Entry.{Entry}
 use Rattle.model.specs.declared.Day.{Day}
+use Rattle.model.specs.declared.Event as Event
 use Rattle.model.specs.declared.OrderReply as OrderReply
 use Rattle.model.specs.declared.OrderAnswer.{OrderAnswer}
 use Rattle.model.specs.declared.ClockReply as ClockReply
@@ -26,7 +27,7 @@ use Rattle.model.specs.ClockCall.{clockCall}
 use Rattle.model.specs.Session.{Desk}
 use Rattle.model.specs.Words.{Some, Sound}
 use Rattle.demands.specs.Pricing.{Listing, OneLeft, TradesThere}
-use Rattle.demands.specs.Running.{Call, stepped, after, Fresh}
+use Rattle.demands.specs.Running.{Call, stepped, tradesOfEvent, after, Fresh}
 
 -- ---- a sound day
 
@@ -118,6 +119,17 @@ firings mark [] s = 0
 firings mark (c ∷ cs) s =
     (if eqb (mark (s .day)) 0 && not (eqb (mark (stepped c s .day)) 0) then 1 else 0) + firings mark cs (stepped c s)
 
+-- the trades that the orders of a run made on entry
+unfoldable pub enteredBy : Event.Event → List Trade → Desk → List Trade
+enteredBy (Event.the-variants.Open close mark) lent s = []
+enteredBy (Event.the-variants.Clock t) lent s = []
+enteredBy (Event.the-variants.Order a) lent s = tradesOfEvent (Event.the-variants.Order a) lent s
+enteredBy (Event.the-variants.Cancel account number) lent s = []
+
+unfoldable pub enteredIn : List Call → Desk → List Trade
+enteredIn [] s = []
+enteredIn (c ∷ cs) s = enteredBy (c .event) (c .lent) s ++ enteredIn cs (stepped c s)
+
 -- a mark counts how often its threshold fired, and is at most 1; 60% has used up 30%
 pub record OnceADay (cs : List Call) (s : Desk) : Type 0 where
   pub thirty : firings (λ d. d .used30) cs s ≡ after cs s .day .used30
@@ -125,6 +137,13 @@ pub record OnceADay (cs : List Call) (s : Desk) : Type 0 where
   pub thirty-once : firings (λ d. d .used30) cs s ≤ 1
   pub sixty-once : firings (λ d. d .used60) cs s ≤ 1
   pub both : after cs s .day .used60 ≡ 1 → after cs s .day .used30 ≡ 1
+  -- on an unlimited day 30% is used exactly where an order traded on entry so far away from the day's open; past 60% both are used
+  pub thirty-exactly :
+      (after cs s .day .used30 ≡ 1) ↔ ((s .day .limited ≡ 0) × Reached 30 (openPrice (after cs s .day)) (enteredIn cs s))
+  pub sixty-uses :
+      s .day .limited ≡ 0
+      → Reached 60 (openPrice (after cs s .day)) (enteredIn cs s)
+      → (after cs s .day .used30 ≡ 1) × (after cs s .day .used60 ≡ 1)
 
 -- nothing of a halt shows
 pub record NoHalt (d : Day) : Type 0 where
