@@ -273,20 +273,47 @@ module _ (d : Day) (book : List Order) (s : Sound d book) where
             sixty = ap (λ (k : Held). k .day .used60) e;
           }
 
-  -- 30% is used by orders alone: in a halt it is used already
-  pub moved-thirty : (t : ℕ) → d .time ≤ t → moved d t book .day .used30 ≡ d .used30
-  unfolding at
-  moved-thirty t l = go (earlier t (d .halt)) (eqb (d .halt) 0) refl
-    where
-      k : ByMove d t (moved d t book .trades) (at t (moved d t book .day))
-      k = by-move t l
+  -- the two cases of a move: no threshold is used by it, or the auction at the end of a halt has fired
+  module _ (t : ℕ) where
+    abbrev then : Day
+    then = at t (moved d t book .day)
 
-      go : (t < d .halt) ⊎ (d .halt ≤ t) → (b : Bool) → eqb (d .halt) 0 ≡ b → moved d t book .day .used30 ≡ d .used30
-      go x true e = k .none (eqb-true (d .halt) 0 e) .thirty
-      go (inl m) false e = k .goes-on m .thirty
-      go (inr m) false e =
-          let n = eqb-false (d .halt) 0 e in
-          ⊎-elim (λ x. over-free n t m (x .1) .1) (λ x. another n t m (x .2) (x .0) (x .1) .thirty ∙ sym (halt .uses n)) (held-either n t m)
+    pub record Second : Type 0 where
+      pub ran : d .halt ≡ 0 → ⊥
+      pub reached : d .halt ≤ t
+      pub before : d .halt < 53_820
+      pub fires : Fires d (openPrice then) (moved d t book .trades)
+
+    pub record Same : Type 0 where
+      pub thirty : then .used30 ≡ d .used30
+      pub sixty : then .used60 ≡ d .used60
+      pub not-fired : Second → ⊥
+
+    pub move-either : d .time ≤ t → Same ⊎ (Second × Another d t then)
+    unfolding at
+    move-either l = go (earlier t (d .halt)) (eqb (d .halt) 0) refl
+      where
+        k : ByMove d t (moved d t book .trades) then
+        k = by-move t l
+
+        go : (t < d .halt) ⊎ (d .halt ≤ t) → (b : Bool) → eqb (d .halt) 0 ≡ b → Same ⊎ (Second × Another d t then)
+        go x true e =
+            let z = eqb-true (d .halt) 0 e in
+            inl (record { thirty = k .none z .thirty; sixty = k .none z .sixty; not-fired = λ c. c .ran z })
+        go (inl m) false e =
+            inl (record { thirty = k .goes-on m .thirty; sixty = k .goes-on m .sixty; not-fired = λ c. omega (arith, m, c .reached) })
+        go (inr m) false e =
+            let n = eqb-false (d .halt) 0 e in
+            ⊎-elim
+            (λ x.
+            let f = over-free n t m (x .1) in
+            inl (record { thirty = f .1; sixty = f .2; not-fired = λ c. x .0 (c .before, fires-told n t m (c .fires)) }))
+            (λ x.
+            inr (
+              record { ran = n; reached = m; before = x .0; fires = told-fires n t m (x .1) },
+              another n t m (x .2) (x .0) (x .1),
+            ))
+            (held-either n t m)
 
   pub clock-halts :
       (t : ℕ) (lent : List Trade) (phase made : ℕ)

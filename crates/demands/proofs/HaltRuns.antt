@@ -30,17 +30,17 @@ module _ (cs : List Call) (s : Desk) (f : Fresh s) where
 
   pub once-a-day : OnceADay cs s
   once-a-day =
-      let thirty = run-fires (λ d. d .used30) (λ d k. k .thirty) (λ d e k. k .thirty) cs s sound in
       let reaches = run-reaches cs s sound in
+      let thirty = run-fires (λ d. d .used30) (λ d k. k .thirty) (λ d e k. k .thirty) cs s sound in
       let sixty = run-fires (λ d. d .used60) (λ d k. k .sixty) (λ d e k. k .sixty) cs s sound in
       record {
         thirty = omega (arith, thirty, unused .0);
         sixty = omega (arith, sixty, unused .1);
         thirty-once = omega (arith, thirty, unused .0, halt .thirty);
         sixty-once = omega (arith, sixty, unused .1, halt .sixty);
+        thirty-exactly = (λ u. ⊎-elim (λ v. absurd (omega (arith, v, unused .0))) (λ x. x) (reaches .thirty-by u), λ x. reaches .thirty (x .0) (x .1));
+        sixty-exactly = (λ u. ⊎-elim (λ v. absurd (omega (arith, v, unused .1))) (λ x. x) (reaches .sixty-by u), λ x. reaches .sixty (x .0) (x .1));
         both = halt .thirty-first;
-        thirty-exactly = (λ u. ⊎-elim (λ v. absurd (omega (arith, v, unused .0))) (λ x. x) (reaches .used u), λ x. reaches .thirty (x .0) (x .1));
-        sixty-uses = reaches .sixty;
       }
 
   pub limited-none : s .day .limited ≡ 1 → NoHalt (after cs s .day)

@@ -3,10 +3,10 @@
 use Prim.Native.Nat.{ℕ, _+_, _-_, _*_, _≤_, _<_}
 use mathlib.Core.Path.{_≡_}
 use mathlib.Core.Logic.{_⊎_, _↔_}
-use mathlib.Core.Bool.{true, not, _&&_}
+use mathlib.Core.Bool.{Bool, true, not, _&&_}
 use mathlib.Core.List.{List, [], _∷_, _++_}
 use lib.ListN.{take}
-use lib.Dec.{eqb}
+use lib.Dec.{leb, ltb, eqb}
 use Rattle.model.specs.declared.Order.{Order}
 use Rattle.model.specs.declared.Asked.{Asked}
 use Rattle.model.specs.declared.Trade.{Trade}
@@ -119,31 +119,35 @@ firings mark [] s = 0
 firings mark (c ∷ cs) s =
     (if eqb (mark (s .day)) 0 && not (eqb (mark (stepped c s .day)) 0) then 1 else 0) + firings mark cs (stepped c s)
 
--- the trades that the orders of a run made on entry
-unfoldable pub enteredBy : Event.Event → List Trade → Desk → List Trade
-enteredBy (Event.the-variants.Open close mark) lent s = []
-enteredBy (Event.the-variants.Clock t) lent s = []
-enteredBy (Event.the-variants.Order a) lent s = tradesOfEvent (Event.the-variants.Order a) lent s
-enteredBy (Event.the-variants.Cancel account number) lent s = []
+-- a move to t ends a halt whose auction may fire: before 14:57
+unfoldable pub endsHalt : Day → ℕ → Bool
+endsHalt d t = not (eqb (d .halt) 0) && leb (d .halt) t && ltb (d .halt) 53_820
 
-unfoldable pub enteredIn : List Call → Desk → List Trade
-enteredIn [] s = []
-enteredIn (c ∷ cs) s = enteredBy (c .event) (c .lent) s ++ enteredIn cs (stepped c s)
+-- the trades of an event that may fire: those of an order on entry, and those of such a move
+unfoldable pub firingBy : Event.Event → List Trade → Desk → List Trade
+firingBy (Event.the-variants.Open close mark) lent s = []
+firingBy (Event.the-variants.Clock t) lent s =
+    if endsHalt (s .day) t then tradesOfEvent (Event.the-variants.Clock t) lent s else []
+firingBy (Event.the-variants.Order a) lent s = tradesOfEvent (Event.the-variants.Order a) lent s
+firingBy (Event.the-variants.Cancel account number) lent s = []
 
--- a mark counts how often its threshold fired, and is at most 1; 60% has used up 30%
+unfoldable pub firingIn : List Call → Desk → List Trade
+firingIn [] s = []
+firingIn (c ∷ cs) s = firingBy (c .event) (c .lent) s ++ firingIn cs (stepped c s)
+
 pub record OnceADay (cs : List Call) (s : Desk) : Type 0 where
+  -- a mark counts how often its threshold fired, and is at most 1
   pub thirty : firings (λ d. d .used30) cs s ≡ after cs s .day .used30
   pub sixty : firings (λ d. d .used60) cs s ≡ after cs s .day .used60
   pub thirty-once : firings (λ d. d .used30) cs s ≤ 1
   pub sixty-once : firings (λ d. d .used60) cs s ≤ 1
-  pub both : after cs s .day .used60 ≡ 1 → after cs s .day .used30 ≡ 1
-  -- on an unlimited day 30% is used exactly where an order traded on entry so far away from the day's open; past 60% both are used
+  -- each is used exactly where one of the trades that may fire reached it, from the day's open, on an unlimited day
   pub thirty-exactly :
-      (after cs s .day .used30 ≡ 1) ↔ ((s .day .limited ≡ 0) × Reached 30 (openPrice (after cs s .day)) (enteredIn cs s))
-  pub sixty-uses :
-      s .day .limited ≡ 0
-      → Reached 60 (openPrice (after cs s .day)) (enteredIn cs s)
-      → (after cs s .day .used30 ≡ 1) × (after cs s .day .used60 ≡ 1)
+      (after cs s .day .used30 ≡ 1) ↔ ((s .day .limited ≡ 0) × Reached 30 (openPrice (after cs s .day)) (firingIn cs s))
+  pub sixty-exactly :
+      (after cs s .day .used60 ≡ 1) ↔ ((s .day .limited ≡ 0) × Reached 60 (openPrice (after cs s .day)) (firingIn cs s))
+  -- at or past 60% both are used
+  pub both : after cs s .day .used60 ≡ 1 → after cs s .day .used30 ≡ 1
 
 -- nothing of a halt shows
 pub record NoHalt (d : Day) : Type 0 where
