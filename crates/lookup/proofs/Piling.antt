@@ -24,6 +24,10 @@ none-at zero r = refl
 none-at (suc n) zero = refl
 none-at (suc n) (suc r) = none-at n r
 
+pub none-length : (n : ℕ) {l : List ℕ} → l ≡ noneYet n → length l ≡ n
+unfolding noneYet
+none-length n e = ap length e ∙ length-replicate {A = ℕ} n 0
+
 pub piled-none :
     (book : List Order) (tops under : List ℕ)
     → tops ≡ noneYet 65_536
@@ -32,7 +36,7 @@ pub piled-none :
 unfolding noneYet
 piled-none book tops under e l =
     record {
-      wide = ap length e ∙ length-replicate {A = ℕ} 65_536 0;
+      wide = none-length 65_536 e;
       long = l;
       top = λ r. ap (λ (m : List ℕ). getD m r 0) e ∙ none-at 65_536 r ∙ sym (last-zero (onPile r) book);
       below = λ j h. absurd (omega arith);

@@ -4,7 +4,7 @@ use mathlib.Core.Path.{_≡_, refl, sym, ap, _∙_}
 use mathlib.Core.Bool.{Bool, true, false, _&&_, and-false}
 use mathlib.Core.List.{List, []}
 use native.Mathlib.Omega.{arith}
-use lib.ListN.{length, getD}
+use lib.ListN.{length, getD, length-map}
 use lib.Dec.{eqb}
 use borrow.Author.Tests.{eq-eqb, ne-eqb, eqb-true}
 use Rattle.model.specs.declared.Order.{Order}
@@ -113,3 +113,9 @@ module _
   further-down tops under p f g =
       let r = next-down n (bookOf rows) (at - 1) here o (e ∙ book-at rows (at - 1)) tops under p f g in
       (r .0, omega (arith, r .1))
+
+-- a place that is found is one of the book's
+pub place-within : (n : ℕ) (rows : List (List ℕ)) {at : ℕ} → at ≡ placeBy n (bookOf rows) → at ≤ length rows
+unfolding placeBy
+place-within n rows e =
+    omega (arith, e, last-most (bears n) (bookOf rows) (length (bookOf rows)), length-map rows orderOf)
