@@ -30,6 +30,7 @@ static int run(uint64_t first, uint64_t last, uint64_t tries) {
     }
     print_told();
     print_halts(tries != 0);
+    if (tries) print_judged();
     printf("every price tried on %llu small books\n", (unsigned long long)(tries - engine_tries_left));
     expect("books on which trying every price differed", engine_tries_differed, 0);
     expect("auctions in which buys reached sells and not exactly one price was left", engine_undecided, 0);

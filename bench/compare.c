@@ -38,10 +38,16 @@ static uint64_t proved_list(struct lent *m, const uint64_t *a) {
                          a[0]);
 }
 
+static uint64_t proved_judge(struct lent *m, const uint64_t *a) {
+    return flemorix_judge(m->day, m->day_length, m->book, m->book_length, m->list, m->list_length, m->reply, m->reply_length,
+                          a[0]);
+}
+
 const struct engines calls[CALLS] = {
     [OPEN] = {"open", proved_open, engine_open},         [ORDER] = {"order", proved_order, engine_order},
     [CANCEL] = {"cancel", proved_cancel, engine_cancel}, [CLOCK] = {"clock", proved_clock, engine_clock},
     [REPORT] = {"report", proved_report, engine_report}, [LIST] = {"list", proved_list, engine_list},
+    [JUDGE] = {"judge", proved_judge, engine_judge},
 };
 
 /* ---- memory: each slice stands between guards */

@@ -1,4 +1,4 @@
-/* The six calls of the proved engine and of the independent one, made on the same lent memory and compared: the returned number,
+/* The calls of the proved engine and of the independent one, made on the same lent memory and compared: the returned number,
  * every byte of every slice, and guard bytes around each slice. */
 #ifndef COMPARE_H
 #define COMPARE_H
@@ -7,7 +7,7 @@
 
 enum { LONGEST = 200000 }; /* no slice is longer */
 
-enum { OPEN, ORDER, CANCEL, CLOCK, REPORT, LIST, CALLS };
+enum { OPEN, ORDER, CANCEL, CLOCK, REPORT, LIST, JUDGE, CALLS };
 
 typedef uint64_t call(struct lent *m, const uint64_t *asked);
 

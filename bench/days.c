@@ -242,6 +242,7 @@ void run_seed(uint64_t seed) {
         one_call(&plan, pick_call());
         if (once_in(4)) damaged_call(&plan);
         if (once_in(16)) disordered_calls(&plan);
+        if (once_in(8)) judge_lists(seed, chance);
     }
     printf("seed %llu: %zu places, close %llu: %s\n", (unsigned long long)seed, plan.places, (unsigned long long)plan.close,
            failed == before ? "same" : "DIFFERENT");

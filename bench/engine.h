@@ -17,13 +17,15 @@ struct lent {
 
 enum { ASKED = 6 }; /* no call is asked with more numbers */
 
-/* The six calls, each with its numbers in the order in which docs/C.md names them. They return the refusal number. */
+/* The calls, each with its numbers in the order in which docs/C.md names them. They return the refusal number. */
 uint64_t engine_open(struct lent *m, const uint64_t *asked);   /* close, mark */
 uint64_t engine_order(struct lent *m, const uint64_t *asked);  /* side, kind, account, quantity, price, balance */
 uint64_t engine_cancel(struct lent *m, const uint64_t *asked); /* account, number */
 uint64_t engine_clock(struct lent *m, const uint64_t *asked);  /* time */
 uint64_t engine_report(struct lent *m, const uint64_t *asked);
 uint64_t engine_list(struct lent *m, const uint64_t *asked); /* price */
+
+uint64_t engine_judge(struct lent *m, const uint64_t *asked); /* price; the list has the claims (judge.c) */
 
 /* On how many more small books the engine also tries all 999,999 prices, how often it then found that it had left one out, and
  * how often buys reached sells and the tie rules did not leave exactly one price. */

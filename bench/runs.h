@@ -16,4 +16,10 @@ void run_halting_seed(uint64_t seed);
 /* What the days that halt have shown; where all seeds have been run, each thing often enough. */
 void print_halts(int all_seeds);
 
+/* Asks both judges with lists of claims of every kind, on the day and the book that are lent. */
+void judge_lists(uint64_t seed, uint64_t (*draw)(uint64_t n));
+
+/* How many lists of each kind were judged; a kind that never came up is a failure. */
+void print_judged(void);
+
 #endif

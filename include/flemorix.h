@@ -137,6 +137,18 @@ struct flemorix_list_reply {
     uint64_t next;  /* the next one due, 0 where there is none */
 };
 
+/* A trade as another engine claims it. */
+struct flemorix_claim {
+    uint64_t shares;
+    uint64_t buyer;  /* the numbers of the two orders */
+    uint64_t seller;
+};
+
+struct flemorix_judge_reply {
+    uint64_t refusal;
+    uint64_t yes; /* 1 or 0 */
+};
+
 /* Opens a day: every place of the book becomes free, and the day's bytes are the new day. Reply: the refusal alone. 14. */
 uint64_t flemorix_open(uint8_t *day, size_t day_length, uint8_t *book, size_t book_length, uint8_t *reply,
                        size_t reply_length, uint64_t close, uint64_t mark);
@@ -168,6 +180,11 @@ uint64_t flemorix_report(const uint8_t *day, size_t day_length, const uint8_t *b
  * the next one due or 0. 15. */
 uint64_t flemorix_list(const uint8_t *day, size_t day_length, const uint8_t *book, size_t book_length, uint8_t *prices,
                        size_t prices_length, uint8_t *reply, size_t reply_length, uint64_t asked);
+
+/* Judges a claimed auction, held now on this day and book: its price, and a list of claims of 24 bytes each. Bytes behind the last
+ * whole claim are not read. Reply: 1 for yes, 0 for no. 15. */
+uint64_t flemorix_judge(const uint8_t *day, size_t day_length, const uint8_t *book, size_t book_length, const uint8_t *claims,
+                        size_t claims_length, uint8_t *reply, size_t reply_length, uint64_t price);
 
 #ifdef __cplusplus
 }

@@ -122,7 +122,7 @@ module _ (p : ℕ) (book : List Order) (s : Standing book) where
   sells-hold : held (cut (volume book p) (queue 1 book)) ≡ volume book p
   sells-hold = omega (arith, cut-held (volume book p) (queue 1 book), volume-sells book p)
 
-  trades-fill : (n : ℕ) → Filled n (cut (volume book p) (queue 0 book)) (cut (volume book p) (queue 1 book)) (tradesAt p book)
+  pub trades-fill : (n : ℕ) → Filled n (cut (volume book p) (queue 0 book)) (cut (volume book p) (queue 1 book)) (tradesAt p book)
   unfolding tradesAt pairs
   trades-fill n =
       pairs-fill p n (cut (volume book p) (queue 0 book)) (cut (volume book p) (queue 1 book)) (buys-hold ∙ sym sells-hold)

@@ -26,6 +26,22 @@ no-grant n v (o ∷ os) e = elim (decLt 0 v) [
   | no k ↦ let z : v ≡ 0 = omega arith in rw (z, cut-nothing (o ∷ os)) (granted-none n)
 ]
 
+-- those behind the first of a queue are granted what the rest of the volume grants them
+pub grant-behind :
+    (v n : ℕ) (o : Order) (os : List Order)
+    → (o .number ≡ n → ⊥)
+    → granted n (cut v (o ∷ os)) ≡ granted n (cut (v - o .left) os)
+grant-behind v n o os d = elim (decLt 0 v) [
+  | yes k ↦
+      let z : (if eqb (o .number) n then min v (o .left) else 0) ≡ 0 = rw (ne-eqb (o .number) n d) in
+      rw (cut-some v o os k)
+      (omega (arith, granted-next n (brings v o) (cut (v - o .left) os)))
+  | no k ↦
+      let z : v ≡ 0 = omega arith in
+      let y : v - o .left ≡ 0 = omega arith in
+      rw (y, z, cut-nothing (o ∷ os), cut-nothing os)
+]
+
 module _ (v : ℕ) (o : Order) (os : List Order) (e : Each (λ p. p .number ≡ o .number → ⊥) os) where
   -- the first of a queue is granted what it has, up to the volume
   pub first-grant : granted (o .number) (cut v (o ∷ os)) ≡ min v (o .left)
@@ -38,27 +54,11 @@ module _ (v : ℕ) (o : Order) (os : List Order) (e : Each (λ p. p .number ≡ 
     | no k ↦ let z : v ≡ 0 = omega arith in rw (z, cut-nothing (o ∷ os)) (omega (arith, granted-none (o .number)))
   ]
 
-  -- and those behind it what the rest of the volume grants them
   pub later-grants : Each (λ p. granted (p .number) (cut v (o ∷ os)) ≡ granted (p .number) (cut (v - o .left) os)) os
   later-grants =
       each (λ p. p .number ≡ o .number → ⊥)
-      (λ p. granted (p .number) (cut v (o ∷ os)) ≡ granted (p .number) (cut (v - o .left) os)) os (λ p d. behind p d) e
-    where
-      behind :
-          (p : Order)
-          → (p .number ≡ o .number → ⊥)
-          → granted (p .number) (cut v (o ∷ os)) ≡ granted (p .number) (cut (v - o .left) os)
-      behind p d = elim (decLt 0 v) [
-        | yes k ↦
-            let z : (if eqb (o .number) (p .number) then min v (o .left) else 0) ≡ 0 =
-            rw (ne-eqb (o .number) (p .number) (λ y. d (sym y))) in
-            rw (cut-some v o os k)
-            (omega (arith, granted-next (p .number) (brings v o) (cut (v - o .left) os)))
-        | no k ↦
-            let z : v ≡ 0 = omega arith in
-            let y : v - o .left ≡ 0 = omega arith in
-            rw (y, z, cut-nothing (o ∷ os), cut-nothing os)
-      ]
+      (λ p. granted (p .number) (cut v (o ∷ os)) ≡ granted (p .number) (cut (v - o .left) os)) os
+      (λ p d. grant-behind v (p .number) o os (λ y. d (sym y))) e
 
 -- nobody is granted more than he has
 pub grants-within :

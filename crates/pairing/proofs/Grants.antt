@@ -47,19 +47,19 @@ module _ (n : ℕ) where
   unfolding granted held
   granted-most ss = total-keep (λ s. s .left) (λ s. eqb (s .number) n) ss
 
-  bought-next : (t : Trade) (ts : List Trade) → bought n (t ∷ ts) ≡ (if eqb (t .buyer) n then t .quantity else 0) + bought n ts
+  pub bought-next : (t : Trade) (ts : List Trade) → bought n (t ∷ ts) ≡ (if eqb (t .buyer) n then t .quantity else 0) + bought n ts
   unfolding bought filled
   bought-next t ts = kept-next (λ t. eqb (t .buyer) n) (λ t. t .quantity) t ts
 
-  bought-none : bought n [] ≡ 0
+  pub bought-none : bought n [] ≡ 0
   unfolding bought filled keep total
   bought-none = refl
 
-  sold-next : (t : Trade) (ts : List Trade) → sold n (t ∷ ts) ≡ (if eqb (t .seller) n then t .quantity else 0) + sold n ts
+  pub sold-next : (t : Trade) (ts : List Trade) → sold n (t ∷ ts) ≡ (if eqb (t .seller) n then t .quantity else 0) + sold n ts
   unfolding sold filled
   sold-next t ts = kept-next (λ t. eqb (t .seller) n) (λ t. t .quantity) t ts
 
-  sold-none : sold n [] ≡ 0
+  pub sold-none : sold n [] ≡ 0
   unfolding sold filled keep total
   sold-none = refl
 

@@ -4,3 +4,4 @@ pub mod Trades
 pub mod Changes
 pub mod Readings
 pub mod Determined
+pub mod Judged

@@ -1,4 +1,5 @@
--- The calls on bytes: what each leaves in memory, what it promises, and two of them as one.
+-- The calls on bytes: what each leaves in memory, what it promises, and two of them as one; the judge by itself.
 pub mod Exports
 pub mod Promises
 pub mod Pairs
+pub mod Verdicts

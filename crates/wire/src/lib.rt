@@ -2,3 +2,4 @@
 pub mod changing;
 pub mod reading;
 pub mod trading;
+pub mod verdicts;

@@ -1,0 +1,2 @@
+-- The laws of claims as bytes.
+pub mod Reading

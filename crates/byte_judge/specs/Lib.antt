@@ -1,0 +1,2 @@
+-- Claims as bytes.
+pub mod Claims

@@ -1,0 +1,2 @@
+-- Where an order stands, by its number.
+pub mod Piles
