@@ -19,10 +19,11 @@ use Rattle.model.specs.Session.{Desk}
 use Rattle.model.specs.Words.{Each, Some, Sound}
 use Rattle.book.specs.Standing.{Fair}
 use Rattle.book.proofs.Lists.{each, each-append}
-use Rattle.soundness.specs.SoundDay.{SoundDay}
-use Rattle.soundness.proofs.SoundDays.{sound-day, day-stands}
+use Rattle.soundness.specs.SoundDay.{SoundDay, HaltDay}
+use Rattle.soundness.proofs.SoundDays.{sound-day, sound-halt, day-stands}
 use Rattle.demands.specs.Running.{isOpening, Owner, Is, ownersBy, acceptedBy, steppedBy}
 use Rattle.demands.proofs.Elements.{each-map}
+use Rattle.demands.proofs.HaltDays.{running}
 use Rattle.demands.proofs.Owned.{Known, Owned, event-owned}
 use Rattle.octets.specs.Numbers.{AllBytes, worth, parts}
 use Rattle.octets.proofs.Digits.{bytes-take, bytes-drop}
@@ -137,20 +138,24 @@ each-fits : (book : List Order) → Each Fair book → Each WordAccount book →
 each-fits [] f a = tt
 each-fits (o ∷ os) f a = (order-fits o (f .0) (a .0), each-fits os (f .1) (a .1))
 
-day-words : (d : Day) (book : List Order) → SoundDay d book → Each Word (dayRow d)
-day-words d book k =
+day-words : (d : Day) (book : List Order) → SoundDay d book → HaltDay d → Each Word (dayRow d)
+day-words d book k h =
     let shares : d .shares ≤ 500_000_000_000 = omega (arith, k .shares, k .issued) in
     let turnover : d .turnover < 2 ^ 64 = omega (arith, shares, k .most) in
     let prices : Word (d .first) × Word (d .last) = elim (ℕ-discrete (d .shares) 0) [
       | yes z ↦ (omega (arith, k .untraded z .0), omega (arith, k .untraded z .1))
       | no n ↦ (omega (arith, k .traded n .0 .high), omega (arith, k .traded n .1 .high))
+    ] in
+    let halt : Word (d .halt) = elim (ℕ-discrete (d .halt) 0) [
+      | yes z ↦ omega (arith, z)
+      | no n ↦ omega (arith, running d h n .latest)
     ] in (
       omega (arith, k .close .high),
       (
         omega (arith, k .limited),
         (
           omega (arith, k .time),
-          (omega (arith, k .issued), (omega (arith, shares), (turnover, (prices .0, (prices .1, tt))))),
+          (omega (arith, k .issued), (omega (arith, shares), (turnover, (prices .0, (prices .1, (halt, (omega (arith, h .thirty), (omega (arith, h .sixty), tt)))))))),
         ),
       ),
     )
@@ -161,7 +166,7 @@ both d book = record { day = d; book = book }
 module _ (d : Day) (book : List Order) (k : Sound d book) where
   day-read : (day : List ℕ) → dayIn (over (dayBytes d) day) ≡ d
   unfolding over
-  day-read day = day-back d (drop (length (dayBytes d)) day) (day-words d book (sound-day d book (k .1)))
+  day-read day = day-back d (drop (length (dayBytes d)) day) (day-words d book (sound-day d book (k .1)) (sound-halt d book (k .1)))
 
   book-read : (b : List ℕ) → Each WordAccount book → length book ≡ length (bookIn b) → bookIn (over (bookBytes book) b) ≡ book
   book-read b a e =

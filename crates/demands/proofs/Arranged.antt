@@ -19,7 +19,7 @@ use Rattle.book.proofs.Best.{each-on}
 use Rattle.book.proofs.Kept.{free-left}
 use Rattle.book.proofs.Parts.{spareIn, arranged-is}
 use Rattle.book.proofs.Arranging.{each-arranged, arranged-length, arranged-stands, arranged-ranked, arranged-crosses, total-arranged}
-use Rattle.soundness.specs.SoundDay.{Place}
+use Rattle.soundness.specs.SoundDay.{Place, HaltDay}
 use Rattle.soundness.proofs.SoundDays.{day-sound, few-places}
 use Rattle.demands.specs.Owning.{StandsOnce}
 use Rattle.demands.proofs.Elements.{some-left, some-right, some-at, each-some}
@@ -98,13 +98,13 @@ module _ (d : Day) (n : ℕ) (os : List Order) (w : Whole d os) (fit : length (q
   pub arranged-ordered : n ≤ 4_096 → Ordered (arranged n os)
   arranged-ordered few = arranged-ranked n os stands fit few .ordered
 
-  arranged-timely : (t : ℕ) → Timely t os → Timely t (arranged n os)
-  arranged-timely t h =
+  arranged-timely : (t halt : ℕ) → Timely t halt os → Timely t halt (arranged n os)
+  arranged-timely t halt h =
       record {
         time = h .time;
         early = λ l. each-arranged (λ o. o ≡ free) n os refl (h .early l);
         late = λ l. each-arranged (λ o. o ≡ free) n os refl (h .late l);
-        uncrossed = λ a b. arranged-crosses n os stands fit ∙ h .uncrossed a b;
+        uncrossed = λ a b z. arranged-crosses n os stands fit ∙ h .uncrossed a b z;
       }
 
 -- as many places as before
@@ -119,12 +119,13 @@ pub arranged-sound :
     (d : Day) (book os : List Order)
     → hasPlaces book ≡ true
     → Whole d os
-    → Timely (d .time) os
+    → Timely (d .time) (d .halt) os
+    → HaltDay d
     → length (queue 0 os) + length (queue 1 os) ≤ length book
     → Sound d (arranged (length book) os)
-arranged-sound d book os many w t fit =
+arranged-sound d book os many w t halt fit =
     let n = length book in (
       arranged-many book os many,
-      day-sound d (arranged n os) (sound-of d (arranged n os) (arranged-whole d n os w fit) (arranged-timely d n os w fit (d .time) t))
-          (arranged-ordered d n os w fit (few-places book many)),
+      day-sound d (arranged n os) (sound-of d (arranged n os) (arranged-whole d n os w fit) (arranged-timely d n os w fit (d .time) (d .halt) t))
+          (arranged-ordered d n os w fit (few-places book many)) halt,
     )

@@ -16,7 +16,7 @@ use Rattle.book.proofs.Kept.{standing-keep}
 use Rattle.book.proofs.Counting.{queues-fit}
 use Rattle.book.proofs.Crossing.{SellsAbove, Uncrossed, uncrossed, not-crossed}
 use Rattle.soundness.specs.SoundDay.{Place, SoundDay}
-use Rattle.soundness.proofs.SoundDays.{sound-day}
+use Rattle.soundness.proofs.SoundDays.{sound-day, sound-halt}
 use Rattle.model.specs.Words.{Sound}
 use Rattle.demands.proofs.Cases.{cancel-cases}
 use Rattle.demands.proofs.Pricings.{sound-stands}
@@ -52,21 +52,21 @@ module _ (p : Order → Bool) (d : Day) (book : List Order) (s : Sound d book) w
       (λ b h e. each-keep (λ (r : Order). standsOn 1 r ≡ true → b .price < r .price) p book (h e))
       u)
 
-  kept-timely : Timely (d .time) (keep p book)
+  kept-timely : Timely (d .time) (d .halt) (keep p book)
   kept-timely =
       let t = timely-of d book day in
       record {
         time = t .time;
         early = λ l. each-keep (λ o. o ≡ free) p book (t .early l);
         late = λ l. each-keep (λ o. o ≡ free) p book (t .late l);
-        uncrossed = λ a b. not-crossed (keep p book) (kept-uncrossed (uncrossed book stands (t .uncrossed a b)));
+        uncrossed = λ a b z. not-crossed (keep p book) (kept-uncrossed (uncrossed book stands (t .uncrossed a b z)));
       }
 
   kept-fit : length (queue 0 (keep p book)) + length (queue 1 (keep p book)) ≤ length book
   kept-fit = omega (arith, queues-fit (keep p book) (standing-keep p book stands .fair), length-keep p book)
 
   kept-sound : Sound d (arranged (length book) (keep p book))
-  kept-sound = arranged-sound d book (keep p book) (s .0) kept-whole kept-timely kept-fit
+  kept-sound = arranged-sound d book (keep p book) (s .0) kept-whole kept-timely (sound-halt d book (s .1)) kept-fit
 
 pub cancel-kept : (d : Day) (account number : ℕ) (book : List Order) → Sound d book → Sound d (cancelCall d account number book .book)
 cancel-kept d account number book s =

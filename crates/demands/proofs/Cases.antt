@@ -16,9 +16,9 @@ use Rattle.model.specs.declared.ClockReply as ClockReply
 use Rattle.model.specs.declared.OrderAnswer.{OrderAnswer}
 use Rattle.model.specs.declared.ClockAnswer.{ClockAnswer}
 use Rattle.model.specs.Lists.{keep, total}
-use Rattle.model.specs.Clock.{phaseAt}
 use Rattle.model.specs.Book.{arranged}
 use Rattle.model.specs.Figures.{at}
+use Rattle.model.specs.Halts.{phaseNow}
 use Rattle.model.specs.Refusals.{firstOf}
 use Rattle.model.specs.Calls.{Outcome, written, CancelOutcome, isOwn, orderRules, entered, orderCall, cancelRules, cancelCall}
 use Rattle.model.specs.ClockCall.{Held, moved, clockRules, clockCall}
@@ -74,7 +74,7 @@ module _ (d : Day) (t : ℕ) (book : List Order) (lent : List Trade) where
       (record {
         answer =
             record {
-              reply = ClockReply.the-variants.Moved (phaseAt t) (length (held .trades));
+              reply = ClockReply.the-variants.Moved (phaseNow (at t (held .day))) (length (held .trades));
               made = length (held .trades);
               day = at t (held .day);
             };

@@ -1,5 +1,6 @@
 -- The three demands: each record of specs/ that is put together from several files. Demand 1 is in Refusals, the runs of
 -- demand 2 in Runs, the starred table in Stars. Assumes nothing.
+use Rattle.model.specs.Figures.{reference}
 use Rattle.demands.specs.Pricing.{Pricing}
 use Rattle.demands.specs.Conditions.{Conditions}
 use Rattle.auction.proofs.Conditions.{second-tests, second-alone}
@@ -10,6 +11,7 @@ use Rattle.demands.specs.Totalling.{Totalling}
 use Rattle.demands.specs.Owning.{OwnOnly}
 use Rattle.demands.specs.Leaving.{Leaving}
 use Rattle.demands.specs.Ordering.{Ordering}
+use Rattle.demands.specs.Halting.{Halting}
 use Rattle.demands.specs.Older.{SameHistories}
 use Rattle.demands.proofs.ClockTrades.{clock-trades}
 use Rattle.demands.proofs.Pricings.{sound-stands, listing, called, one, trades-there}
@@ -22,6 +24,12 @@ use Rattle.demands.proofs.Totals.{order-totals, clock-totals}
 use Rattle.demands.proofs.Owns.{cancel-own}
 use Rattle.demands.proofs.Staying.{order-stays, clock-stays}
 use Rattle.demands.proofs.Leavings.{order-leaves, incoming-leaves, clock-leaves, clock-stands}
+use Rattle.demands.proofs.Hours.{phase-noon}
+use Rattle.demands.proofs.HaltDays.{day-halted}
+use Rattle.demands.proofs.Starting.{order-starts}
+use Rattle.demands.proofs.Ending.{auction-passed, clock-halts}
+use Rattle.demands.proofs.HaltRuns.{once-a-day, limited-none}
+use Rattle.demands.proofs.Collecting.{collects}
 use Rattle.demands.proofs.Histories as histories
 use Rattle.demands.proofs.Orderings as orderings
 
@@ -57,6 +65,24 @@ leaving =
       incoming = λ d a book lent e s. incoming-leaves d a book s lent e;
       clock = λ d t book lent s. clock-leaves d t book (sound-stands d book s) lent;
       clock-stands = λ d t book lent s. clock-stands d t book (sound-stands d book s) lent;
+    }
+
+pub halting : Halting
+halting =
+    record {
+      halted = day-halted;
+      order = λ d a book lent s. order-starts d a book s lent;
+      clock = λ d t book lent phase made s. clock-halts d book s t lent phase made;
+      auction = λ d t book lent phase made s e n l.
+          let stands = sound-stands d book s in (
+            listing book stands,
+            λ q. one book stands q (reference d),
+            clock-trades d book s t lent .there phase made e (auction-passed d book s n t l),
+          );
+      collects = collects;
+      noon = phase-noon;
+      once = once-a-day;
+      limited = limited-none;
     }
 
 pub ordering : Ordering

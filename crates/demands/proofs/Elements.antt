@@ -2,7 +2,7 @@
 use Prim.Native.Nat.{ℕ, zero, suc, _<_}
 use mathlib.Core.Path.{_≡_, refl, subst}
 use mathlib.Core.List.{List, [], _∷_, _++_, map}
-use mathlib.Core.Logic.{inl, inr, ⊎-elim}
+use mathlib.Core.Logic.{_⊎_, inl, inr, ⊎-elim}
 use native.Mathlib.Omega.{arith}
 use native.Mathlib.Nat.{le-of-suc-le-suc, not-suc-le-zero}
 use lib.ListN.{length, getD}
@@ -26,6 +26,11 @@ module _ {A : Type 0} where
   pub some-right : (P : A → Type 0) (xs ys : List A) → Some P ys → Some P (xs ++ ys)
   some-right P [] ys h = h
   some-right P (x ∷ xs) ys h = inr (some-right P xs ys h)
+
+  pub some-either : (P : A → Type 0) (xs ys : List A) → Some P (xs ++ ys) → Some P xs ⊎ Some P ys
+  some-either P [] ys h = inr h
+  some-either P (x ∷ xs) ys h =
+      ⊎-elim (λ p. inl (inl p)) (λ k. ⊎-elim (λ a. inl (inr a)) inr (some-either P xs ys k)) h
 
   -- ---- one element
 

@@ -1,5 +1,5 @@
 -- An order keeps a sound day sound: what no rule refuses, and then the day and the book after it. Assumes nothing.
-use Prim.Native.Nat.{ℕ, suc, _+_, _-_, _*_, _≤_}
+use Prim.Native.Nat.{ℕ, suc, _+_, _-_, _*_, _≤_, _<_}
 use mathlib.Core.Path.{_≡_, refl, ap, _∙_}
 use mathlib.Core.Logic.{inr, ⊎-elim}
 use mathlib.Core.Bool.{Bool, true, false, cond, not, _&&_, _||_}
@@ -13,23 +13,26 @@ use Rattle.model.specs.declared.Asked.{Asked}
 use Rattle.model.specs.declared.Trade.{Trade}
 use Rattle.model.specs.declared.Day.{Day}
 use Rattle.model.specs.Lists.{all, total}
-use Rattle.model.specs.Clock.{takesOrders}
+use Rattle.model.specs.Clock.{takesOrders, continuous}
 use Rattle.model.specs.Limits.{isPrice, inBand}
 use Rattle.model.specs.Book.{isLive, queue, arranged}
 use Rattle.model.specs.Matching.{filled, settle}
 use Rattle.model.specs.Figures.{nextNumber, issue, tally}
+use Rattle.model.specs.Halts.{reach, haltEnd, halting, fires, fired}
 use Rattle.model.specs.Entry.{entryTrades, restPrice}
 use Rattle.model.specs.Refusals.{_when_, firstOf}
 use Rattle.model.specs.Calls.{orderRules, joined, entered, orderCall}
 use Rattle.model.proofs.Bools.{and-left, and-right, and-true, not-both}
+use Rattle.model.proofs.HaltEnds.{continuous-hours, ends}
 use Rattle.model.specs.Words.{Each, Price, Sized, Sound}
 use Rattle.book.specs.Standing.{Standing}
 use Rattle.book.proofs.Lists.{each}
 use Rattle.book.proofs.Kept.{New, free-number}
-use Rattle.soundness.specs.SoundDay.{InBand, Rests, Place, SoundDay}
+use Rattle.halts.proofs.Kept.{fired-cases}
+use Rattle.soundness.specs.SoundDay.{InBand, Rests, Place, Empty, SoundDay}
 use Rattle.soundness.proofs.Clauses.{says-price, says-band}
 use Rattle.soundness.proofs.Sizes.{says-quantity, sized-most}
-use Rattle.soundness.proofs.SoundDays.{sound-day, next-new}
+use Rattle.soundness.proofs.SoundDays.{sound-day, sound-halt, next-new}
 use Rattle.matching.proofs.EntryLaws.{entry-filled, remainder, ordersThen}
 use Rattle.matching.proofs.EntryKept.{entered-standing, entered-fits, entered-shares}
 use Rattle.matching.proofs.AfterEntry.{entered-uncrossed}
@@ -38,8 +41,10 @@ use Rattle.demands.proofs.FirstRules.{gives-none}
 use Rattle.demands.proofs.Refusals.{order-numbers}
 use Rattle.demands.proofs.Cases.{order-cases}
 use Rattle.demands.proofs.Pricings.{sound-stands}
-use Rattle.demands.proofs.Wholes.{Traded, Whole, Timely, timely-of}
-use Rattle.demands.proofs.Hours.{none-early, none-late, then-continuous}
+use Rattle.demands.proofs.Wholes.{Traded, Whole, timely-of}
+use Rattle.demands.proofs.Hours.{none-early, none-late, then-continuous, phase-unhalted, now-continuous}
+use Rattle.demands.proofs.HaltDays.{same-whole, same-halting, halt-waits, halt-begins}
+use Rattle.demands.proofs.Firing.{fires-unlimited, fires-some, traded-now, mark-set}
 use Rattle.demands.proofs.Tallied.{traded-tally}
 use Rattle.demands.proofs.Settled.{Later, settle-places}
 use Rattle.demands.proofs.Arranged.{arranged-sound}
@@ -96,6 +101,7 @@ module _ (d : Day) (a : Asked) (book : List Order) (s : Sound d book) (k : Allow
   abbrev ts : List Trade
   ts = entryTrades d a book
 
+  -- with its number and its trades, before what they fire
   abbrev next : Day
   next = tally ts (issue d)
 
@@ -219,20 +225,54 @@ module _ (d : Day) (a : Asked) (book : List Order) (s : Sound d book) (k : Allow
         figures = entered-figures;
       }
 
-  entered-timely : Timely (next .time) orders
-  unfolding tally issue
-  entered-timely =
-      record {
-        time = day .time;
-        early = λ l. absurd (not-both (k .hours) (none-early (d .time) l));
-        late = λ l. absurd (not-both (k .hours) (none-late (d .time) l));
-        uncrossed = λ x y.
-            entered-uncrossed d a book stands (then-continuous (d .time) (k .hours) x y) (nextNumber d) (k .side) (k .kind)
-            (timely-of d book day .uncrossed x y);
-      }
+  -- ---- what they fire
 
-  pub entered-sound : Sound next (arranged (length book) orders)
-  entered-sound = arranged-sound next book orders (s .0) entered-whole entered-timely orders-fit
+  early : d .time < 33_300 → Empty orders
+  early l = absurd (not-both (k .hours) (none-early (d .time) l))
+
+  late : 54_000 ≤ d .time → Empty orders
+  late l = absurd (not-both (k .hours) (none-late (d .time) l))
+
+  abbrev Then : Day → Type 0
+  Then e = Sound e (arranged (length book) orders)
+
+  not-fired : Then next
+  unfolding tally issue
+  not-fired =
+      arranged-sound next book orders (s .0) entered-whole
+      (record {
+        time = day .time;
+        early = early;
+        late = late;
+        uncrossed = λ x y z.
+            entered-uncrossed d a book stands (phase-unhalted d z ∙ then-continuous (d .time) (k .hours) x y) (nextNumber d) (k .side) (k .kind)
+            (timely-of d book day .uncrossed x y z);
+      })
+      (halt-waits d next (sound-halt d book (s .1))
+      (record { thirty = refl; sixty = refl; limited = refl; shares = omega arith }) refl (omega arith) (sound-halt d book (s .1) .ahead))
+      orders-fit
+
+  begun : fires ts next ≡ true → Then (halting (haltEnd (d .time)) 1 (cond (reach 60 ts next) 1 (next .used60)) next)
+  unfolding halting tally issue continuous
+  begun f =
+      let now = continuous-hours (d .time) (now-continuous d (traded-now d a book (fires-some ts next f)) .0) in
+      let e = halting (haltEnd (d .time)) 1 (cond (reach 60 ts next) 1 (next .used60)) next in
+      arranged-sound e book orders (s .0)
+      (same-whole next e (same-halting (haltEnd (d .time)) 1 (cond (reach 60 ts next) 1 (next .used60)) next) orders entered-whole)
+      (record {
+        time = day .time;
+        early = early;
+        late = late;
+        uncrossed = λ x y z. absurd (omega (arith, z, ends (d .time) now .ahead));
+      })
+      (halt-begins e now refl refl
+      (mark-set (reach 60 ts next) (next .used60) (sound-halt d book (s .1) .sixty))
+      (fires-unlimited ts next f)
+      (λ z. fires-some ts next f (entry-proper d a book (stands .fair) entered-prices .some (omega (arith, z)))))
+      orders-fit
+
+  pub entered-sound : Then (fired (d .time) ts next)
+  entered-sound = fired-cases Then (d .time) ts next (λ _. not-fired) begun
 
 pub order-kept :
     (d : Day) (a : Asked) (book : List Order) (lent : List Trade)

@@ -23,7 +23,7 @@ use Rattle.model.specs.Words.{Apart, Sound}
 use Rattle.book.proofs.Lists.{each, total-zero}
 use Rattle.book.proofs.Kept.{free-left, free-number}
 use Rattle.book.proofs.Arranging.{cleared-ranked}
-use Rattle.soundness.specs.SoundDay.{Place, Empty}
+use Rattle.soundness.specs.SoundDay.{Place, Empty, HaltDay}
 use Rattle.soundness.proofs.Says.{says-le}
 use Rattle.soundness.proofs.Clauses.{says-price}
 use Rattle.soundness.proofs.SoundDays.{day-sound, few-places}
@@ -85,10 +85,24 @@ module _ (close mark : ℕ) where
             };
       }
 
-  fresh-timely : (book : List Order) → Empty book → Timely (freshDay close mark .time) book
+  fresh-timely : (book : List Order) → Empty book → Timely (freshDay close mark .time) (freshDay close mark .halt) book
   unfolding freshDay
   fresh-timely book e =
-      record { time = omega arith; early = λ _. e; late = λ _. e; uncrossed = λ a b. absurd (omega arith) }
+      record { time = omega arith; early = λ _. e; late = λ _. e; uncrossed = λ a b z. absurd (omega arith) }
+
+  -- no threshold is used and no halt runs
+  fresh-halt : HaltDay (freshDay close mark)
+  unfolding freshDay
+  fresh-halt =
+      record {
+        thirty = omega arith;
+        sixty = omega arith;
+        ahead = λ n. absurd (n refl);
+        led = λ n. absurd (n refl);
+        thirty-first = λ z. absurd (omega (arith, z));
+        uses = λ n. absurd (n refl);
+        unlimited = λ z. absurd (omega (arith, z));
+      }
 
   module _ (book : List Order) where
     abbrev may : Bool
@@ -107,7 +121,8 @@ module _ (close mark : ℕ) where
               (sound-of (freshDay close mark) (cleared book)
               (whole-cleared (freshDay close mark) [] (cleared book) (fresh-whole p m) n)
               (fresh-timely (cleared book) n))
-              (cleared-ranked book (few-places book many) .ordered),
+              (cleared-ranked book (few-places book many) .ordered)
+              fresh-halt,
         )
 
     abbrev opened : Bool → OpenOutcome

@@ -2,20 +2,23 @@
 -- Assumes nothing.
 use Prim.Native.Nat.{ℕ, suc, _+_}
 use mathlib.Core.Path.{_≡_, refl, _∙_}
-use mathlib.Core.Bool.{Bool, true, false, cond}
+use mathlib.Core.Bool.{false}
 use mathlib.Core.List.{List, [], _∷_, _++_, map}
 use native.Mathlib.Omega.{arith}
 use lib.ListN.{length, length-append}
 use Rattle.model.specs.declared.Trade.{Trade}
 use Rattle.model.specs.declared.Event as Event
-use Rattle.model.specs.declared.Boundary.{Boundary}
+use Rattle.model.specs.declared.Order.{Order}
+use Rattle.model.specs.declared.Day.{Day}
 use Rattle.model.specs.Lists.{from}
-use Rattle.model.specs.Clock.{passes, boundaries}
+use Rattle.model.specs.Clock.{passed}
 use Rattle.model.specs.Figures.{at, nextNumber, issue, tally}
+use Rattle.model.specs.Entry.{entryTrades}
 use Rattle.model.specs.Calls.{entered}
-use Rattle.model.specs.ClockCall.{Held, hold, pass, through, start, moved}
+use Rattle.model.specs.ClockCall.{Held, auction, lapse, pass, start, moved}
 use Rattle.model.specs.Session.{Desk}
 use Rattle.model.proofs.Bools.{not-both}
+use Rattle.model.proofs.Seconds.{pass-cases, through-keeps}
 use Rattle.demands.specs.Running.{
   isOpening,
   Call,
@@ -28,6 +31,7 @@ use Rattle.demands.specs.Running.{
   after,
   acceptedIn,
 }
+use Rattle.demands.proofs.HaltDays.{same-fired, same-resumed}
 use Rattle.demands.proofs.Cases.{order-cases, clock-cases}
 
 abbrev pub numbers : List Owner → List ℕ
@@ -40,18 +44,14 @@ pub record Counts (n m : ℕ) (ws : List Owner) : Type 0 where
 
 -- ---- a move of the clock issues none
 
-pass-issued : (old new : ℕ) (b : Boundary) (h : Held) → pass old new b h .day .issued ≡ h .day .issued
-unfolding pass hold tally
-pass-issued old new b h = go (passes (b .second) old new)
-  where
-    go : (p : Bool) → cond p (hold b h) h .day .issued ≡ h .day .issued
-    go true = refl
-    go false = refl
+pass-issued : (n s : ℕ) (h : Held) → h .day .issued ≡ n → pass s h .day .issued ≡ n
+unfolding lapse auction tally
+pass-issued n s h e =
+    pass-cases (λ k. k .day .issued ≡ n) s h (λ _. e) (λ _. same-resumed s h .issued ∙ e) (λ _. e) (λ _ _ _. e)
 
-through-issued : (old new : ℕ) (bs : List Boundary) (h : Held) → through old new bs h .day .issued ≡ h .day .issued
-unfolding through
-through-issued old new [] h = refl
-through-issued old new (b ∷ bs) h = through-issued old new bs (pass old new b h) ∙ pass-issued old new b h
+moved-issued : (d : Day) (t : ℕ) (book : List Order) → moved d t book .day .issued ≡ d .issued
+unfolding moved start
+moved-issued d t book = through-keeps (λ k. k .day .issued ≡ d .issued) (pass-issued (d .issued)) (passed (d .time) t) (start d book) refl
 
 none : (n m : ℕ) → m ≡ n → Counts n m []
 unfolding from
@@ -62,15 +62,16 @@ none n m e = record { order = refl; count = omega arith }
 event-counts :
     (e : Event.Event) → isOpening e ≡ false → (lent : List Trade) (s : Desk)
     → Counts (s .day .issued) (steppedBy e lent s .day .issued) (acceptedBy e lent s)
-unfolding isOpening steppedBy acceptedBy ownersBy entered from tally issue nextNumber at moved start
+unfolding isOpening steppedBy acceptedBy ownersBy entered from tally issue nextNumber at
 event-counts (Event.the-variants.Open close mark) o lent s = absurd (not-both refl o)
 event-counts (Event.the-variants.Clock t) o lent s =
     clock-cases (s .day) t (s .book) lent (λ o. Counts (s .day .issued) (o .answer .day .issued) [])
-    (λ _. none (s .day .issued) (moved (s .day) t (s .book) .day .issued) (through-issued (s .day .time) t boundaries (start (s .day) (s .book))))
+    (λ _. none (s .day .issued) (moved (s .day) t (s .book) .day .issued) (moved-issued (s .day) t (s .book)))
     (λ _. none (s .day .issued) (s .day .issued) refl)
 event-counts (Event.the-variants.Order a) o lent s =
     order-cases (s .day) a (s .book) lent (λ o. Counts (s .day .issued) (o .answer .day .issued) (ownersBy a (o .answer .reply)))
-    (λ _. record { order = refl; count = omega arith })
+    (λ _.
+    record { order = refl; count = omega (arith, same-fired (s .day .time) (entryTrades (s .day) a (s .book)) (tally (entryTrades (s .day) a (s .book)) (issue (s .day))) .issued) })
     (λ _. none (s .day .issued) (s .day .issued) refl)
 event-counts (Event.the-variants.Cancel account number) o lent s = none (s .day .issued) (s .day .issued) refl
 

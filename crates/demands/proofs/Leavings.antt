@@ -4,7 +4,7 @@ use Prim.Native.Nat.{ℕ, _+_, _-_, _≤_, _<_}
 use mathlib.Core.Path.{_≡_, refl, sym, ap, _∙_}
 use mathlib.Core.Logic.{inl, inr, ⊎-elim}
 use mathlib.Core.Bool.{Bool, true, false, cond, _||_}
-use mathlib.Core.List.{List, [], _∷_, append-nil}
+use mathlib.Core.List.{List, [], _∷_}
 use native.Mathlib.Omega.{arith}
 use lib.ListN.{length, getD, take, drop}
 use lib.Seq.{take-at}
@@ -17,14 +17,15 @@ use Rattle.model.specs.declared.Day.{Day}
 use Rattle.model.specs.declared.Entry.{Entry}
 use Rattle.model.specs.declared.OrderReply as OrderReply
 use Rattle.model.specs.Choice.{if_then_else_}
-use Rattle.model.specs.Clock.{passes}
+use Rattle.model.specs.Lists.{any}
+use Rattle.model.specs.Clock.{passed}
 use Rattle.model.specs.Book.{free, queue, arranged}
 use Rattle.model.specs.Matching.{filled, isIn, filledOf, lessBy, settle}
-use Rattle.model.specs.Figures.{tally, nextNumber}
+use Rattle.model.specs.Figures.{nextNumber}
 use Rattle.model.specs.Entry.{entryTrades, restPrice}
 use Rattle.model.specs.Replies.{restingOf}
 use Rattle.model.specs.Calls.{written, ended, joined, entered, orderCall}
-use Rattle.model.specs.ClockCall.{auctionTrades, hold, start, moved, clockCall}
+use Rattle.model.specs.ClockCall.{auctionTrades, start, moved, clockCall}
 use Rattle.model.specs.Words.{Each, Some, Sound}
 use Rattle.book.specs.Standing.{Fair, Standing}
 use Rattle.book.proofs.Lists.{both as each-both, each, every, each-at}
@@ -32,8 +33,8 @@ use Rattle.book.proofs.Kept.{New, new-fresh, free-number, less-by, standing-set
 use Rattle.book.proofs.Settlements.{filled-none, part, filled-cons, less-some}
 use Rattle.soundness.proofs.SoundDays.{sound-day, next-new}
 use Rattle.matching.proofs.EntryLaws.{remainder, ordersThen}
-use Rattle.pairing.proofs.Auctions.{uncrossed-none, settled-fit, afterwards, afterwards-stands, afterwards-uncrossed}
-use Rattle.pairing.proofs.Moves.{both, moved-by}
+use Rattle.pairing.proofs.Auctions.{settled-fit}
+use Rattle.demands.specs.Pricing.{isAuction}
 use Rattle.demands.specs.Leaving.{leftIn, Falls, lastLeft, Stands, EachFalls, EachStands, Incoming}
 use Rattle.demands.proofs.Elements.{each-map, some-at}
 use Rattle.demands.proofs.Places.{stands-once, behind-equals}
@@ -42,7 +43,8 @@ use Rattle.demands.proofs.Arranged.{stands-there}
 use Rattle.demands.proofs.Cases.{order-cases, clock-cases}
 use Rattle.demands.proofs.Pricings.{sound-stands, sound-ranked}
 use Rattle.demands.proofs.Entered.{Allowed, allowed, orders-stand, orders-fit, orders-highest, entered-sound}
-use Rattle.demands.proofs.Moved.{not-reached}
+use Rattle.demands.proofs.Moved.{in-time}
+use Rattle.demands.proofs.OneAuction.{moved-trades, up-to-close}
 use Rattle.demands.proofs.Staying.{settle-has}
 use Rattle.demands.proofs.Entries.{all-ends, rests-somewhere, joined-rests, entry, accepted-cases}
 use Rattle.demands.proofs.Once.{Once, book-once}
@@ -291,14 +293,12 @@ module _ (d : Day) (t : ℕ) (book : List Order) (s : Standing book) where
   auctioned = auctionTrades d book
 
   -- at most one auction has trades
-  moved-falls : (p q : Bool) → EachFalls (both d t book p q .trades) book
-  unfolding hold start
-  moved-falls false false = no-falls book
-  moved-falls true false = auction-falls book s d
-  moved-falls false true = auction-falls book s d
-  moved-falls true true =
-      rw (uncrossed-none (afterwards book s d) (afterwards-stands book s d) (tally auctioned d) (afterwards-uncrossed book s d), append-nil auctioned)
-      (auction-falls book s d)
+  moved-falls : EachFalls (moved d t book .trades) book
+  moved-falls = rw (moved-trades d t book s) (go (any (λ x. isAuction x d) (passed (d .time) t)))
+    where
+      go : (b : Bool) → EachFalls (cond b auctioned []) book
+      go true = auction-falls book s d
+      go false = no-falls book
 
   pub clock-leaves :
       (lent : List Trade)
@@ -307,27 +307,27 @@ module _ (d : Day) (t : ℕ) (book : List Order) (s : Standing book) where
   clock-leaves lent =
       clock-cases d t book lent (λ o. EachFalls (take (o .answer .made) (o .trades)) book)
       (λ _.
-      rw (take-at (moved d t book .trades) (drop (length (moved d t book .trades)) lent) (length (moved d t book .trades)) refl)
-      (rw (moved-by d t book (passes 33_900 (d .time) t) (passes 54_000 (d .time) t) refl refl)
-      (moved-falls (passes 33_900 (d .time) t) (passes 54_000 (d .time) t))))
+      rw (take-at (moved d t book .trades) (drop (length (moved d t book .trades)) lent) (length (moved d t book .trades)) refl) moved-falls)
       (λ _. no-falls book)
 
-  moved-stands : (p : Bool) → EachStands (both d t book p false .trades) book (both d t book p false .book)
-  unfolding hold start
-  moved-stands true =
-      all-stand (length book) (settle auctioned book) (standing-settle auctioned book s) (settled-fit book s d) auctioned book
-      (settled-stands auctioned book s (auction-falls book s d))
-  moved-stands false = no-trade-stands book s
+  moved-stands : d .time ≤ t → t < 54_000 → EachStands (moved d t book .trades) book (moved d t book .book)
+  unfolding start
+  moved-stands l c =
+      ⊎-elim (λ e. rw e (no-trade-stands book s))
+      (λ x.
+      rw (x .orders, x .trades)
+      (all-stand (length book) (settle auctioned book) (standing-settle auctioned book s) (settled-fit book s d) auctioned book
+      (settled-stands auctioned book s (auction-falls book s d))))
+      (up-to-close d book s t l c)
 
   pub clock-stands :
       (lent : List Trade)
       → t < 54_000
       → EachStands (take (clockCall d t book lent .answer .made) (clockCall d t book lent .trades)) book (clockCall d t book lent .book)
   unfolding written
-  clock-stands lent l =
+  clock-stands lent c =
       clock-cases d t book lent (λ o. EachStands (take (o .answer .made) (o .trades)) book (o .book))
-      (λ _.
+      (λ z.
       rw (take-at (moved d t book .trades) (drop (length (moved d t book .trades)) lent) (length (moved d t book .trades)) refl)
-      (rw (moved-by d t book (passes 33_900 (d .time) t) false refl (not-reached 54_000 (d .time) t l))
-      (moved-stands (passes 33_900 (d .time) t))))
+      (moved-stands (in-time d t book lent z .0) c))
       (λ _. no-trade-stands book s)

@@ -13,9 +13,12 @@ pub mod Cancelled
 pub mod Tallied
 pub mod Hours
 pub mod Settled
+pub mod HaltDays
+pub mod Firing
 pub mod EntryPrices
 pub mod Entered
 pub mod Moved
+pub mod OneAuction
 pub mod LongLists
 pub mod Answers
 pub mod Issued
@@ -46,4 +49,10 @@ pub mod TurnTests
 pub mod LineRefusals
 pub mod Stars
 pub mod ClockTrades
+pub mod Starting
+pub mod Ending
+pub mod Marks
+pub mod Reaching
+pub mod HaltRuns
+pub mod Collecting
 pub mod Demands

@@ -29,7 +29,7 @@ use Rattle.demands.proofs.Cases.{order-cases, clock-cases}
 use Rattle.demands.proofs.Pricings.{sound-if, sound-stands}
 
 -- a number that no rule gives
-never : (n : ℕ) (rs : List Rule) → (n ≡ 0 → ⊥) → Each (λ (r : Rule). r .number ≡ n → r .holds ≡ false) rs → firstOf rs ≡ n → ⊥
+pub never : (n : ℕ) (rs : List Rule) → (n ≡ 0 → ⊥) → Each (λ (r : Rule). r .number ≡ n → r .holds ≡ false) rs → firstOf rs ≡ n → ⊥
 unfolding firstOf
 never n [] z e f = z (sym f)
 never n (r ∷ rs) z e f = go (r .holds) refl f (never n rs z (e .1))
@@ -38,9 +38,12 @@ never n (r ∷ rs) z e f = go (r .holds) refl f (never n rs z (e .1))
     go true h g rest = not-both h (e .0 g)
     go false h g rest = rest g
 
--- a rule with another number than 13
+-- a rule with another number
+pub not-this : (m n : ℕ) {b : Bool} → eqb n m ≡ false → n ≡ m → b ≡ false
+not-this m n k e = absurd (eqb-false n m k e)
+
 not-13 : (n : ℕ) {b : Bool} → eqb n 13 ≡ false → n ≡ 13 → b ≡ false
-not-13 n k e = absurd (eqb-false n 13 k e)
+not-13 = not-this 13
 
 -- ---- an order
 

@@ -1,271 +1,246 @@
--- A move of the clock keeps a sound day sound, through the auctions that it passes. Assumes nothing.
-use Prim.Native.Nat.{ℕ, _≤_, _<_}
-use mathlib.Core.Path.{_≡_, refl}
+-- A move of the clock keeps a sound day sound, second by second: through its auctions, the end of a halt and the lapse. Assumes nothing.
+use Prim.Native.Nat.{ℕ, suc, _≤_, _<_}
+use mathlib.Core.Path.{_≡_, refl, _∙_}
 use mathlib.Core.Logic.{⊎-elim}
-use mathlib.Core.Bool.{Bool, true, false, cond, not, _&&_, _||_}
-use mathlib.Core.List.{List, [], _∷_, _++_}
+use mathlib.Core.Bool.{Bool, true, false, cond, not, _||_}
+use mathlib.Core.List.{List, [], _∷_}
 use native.Mathlib.Omega.{arith}
 use lib.ListN.{length}
 use lib.Dec.{leb, ltb}
-use borrow.Author.Tests.{leb-true, ltb-true, ltb-false, lt-ltb, le-ltb, le-leb, lt-leb}
+use borrow.Author.Tests.{leb-true, ltb-false}
 use Rattle.model.specs.declared.Order.{Order}
 use Rattle.model.specs.declared.Trade.{Trade}
 use Rattle.model.specs.declared.Day.{Day}
-use Rattle.model.specs.declared.Boundary.{Boundary}
 use Rattle.model.specs.Lists.{total}
-use Rattle.model.specs.Clock.{isTime, passes, boundaries}
-use Rattle.model.specs.Book.{arranged}
+use Rattle.model.specs.Clock.{isTime, passed}
 use Rattle.model.specs.Matching.{filled, settle}
 use Rattle.model.specs.Figures.{at, tally}
-use Rattle.model.specs.Sound.{hasPlaces, crosses}
+use Rattle.model.specs.Halts.{reach, haltEnd, halting, resumed}
 use Rattle.model.specs.Refusals.{_when_, firstOf}
 use Rattle.model.specs.Calls.{cleared}
-use Rattle.model.specs.ClockCall.{auctionPrice, auctionTrades, Held, hold, pass, through, start, moved, clockRules, clockCall}
+use Rattle.model.specs.ClockCall.{auctionPrice, auctionTrades, Held, auction, resume, lapse, pass, start, moved, clockRules, clockCall}
 use Rattle.model.proofs.Bools.{not-both}
-use Rattle.model.specs.Words.{Price, Ordered, Sound}
+use Rattle.model.proofs.Seconds.{pass-cases, through-seconds}
+use Rattle.model.proofs.HaltEnds.{Continuous}
+use Rattle.model.specs.Words.{Price, Sound}
 use Rattle.book.specs.Standing.{Standing}
 use Rattle.book.proofs.Lists.{each}
 use Rattle.book.proofs.Kept.{standing-settle}
 use Rattle.book.proofs.Arranging.{cleared-ranked}
-use Rattle.soundness.specs.SoundDay.{Empty, SoundDay}
-use Rattle.soundness.proofs.SoundDays.{sound-day, sound-ordered, day-sound, few-places}
-use Rattle.pairing.proofs.Moves.{both, moved-by}
-use Rattle.pairing.proofs.Auctions.{auction-priced, auction-shares, auction-cases, settled-fit, afterwards-uncrossed}
+use Rattle.halts.proofs.Kept.{resume-cases}
+use Rattle.soundness.specs.SoundDay.{SoundDay, HaltDay}
+use Rattle.soundness.proofs.SoundDays.{sound-day, sound-ordered, sound-halt, day-stands, day-sound, few-places}
+use Rattle.pairing.proofs.Auctions.{auction-priced, auction-shares, auction-cases, settled-fit, afterwards, afterwards-uncrossed}
+use Rattle.pairing.proofs.Moves.{pass-stands}
 use Rattle.demands.specs.Pricing.{EachAuction}
 use Rattle.demands.proofs.FirstRules.{gives-none}
 use Rattle.demands.proofs.Refusals.{clock-numbers}
 use Rattle.demands.proofs.Cases.{clock-cases}
 use Rattle.demands.proofs.Pricings.{sound-stands, trades-there}
-use Rattle.demands.proofs.Wholes.{Whole, whole-of, timely-of, sound-of, whole-stands}
+use Rattle.demands.proofs.Wholes.{Whole, whole-of, timely-of, sound-of}
 use Rattle.demands.proofs.Arranged.{arranged-whole, arranged-ordered, arranged-many}
 use Rattle.demands.proofs.Fresh.{cleared-empty, places-cleared, whole-cleared}
 use Rattle.demands.proofs.Tallied.{Proper, traded-tally}
-use Rattle.demands.proofs.Settled.{Later, places-later, settle-places}
+use Rattle.demands.proofs.Settled.{Later, settle-places}
+use Rattle.demands.proofs.HaltDays.{SameFigures, same-at, same-halting, same-back, same-then, same-whole, Runs, running, halt-over, halt-waits, halt-begins}
+use Rattle.demands.proofs.Firing.{fires-unlimited, mark-set}
 
 -- ---- an auction
 
--- a day and its book in the middle of a move
-pub record Fit (h : Held) : Type 0 where
-  pub many : hasPlaces (h .book) ≡ true
-  pub whole : Whole (h .day) (h .book)
-  pub ordered : Ordered (h .book)
+pub auction-proper : (h : Held) → Standing (h .book) → Proper (auctionTrades (h .day) (h .book))
+unfolding filled total
+auction-proper h k =
+    let ts = auctionTrades (h .day) (h .book) in
+    ⊎-elim
+    (λ x.
+    record {
+      priced =
+          each (λ (t : Trade). t .price ≡ auctionPrice (h .day) (h .book)) (λ (t : Trade). Price (t .price)) ts
+          (λ t e. rw e (record { low = x .qualifies .price .low; high = x .qualifies .price .high }))
+          (auction-priced (h .book) k (h .day));
+      some = λ z. absurd (omega (arith, x .some));
+    })
+    (λ x. rw (x .1) (record { priced = tt; some = λ z. refl }))
+    (auction-cases (h .book) k (h .day))
 
-module _ (h : Held) (f : Fit h) where
-  pub fit-stands : Standing (h .book)
-  fit-stands = whole-stands (h .day) (h .book) (f .whole)
+-- each auction on the way trades as demand 3 says
+pub each-auction : (ss : List ℕ) (h : Held) → Standing (h .book) → EachAuction ss h
+each-auction [] h k = tt
+each-auction (s ∷ ss) h k = (
+  λ _. trades-there (h .book) k (h .day),
+  each-auction ss (pass s h) (pass-stands s h k),
+)
+
+-- ---- one second
+
+-- a day and its book in the middle of a move, at this second
+abbrev SoundAt : ℕ → Held → Type 0
+SoundAt s h = Sound (at s (h .day)) (h .book)
+
+module _ (s : ℕ) (h : Held) (sound : SoundAt s h) (bound : suc s ≤ 86_399) where
+  abbrev now : Day
+  now = at s (h .day)
 
   abbrev ts : List Trade
   ts = auctionTrades (h .day) (h .book)
 
-  pub auction-proper : Proper ts
-  unfolding filled total
-  auction-proper =
-      ⊎-elim
-      (λ k.
-      record {
-        priced =
-            each (λ (t : Trade). t .price ≡ auctionPrice (h .day) (h .book)) (λ (t : Trade). Price (t .price)) ts
-            (λ t e. rw e (record { low = k .qualifies .price .low; high = k .qualifies .price .high }))
-            (auction-priced (h .book) fit-stands (h .day));
-        some = λ z. absurd (omega (arith, k .some));
-      })
-      (λ k. rw (k .1) (record { priced = tt; some = λ z. refl }))
-      (auction-cases (h .book) fit-stands (h .day))
+  day : SoundDay now (h .book)
+  day = sound-day now (h .book) (sound .1)
 
-  settled-whole : Whole (tally ts (h .day)) (settle ts (h .book))
-  unfolding tally
-  settled-whole =
-      record {
-        close = f .whole .close;
-        limited = f .whole .limited;
-        issued = f .whole .issued;
-        places = settle-places (h .day) (tally ts (h .day)) later ts (h .book) (f .whole .places);
-        apart = standing-settle ts (h .book) fit-stands .apart;
-        shares = omega (arith, auction-shares (h .book) fit-stands (h .day), f .whole .shares);
-        figures = traded-tally (h .day) ts (f .whole .figures) auction-proper;
-      }
-    where
-      later : Later (h .day) (tally ts (h .day))
-      later = record { close = refl; limited = refl; issued = omega arith }
+  halt : HaltDay now
+  halt = sound-halt now (h .book) (sound .1)
+
+  stands : Standing (h .book)
+  stands = day-stands now (h .book) day
 
   few : length (h .book) ≤ 4_096
-  few = few-places (h .book) (f .many)
+  few = few-places (h .book) (sound .0)
 
-  pub hold-fit : (b : Boundary) → Fit (hold b h)
-  unfolding hold
-  hold-fit b = go (b .lapse)
-    where
-      go :
-          (l : Bool)
-          → Fit
-          (record { day = tally ts (h .day); book = cond l (cleared (h .book)) (arranged (length (h .book)) (settle ts (h .book))); trades = h .trades ++ ts })
-      go true =
-          record {
-            many = places-cleared (h .book) (f .many);
-            whole = whole-cleared (tally ts (h .day)) (settle ts (h .book)) (cleared (h .book)) settled-whole (cleared-empty (h .book));
-            ordered = cleared-ranked (h .book) few .ordered;
-          }
-      go false =
-          let places = settled-fit (h .book) fit-stands (h .day) in
-          record {
-            many = arranged-many (h .book) (settle ts (h .book)) (f .many);
-            whole = arranged-whole (tally ts (h .day)) (length (h .book)) (settle ts (h .book)) settled-whole places;
-            ordered = arranged-ordered (tally ts (h .day)) (length (h .book)) (settle ts (h .book)) settled-whole places few;
-          }
-
--- ---- through the boundaries
-
-module _ (old new : ℕ) where
-  pass-fit : (b : Boundary) (h : Held) → Fit h → Fit (pass old new b h)
-  unfolding pass
-  pass-fit b h f = go (passes (b .second) old new)
-    where
-      go : (p : Bool) → Fit (cond p (hold b h) h)
-      go true = hold-fit h f b
-      go false = f
-
-  pub through-fit : (bs : List Boundary) (h : Held) → Fit h → Fit (through old new bs h)
-  unfolding through
-  through-fit [] h f = f
-  through-fit (b ∷ bs) h f = through-fit bs (pass old new b h) (pass-fit b h f)
-
-  pub each-auction : (bs : List Boundary) (h : Held) → Fit h → EachAuction old new bs h
-  each-auction [] h f = tt
-  each-auction (b ∷ bs) h f = (
-    λ _. trades-there (h .book) (fit-stands h f) (h .day),
-    each-auction bs (pass old new b h) (pass-fit b h f),
-  )
-
--- ---- the time of a move
-
-module _ (second old new : ℕ) where
-  passed : old < second → second ≤ new → passes second old new ≡ true
-  unfolding passes
-  passed a b = rw (lt-ltb old second a, le-leb second new b)
-
-  pub not-reached : new < second → passes second old new ≡ false
-  unfolding passes
-  not-reached a = rw (lt-leb second new a) (go (ltb old second))
-    where
-      go : (b : Bool) → b && false ≡ false
-      go true = refl
-      go false = refl
-
-  long-past : second ≤ old → passes second old new ≡ false
-  unfolding passes
-  long-past a = rw (le-ltb old second a)
-
-module _ (d : Day) (t : ℕ) (book : List Order) where
-  module _ (s : SoundDay d book) (k : Standing book) (ordered : d .time ≤ t) where
-    early-empty : t < 33_300 → Empty (moved d t book .book)
-    unfolding start
-    early-empty h =
-        rw (moved-by d t book false false (not-reached 33_900 (d .time) t (omega arith)) (not-reached 54_000 (d .time) t (omega arith)))
-        (s .early (omega arith))
-
-    late-empty : 54_000 ≤ t → Empty (moved d t book .book)
-    late-empty h = go (ltb (d .time) 54_000) refl
-      where
-        lapsed : (p : Bool) → Empty (both d t book p true .book)
-        lapsed p = unfold hold in cleared-empty _
-
-        go : (b : Bool) → ltb (d .time) 54_000 ≡ b → Empty (moved d t book .book)
-        go true e =
-            rw (moved-by d t book (passes 33_900 (d .time) t) true refl (passed 54_000 (d .time) t (ltb-true (d .time) 54_000 e) h))
-            (lapsed (passes 33_900 (d .time) t))
-        go false e =
-            let l : 54_000 ≤ d .time = ltb-false (d .time) 54_000 e in
-            rw (moved-by d t book false false (long-past 33_900 (d .time) t (omega arith)) (long-past 54_000 (d .time) t l))
-            (unfold start in s .late l)
-
-    then-uncrossed : 33_900 ≤ t → t ≤ 53_819 → crosses (moved d t book .book) ≡ false
-    then-uncrossed a b = go (ltb (d .time) 33_900) refl
-      where
-        after : crosses (both d t book true false .book) ≡ false
-        after = unfold hold start in afterwards-uncrossed book k d
-
-        before : 33_900 ≤ d .time → crosses (both d t book false false .book) ≡ false
-        before l = unfold start in timely-of d book s .uncrossed l (omega arith)
-
-        short : passes 54_000 (d .time) t ≡ false
-        short = not-reached 54_000 (d .time) t (omega arith)
-
-        go : (c : Bool) → ltb (d .time) 33_900 ≡ c → crosses (moved d t book .book) ≡ false
-        go true e = rw (moved-by d t book true false (passed 33_900 (d .time) t (ltb-true (d .time) 33_900 e) a) short) after
-        go false e =
-            let l : 33_900 ≤ d .time = ltb-false (d .time) 33_900 e in
-            rw (moved-by d t book false false (long-past 33_900 (d .time) t l) short) (before l)
-
--- ---- the call
-
-module _ (d : Day) (book : List Order) (s : Sound d book) where
-  pub start-fit : Fit (start d book)
-  unfolding start
-  start-fit =
-      record { many = s .0; whole = whole-of d book (sound-day d book (s .1)); ordered = sound-ordered d book (s .1) }
-
-  pub move-auctions : (t : ℕ) → EachAuction (d .time) t boundaries (start d book)
-  move-auctions t = each-auction (d .time) t boundaries (start d book) start-fit
-
-  pub moved-fit : (t : ℕ) → Fit (moved d t book)
-  unfolding moved
-  moved-fit t = through-fit (d .time) t boundaries (start d book) start-fit
-
-  -- the day at its new time
-  moved-whole : (t : ℕ) → Whole (at t (moved d t book .day)) (moved d t book .book)
+  runs : (h .day .halt ≡ 0 → ⊥) → Runs now
   unfolding at
-  moved-whole t =
-      let day = moved d t book .day in
-      let w = moved-fit t .whole in
+  runs n = running now halt n
+
+  -- ---- with the trades of an auction
+
+  abbrev traded : Day
+  traded = tally ts (h .day)
+
+  settled-whole : Whole traded (settle ts (h .book))
+  unfolding tally
+  settled-whole =
+      let w = same-whole now (h .day) (same-back (h .day) now (same-at s (h .day))) (h .book) (whole-of now (h .book) day) in
       record {
         close = w .close;
         limited = w .limited;
         issued = w .issued;
-        places = places-later day (at t day) (record { close = refl; limited = refl; issued = omega arith }) (moved d t book .book) (w .places);
-        apart = w .apart;
-        shares = w .shares;
-        figures =
-            record {
-              untraded = w .figures .untraded;
-              traded = w .figures .traded;
-              least = w .figures .least;
-              most = w .figures .most;
-            };
+        places = settle-places (h .day) traded later ts (h .book) (w .places);
+        apart = standing-settle ts (h .book) stands .apart;
+        shares = omega (arith, auction-shares (h .book) stands (h .day), w .shares);
+        figures = traded-tally (h .day) ts (w .figures) (auction-proper h stands);
       }
+    where
+      later : Later (h .day) traded
+      later = record { close = refl; limited = refl; issued = omega arith }
 
-  moved-sound : (t : ℕ) → d .time ≤ t → t ≤ 86_399 → Sound (at t (moved d t book .day)) (moved d t book .book)
-  unfolding at
-  moved-sound t l m =
-      let day = sound-day d book (s .1) in
-      let stands = sound-stands d book s in (
-        moved-fit t .many,
-        day-sound (at t (moved d t book .day)) (moved d t book .book)
-            (sound-of (at t (moved d t book .day)) (moved d t book .book) (moved-whole t)
+  abbrev book : List Order
+  book = afterwards (h .book) stands (h .day)
+
+  auctioned :
+      (e : Day)
+      → SameFigures traded e
+      → e .time ≡ suc s
+      → 33_300 ≤ suc s
+      → suc s < 54_000
+      → HaltDay e
+      → Sound e book
+  auctioned e f t early late k =
+      let places = settled-fit (h .book) stands (h .day) in
+      let w = arranged-whole traded (length (h .book)) (settle ts (h .book)) settled-whole places in (
+        arranged-many (h .book) (settle ts (h .book)) (sound .0),
+        day-sound e book
+            (sound-of e book (same-whole traded e f book w)
             (record {
-              time = m;
-              early = early-empty d t book day stands l;
-              late = late-empty d t book day stands l;
-              uncrossed = then-uncrossed d t book day stands l;
+              time = omega (arith, t);
+              early = λ l. absurd (omega (arith, t, l));
+              late = λ l. absurd (omega (arith, t, l));
+              uncrossed = λ _ _ _. afterwards-uncrossed (h .book) stands (h .day);
             }))
-            (moved-fit t .ordered),
+            (arranged-ordered traded (length (h .book)) (settle ts (h .book)) settled-whole places few) k,
       )
 
-  -- rule 1 does not hold
-  in-time : (t : ℕ) → (not (isTime t) || ltb t (d .time)) ≡ false → (d .time ≤ t) × (t ≤ 86_399)
-  unfolding isTime
-  in-time t e = go (leb t 86_399) refl e
-    where
-      go : (b : Bool) → leb t 86_399 ≡ b → (not b || ltb t (d .time)) ≡ false → (d .time ≤ t) × (t ≤ 86_399)
-      go true x h = (ltb-false t (d .time) h, leb-true t 86_399 x)
-      go false x h = absurd (not-both refl h)
+  opening : suc s ≡ 33_900 → SoundAt (suc s) (auction h)
+  unfolding auction at tally
+  opening e =
+      auctioned (at (suc s) traded) (same-at (suc s) traded) refl (omega arith) (omega arith)
+      (halt-waits now (at (suc s) traded) halt (record { thirty = refl; sixty = refl; limited = refl; shares = omega arith }) refl (omega arith)
+      (λ n. let r = runs n in absurd (omega (arith, e, r .begun))))
 
-  module _ (t : ℕ) (lent : List Trade) where
-    moves : firstOf (clockRules d t book (length lent)) ≡ 0 → (d .time ≤ t) × (t ≤ 86_399)
-    unfolding clockRules _when_
-    moves z = in-time t (gives-none (clockRules d t book (length lent)) (clock-numbers d t book lent) z .1 .0)
+  -- the end of a halt, at which another one may begin
+  resuming : suc s ≡ h .day .halt → SoundAt (suc s) (resume (suc s) h)
+  unfolding resume auction resumed halting at tally
+  resuming e =
+      let n : h .day .halt ≡ 0 → ⊥ = λ z. omega (arith, e, z) in
+      let r = runs n in
+      let x = resumed traded in
+      resume-cases (λ y. Sound (at (suc s) y) book) (suc s) h
+      (auctioned (at (suc s) x) (same-then traded x (at (suc s) x) (same-halting _ _ _ traded) (same-at (suc s) x)) refl
+      (omega (arith, r .begun)) (omega (arith, e, r .latest))
+      (halt-over now (at (suc s) x) halt (record { thirty = refl; sixty = refl; limited = refl; shares = omega arith }) refl))
+      (λ m f.
+      let y = halting (haltEnd (suc s)) 1 (cond (reach 60 ts x) 1 (x .used60)) x in
+      let c : Continuous (suc s) =
+      ⊎-elim (λ (c : Continuous (h .day .halt)). rw e c) (λ z. absurd (m (e ∙ z))) (r .lands)
+      in
+      auctioned (at (suc s) y)
+      (same-then traded x (at (suc s) y) (same-halting _ _ _ traded) (same-then x y (at (suc s) y) (same-halting _ _ _ x) (same-at (suc s) y)))
+      refl (omega (arith, r .begun)) (omega (arith, e, r .latest))
+      (halt-begins (at (suc s) y) c refl refl (mark-set (reach 60 ts x) (x .used60) (halt .sixty)) (fires-unlimited ts x f)
+      (λ z. halt .unlimited (halt .uses n) .1 (omega (arith, z)))))
 
-    pub clock-kept : Sound (clockCall d t book lent .answer .day) (clockCall d t book lent .book)
-    clock-kept =
-        clock-cases d t book lent (λ o. Sound (o .answer .day) (o .book))
-        (λ z. let h = moves z in moved-sound t (h .0) (h .1))
-        (λ _. s)
+  closing : suc s ≡ 54_000 → SoundAt (suc s) (lapse (auction h))
+  unfolding lapse auction at tally
+  closing e =
+      let x = at (suc s) traded in
+      let many = arranged-many (h .book) (settle ts (h .book)) (sound .0) in
+      let n = cleared-empty book in (
+        places-cleared book many,
+        day-sound x (cleared book)
+            (sound-of x (cleared book)
+            (same-whole traded x (same-at (suc s) traded) (cleared book) (whole-cleared traded (settle ts (h .book)) (cleared book) settled-whole n))
+            (record { time = bound; early = λ _. n; late = λ _. n; uncrossed = λ _ l _. absurd (omega (arith, e, l)) }))
+            (cleared-ranked book (few-places book many) .ordered)
+            (halt-waits now x halt (record { thirty = refl; sixty = refl; limited = refl; shares = omega arith }) refl (omega arith)
+            (λ m. let r = runs m in absurd (omega (arith, e, r .ahead, r .latest)))),
+      )
+
+  quiet : (suc s ≡ 33_900 → ⊥) → (suc s ≡ h .day .halt → ⊥) → (suc s ≡ 54_000 → ⊥) → SoundAt (suc s) h
+  unfolding at
+  quiet a b c =
+      let x = at (suc s) (h .day) in
+      let t = timely-of now (h .book) day in (
+        sound .0,
+        day-sound x (h .book)
+            (sound-of x (h .book)
+            (same-whole now x (same-then now (h .day) x (same-back (h .day) now (same-at s (h .day))) (same-at (suc s) (h .day))) (h .book)
+            (whole-of now (h .book) day))
+            (record {
+              time = bound;
+              early = λ l. t .early (omega arith);
+              late = λ l. t .late (omega (arith, c));
+              uncrossed = λ k l z. t .uncrossed (omega (arith, a)) (omega arith) z;
+            }))
+            (sound-ordered now (h .book) (sound .1))
+            (halt-waits now x halt (record { thirty = refl; sixty = refl; limited = refl; shares = omega arith }) refl (omega arith)
+            (λ n. let r = runs n in omega (arith, b, r .ahead))),
+      )
+
+  pass-sound : SoundAt (suc s) (pass (suc s) h)
+  pass-sound = pass-cases (SoundAt (suc s)) (suc s) h opening resuming closing quiet
+
+-- ---- the call
+
+-- rule 1 does not hold
+pub in-time : (d : Day) (t : ℕ) (book : List Order) (lent : List Trade) → firstOf (clockRules d t book (length lent)) ≡ 0 → (d .time ≤ t) × (t ≤ 86_399)
+unfolding clockRules _when_ isTime
+in-time d t book lent z =
+    go (leb t 86_399) refl (gives-none (clockRules d t book (length lent)) (clock-numbers d t book lent) z .1 .0)
+  where
+    go : (b : Bool) → leb t 86_399 ≡ b → (not b || ltb t (d .time)) ≡ false → (d .time ≤ t) × (t ≤ 86_399)
+    go true x h = (ltb-false t (d .time) h, leb-true t 86_399 x)
+    go false x h = absurd (not-both refl h)
+
+module _ (d : Day) (book : List Order) (s : Sound d book) where
+  pub move-auctions : (t : ℕ) → EachAuction (passed (d .time) t) (start d book)
+  unfolding start
+  move-auctions t = each-auction (passed (d .time) t) (start d book) (sound-stands d book s)
+
+  moved-sound : (t : ℕ) → d .time ≤ t → t ≤ 86_399 → Sound (at t (moved d t book .day)) (moved d t book .book)
+  unfolding moved start at
+  moved-sound t l m =
+      through-seconds SoundAt t (λ x h k sound. pass-sound x h sound (omega arith)) (d .time) (start d book) l s
+
+  pub clock-kept : (t : ℕ) (lent : List Trade) → Sound (clockCall d t book lent .answer .day) (clockCall d t book lent .book)
+  clock-kept t lent =
+      clock-cases d t book lent (λ o. Sound (o .answer .day) (o .book))
+      (λ z. let h = in-time d t book lent z in moved-sound t (h .0) (h .1))
+      (λ _. s)

@@ -11,7 +11,8 @@ use Rattle.model.specs.Refusals.{unsound}
 use Rattle.model.proofs.Bools.{and-both}
 use Rattle.book.proofs.Kept.{free-left}
 use Rattle.soundness.specs.SoundDay.{Place, SoundDay}
-use Rattle.soundness.proofs.SoundDays.{says-anywhere, sound-day}
+use Rattle.soundness.proofs.HaltClauses.{says-halt}
+use Rattle.soundness.proofs.SoundDays.{says-anywhere, sound-day, sound-halt}
 use Rattle.model.specs.Words.{Sound}
 use Rattle.demands.specs.Older.{olderUnsound}
 use Rattle.demands.proofs.SameQueues.{best-alike}
@@ -40,7 +41,8 @@ module _ {n : ℕ} {o c : List Order} (d : Day) (t : Twin n o c) (s : Sound d c)
 
   pub older-sound : olderUnsound d o ≡ false
   unfolding olderUnsound
-  older-sound = ap not (and-both (twin-places t ∙ s .0) (says-anywhere d o .1 older-day))
+  older-sound =
+      ap not (and-both (and-both (twin-places t ∙ s .0) (says-anywhere d o .1 older-day)) (says-halt d .1 (sound-halt d c (s .1))))
 
   pub newer-sound : unsound d c ≡ false
   unfolding unsound

@@ -2,22 +2,21 @@
 -- sound.
 use Prim.Native.Nat.{ℕ}
 use mathlib.Core.Path.{_≡_, refl, _∙_}
-use mathlib.Core.Bool.{Bool, true, false, cond}
-use mathlib.Core.List.{List, [], _∷_}
+use mathlib.Core.List.{List}
 use lib.ListN.{length, length-map}
 use Rattle.model.specs.declared.Order.{Order}
 use Rattle.model.specs.declared.Asked.{Asked}
 use Rattle.model.specs.declared.Trade.{Trade}
 use Rattle.model.specs.declared.Day.{Day}
-use Rattle.model.specs.declared.Boundary.{Boundary}
 use Rattle.model.specs.declared.OrderAnswer.{OrderAnswer}
 use Rattle.model.specs.declared.ClockAnswer.{ClockAnswer}
-use Rattle.model.specs.Clock.{passes, boundaries}
-use Rattle.model.specs.Book.{free, arranged}
+use Rattle.model.specs.Clock.{passed}
+use Rattle.model.specs.Book.{free}
 use Rattle.model.specs.Matching.{settle}
 use Rattle.model.specs.Calls.{Outcome, CancelOutcome, cleared, entered, orderCall, cancelCall}
-use Rattle.model.specs.ClockCall.{auctionTrades, Held, hold, pass, through, start, moved, clockCall}
+use Rattle.model.specs.ClockCall.{auctionTrades, Held, auction, resume, lapse, pass, start, moved, clockCall}
 use Rattle.model.specs.Words.{Ordered, Sound}
+use Rattle.model.proofs.Seconds.{pass-cases, through-keeps}
 use Rattle.soundness.proofs.SoundDays.{sound-ordered}
 use Rattle.book.proofs.Arranging.{arranged-length}
 use Rattle.demands.specs.Keeping.{Keeping}
@@ -42,31 +41,17 @@ cancel-places d account number book =
     (λ z. arranged-length (length book) _)
     (λ n. refl)
 
-hold-places : (b : Boundary) (h : Held) → length (hold b h .book) ≡ length (h .book)
-unfolding hold cleared
-hold-places b h = go (b .lapse)
-  where
-    ts : List Trade
-    ts = auctionTrades (h .day) (h .book)
-
-    go : (l : Bool) → length (cond l (cleared (h .book)) (arranged (length (h .book)) (settle ts (h .book)))) ≡ length (h .book)
-    go true = length-map (h .book) (λ (_ : Order). free)
-    go false = arranged-length (length (h .book)) (settle ts (h .book))
-
-through-places : (old new : ℕ) (bs : List Boundary) (h : Held) → length (through old new bs h .book) ≡ length (h .book)
-unfolding through pass
-through-places old new [] h = refl
-through-places old new (b ∷ bs) h = through-places old new bs (pass old new b h) ∙ go (passes (b .second) old new)
-  where
-    go : (p : Bool) → length (cond p (hold b h) h .book) ≡ length (h .book)
-    go true = hold-places b h
-    go false = refl
+pass-places : (n s : ℕ) (h : Held) → length (h .book) ≡ n → length (pass s h .book) ≡ n
+unfolding auction resume lapse cleared
+pass-places n s h e =
+    let a = arranged-length (length (h .book)) (settle (auctionTrades (h .day) (h .book)) (h .book)) in
+    pass-cases (λ k. length (k .book) ≡ n) s h (λ _. a ∙ e) (λ _. a ∙ e) (λ _. length-map (auction h .book) (λ (_ : Order). free) ∙ a ∙ e) (λ _ _ _. e)
 
 pub clock-places : (d : Day) (t : ℕ) (book : List Order) (lent : List Trade) → length (clockCall d t book lent .book) ≡ length book
 unfolding moved start
 clock-places d t book lent =
     clock-cases d t book lent (λ (x : Outcome ClockAnswer). length (x .book) ≡ length book)
-    (λ z. through-places (d .time) t boundaries (start d book))
+    (λ z. through-keeps (λ k. length (k .book) ≡ length book) (pass-places (length book)) (passed (d .time) t) (start d book) refl)
     (λ n. refl)
 
 pub ordering : Keeping → Ordering

@@ -11,20 +11,20 @@ use Rattle.model.specs.declared.Order.{Order}
 use Rattle.model.specs.declared.Asked.{Asked}
 use Rattle.model.specs.declared.Trade.{Trade}
 use Rattle.model.specs.declared.Day.{Day}
-use Rattle.model.specs.declared.Boundary.{Boundary}
 use Rattle.model.specs.Lists.{keep}
-use Rattle.model.specs.Clock.{passes, boundaries}
+use Rattle.model.specs.Clock.{passed}
 use Rattle.model.specs.Book.{free, arranged}
 use Rattle.model.specs.Matching.{filledOf, lessBy, settle}
 use Rattle.model.specs.Figures.{nextNumber}
 use Rattle.model.specs.Entry.{entryTrades}
 use Rattle.model.specs.Calls.{isOwn, cleared, joined, entered}
-use Rattle.model.specs.ClockCall.{auctionTrades, Held, hold, pass, through, start, moved}
+use Rattle.model.specs.ClockCall.{auctionTrades, Held, auction, resume, lapse, pass, start, moved}
 use Rattle.model.specs.Session.{Desk}
 use Rattle.model.specs.Words.{Each, Some}
 use Rattle.book.proofs.Lists.{each, every, each-keep}
 use Rattle.book.proofs.Kept.{free-number}
 use Rattle.model.proofs.Bools.{not-both}
+use Rattle.model.proofs.Seconds.{pass-cases, through-keeps}
 use Rattle.demands.specs.Running.{
   isOpening,
   Call,
@@ -93,26 +93,17 @@ module _ (ws : List Owner) where
 
   -- ---- a move of the clock
 
-  hold-owned : (b : Boundary) (h : Held) → Owned ws (h .book) → Owned ws (hold b h .book)
-  unfolding hold
-  hold-owned b h w = go (b .lapse)
-    where
-      ts : List Trade
-      ts = auctionTrades (h .day) (h .book)
+  auction-owned : (h : Held) → Owned ws (h .book) → Owned ws (auction h .book)
+  unfolding auction
+  auction-owned h w =
+      let ts = auctionTrades (h .day) (h .book) in
+      arranged-owned (length (h .book)) (settle ts (h .book)) (settle-owned ts (h .book) w)
 
-      go : (l : Bool) → Owned ws (cond l (cleared (h .book)) (arranged (length (h .book)) (settle ts (h .book))))
-      go true = cleared-owned (h .book)
-      go false = arranged-owned (length (h .book)) (settle ts (h .book)) (settle-owned ts (h .book) w)
-
-  through-owned :
-      (old new : ℕ) (bs : List Boundary) (h : Held) → Owned ws (h .book) → Owned ws (through old new bs h .book)
-  unfolding through pass
-  through-owned old new [] h w = w
-  through-owned old new (b ∷ bs) h w = through-owned old new bs (pass old new b h) (go (passes (b .second) old new))
-    where
-      go : (p : Bool) → Owned ws (cond p (hold b h) h .book)
-      go true = hold-owned b h w
-      go false = w
+  pass-owned : (s : ℕ) (h : Held) → Owned ws (h .book) → Owned ws (pass s h .book)
+  unfolding resume lapse
+  pass-owned s h w =
+      pass-cases (λ k. Owned ws (k .book)) s h (λ _. auction-owned h w) (λ _. auction-owned h w) (λ _. cleared-owned (auction h .book))
+      (λ _ _ _. w)
 
 -- ---- an order
 
@@ -151,7 +142,7 @@ unfolding isOpening steppedBy acceptedBy ownersBy entered moved start
 event-owned ws (Event.the-variants.Open close mark) o lent s w = absurd (not-both refl o)
 event-owned ws (Event.the-variants.Clock t) o lent s w =
     clock-cases (s .day) t (s .book) lent (λ o. Owned (ws ++ []) (o .book))
-    (λ _. more ws [] (moved (s .day) t (s .book) .book) (through-owned ws (s .day .time) t boundaries (start (s .day) (s .book)) w))
+    (λ _. more ws [] (moved (s .day) t (s .book) .book) (through-keeps (λ k. Owned ws (k .book)) (pass-owned ws) (passed (s .day .time) t) (start (s .day) (s .book)) w))
     (λ _. more ws [] (s .book) w)
 event-owned ws (Event.the-variants.Order a) o lent s w =
     order-cases (s .day) a (s .book) lent (λ o. Owned (ws ++ ownersBy a (o .answer .reply)) (o .book))

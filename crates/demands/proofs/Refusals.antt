@@ -21,10 +21,10 @@ use Rattle.model.specs.declared.ReportReply as ReportReply
 use Rattle.model.specs.declared.ListReply as ListReply
 use Rattle.model.specs.declared.OrderAnswer.{OrderAnswer}
 use Rattle.model.specs.declared.ClockAnswer.{ClockAnswer}
-use Rattle.model.specs.Figures.{freshDay}
+use Rattle.model.specs.Figures.{freshDay, at}
 use Rattle.model.specs.Refusals.{_when_, firstOf}
 use Rattle.model.specs.Lists.{keep, total}
-use Rattle.model.specs.Clock.{phaseAt}
+use Rattle.model.specs.Halts.{phaseNow}
 use Rattle.model.specs.Auction.{volume, surplus}
 use Rattle.model.specs.Calls.{Outcome, OpenOutcome, CancelOutcome, isOwn, openRules, openCall, orderRules, entered, orderCall, cancelRules, cancelCall}
 use Rattle.model.specs.ClockCall.{auctionPrice, moved, clockRules, clockCall}
@@ -125,14 +125,14 @@ module _ (d : Day) (t : ℕ) (book : List Order) (lent : List Trade) where
   unfolding clockRules _when_
   clock-numbers = (real 15 refl, (real 1 refl, (real 13 refl, tt)))
 
-  pub clock-apart : (n : ℕ) → ClockReply.the-variants.Moved (phaseAt t) (length (moved d t book .trades)) ≡ ClockReply.the-variants.Refused n → ⊥
+  pub clock-apart : (n : ℕ) → ClockReply.the-variants.Moved (phaseNow (at t (moved d t book .day))) (length (moved d t book .trades)) ≡ ClockReply.the-variants.Refused n → ⊥
   clock-apart n e = let z : _≡_ {A = ℕ} 0 1 = cc in omega arith
 
   pub clock-refuses : RefusesBy ClockReply.the-variants.Refused (clockRules d t book (length lent)) (clockCall d t book lent .answer .reply)
   unfolding clockCall
   clock-refuses =
       refuses-by ClockReply.the-variants.Refused (clockRules d t book (length lent)) (clockCall d t book lent .answer .reply)
-      (ClockReply.the-variants.Moved (phaseAt t) (length (moved d t book .trades))) clock-numbers (λ m n (e : ClockReply.the-variants.Refused m ≡ ClockReply.the-variants.Refused n). cc)
+      (ClockReply.the-variants.Moved (phaseNow (at t (moved d t book .day))) (length (moved d t book .trades))) clock-numbers (λ m n (e : ClockReply.the-variants.Refused m ≡ ClockReply.the-variants.Refused n). cc)
       clock-apart (part (λ (o : Outcome ClockAnswer). o .answer .reply) (eqb (firstOf (clockRules d t book (length lent))) 0) _ _)
 
   clock-left :

@@ -20,7 +20,7 @@ use Rattle.demands.specs.Running.{isOpening, Call, tradesOfEvent, traded
 use Rattle.demands.proofs.Totals.{Prices, totals-join, totals-none, order-totals, order-prices, clock-totals, clock-prices}
 use Rattle.demands.proofs.Answers.{event-sound}
 
-event-prices :
+pub event-prices :
     (e : Event.Event) → isOpening e ≡ false → (lent : List Trade) (s : Desk)
     → Sound (s .day) (s .book)
     → Prices (tradesOfEvent e lent s)
@@ -30,7 +30,7 @@ event-prices (Event.the-variants.Clock t) o lent s k = clock-prices (s .day) (s 
 event-prices (Event.the-variants.Order a) o lent s k = order-prices (s .day) a (s .book) lent k
 event-prices (Event.the-variants.Cancel account number) o lent s k = tt
 
-event-totals :
+pub event-totals :
     (e : Event.Event) → isOpening e ≡ false → (lent : List Trade) (s : Desk)
     → Sound (s .day) (s .book)
     → Totals (s .day) (steppedBy e lent s .day) (tradesOfEvent e lent s)

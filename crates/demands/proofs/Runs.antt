@@ -27,7 +27,7 @@ use Rattle.demands.proofs.RunTotals.{run-prices, run-totals, close-is}
 use Rattle.demands.proofs.Owns.{cancel-own}
 use Rattle.demands.proofs.Elements.{some-map}
 
-run-sound : (es : List Call) (s : Desk) → Sound (s .day) (s .book) → Sound (after es s .day) (after es s .book)
+pub run-sound : (es : List Call) (s : Desk) → Sound (s .day) (s .book) → Sound (after es s .day) (after es s .book)
 unfolding after
 run-sound [] s k = k
 run-sound (e ∷ es) s k = run-sound es (stepped e s) (event-sound (e .event) (e .within) (e .lent) s k)
@@ -41,7 +41,7 @@ module _ (s : Desk) (f : Fresh s) where
   pub fresh-sound : Sound (s .day) (s .book)
   fresh-sound = rw (← f .book) (open-fresh (f .close) (f .mark) (f .places) (s .day) (f .opened))
 
-  is-fresh : s .day ≡ freshDay (f .close) (f .mark)
+  pub is-fresh : s .day ≡ freshDay (f .close) (f .mark)
   is-fresh = open-call (f .close) (f .mark) (f .places) (s .day) (f .opened)
 
   none-issued : s .day .issued ≡ 0

@@ -14,8 +14,9 @@ use Rattle.model.specs.Book.{free, isLive, standsOn, better, ahead, insert, inP
 use Rattle.model.specs.Matching.{meets, within, fiveBest, atFiveBest, tradeWith, sweep, filled, levels, lastPrice, firstPrice, isIn, filledOf, lessBy, settle}
 use Rattle.model.specs.Limits.{isPrice, isQuantity, inBand, buyInRange, sellInRange, inRange}
 use Rattle.model.specs.Figures.{nextNumber, issue, tally, money, reference}
+use Rattle.model.specs.Halts.{runs, phaseNow, reach, fires, fired}
 use Rattle.model.specs.Entry.{bestWithin, entryPrice, opposite, entryTrades, restPrice, base}
-use Rattle.model.specs.Sound.{hasPlaces, isMark, mayStand, soundFigures, isFree, isOrder, ownNumbers, isEmpty, crosses, between, sharesFit, pricesFit, turnoverFits, soundAnywhere, sound}
+use Rattle.model.specs.Sound.{hasPlaces, isMark, mayStand, soundFigures, isFree, isOrder, ownNumbers, isEmpty, crosses, between, sharesFit, pricesFit, turnoverFits, isLedTo, isUsed, haltFits, soundAnywhere, sound}
 use Rattle.model.specs.Refusals.{_when_, firstOf, unsound}
 use Rattle.model.specs.Calls.{orderRules, ended, joined, entered, orderCall}
 use Rattle.model.specs.Auction.{distance, sharesOf, demand, supply, volume, surplus}
@@ -57,12 +58,12 @@ a and b = (a, b)
 
 -- ---- the orders, by computing
 orders-right : Each Right (drop 17 situations)
-unfolding situations answerTo keep all any total among once different closed laterRows holding rowAt phaseAt takesOrders continuous isTime free isLive standsOn better ahead insert inPriority queue other headPrice best arranged mayFollow inOrder meets within fiveBest atFiveBest tradeWith sweep filled levels lastPrice firstPrice isIn filledOf lessBy settle isPrice isQuantity inBand buyInRange sellInRange inRange nextNumber issue tally money reference bestWithin entryPrice opposite entryTrades restPrice base hasPlaces isMark mayStand soundFigures isFree isOrder ownNumbers isEmpty crosses between sharesFit pricesFit turnoverFits soundAnywhere sound _when_ firstOf unsound orderRules ended joined entered orderCall restingOf withdrawnOf entryNumbers orderNumbers
+unfolding situations answerTo keep all any total among once different closed laterRows holding rowAt phaseAt takesOrders continuous isTime free isLive standsOn better ahead insert inPriority queue other headPrice best arranged mayFollow inOrder meets within fiveBest atFiveBest tradeWith sweep filled levels lastPrice firstPrice isIn filledOf lessBy settle isPrice isQuantity inBand buyInRange sellInRange inRange nextNumber issue tally money reference runs phaseNow reach fires fired bestWithin entryPrice opposite entryTrades restPrice base hasPlaces isMark mayStand soundFigures isFree isOrder ownNumbers isEmpty crosses between sharesFit pricesFit turnoverFits isLedTo isUsed haltFits soundAnywhere sound _when_ firstOf unsound orderRules ended joined entered orderCall restingOf withdrawnOf entryNumbers orderNumbers
 orders-right =
     refl and refl and refl and refl and refl and refl and refl and refl and refl and refl and refl and refl and refl and tt
 
 pub starred : Each Right situations
-unfolding situations keep all any total from isTime free isLive standsOn better ahead insert inPriority queue headPrice best mayFollow inOrder isPrice inBand reference hasPlaces isMark mayStand soundFigures isFree isOrder ownNumbers isEmpty crosses between sharesFit pricesFit turnoverFits soundAnywhere sound unsound distance sharesOf demand supply volume surplus reportAt reportNumbers turned gap flatter nearestIn turnTest leftFrom toldList
+unfolding situations keep all any total from isTime free isLive standsOn better ahead insert inPriority queue headPrice best mayFollow inOrder isPrice inBand reference runs hasPlaces isMark mayStand soundFigures isFree isOrder ownNumbers isEmpty crosses between sharesFit pricesFit turnoverFits isLedTo isUsed haltFits soundAnywhere sound unsound distance sharesOf demand supply volume surplus reportAt reportNumbers turned gap flatter nearestIn turnTest leftFrom toldList
 starred =
     -- a
     list-told _ _ 1_000_000 1 refl refl refl 1 1

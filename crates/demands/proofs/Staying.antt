@@ -2,7 +2,7 @@
 -- Assumes nothing.
 use Prim.Native.Nat.{ℕ, zero, suc, _+_, _-_, _≤_, _<_}
 use mathlib.Core.Path.{_≡_, refl, ap, _∙_}
-use mathlib.Core.Logic.{inr}
+use mathlib.Core.Logic.{inr, ⊎-elim}
 use mathlib.Core.Bool.{Bool, true, false, cond, _||_}
 use mathlib.Core.List.{List, [], _∷_}
 use native.Mathlib.Nat.{le-of-suc-le-suc, not-suc-le-zero}
@@ -15,13 +15,12 @@ use Rattle.model.specs.declared.Asked.{Asked}
 use Rattle.model.specs.declared.Trade.{Trade}
 use Rattle.model.specs.declared.Day.{Day}
 use Rattle.model.specs.Lists.{total}
-use Rattle.model.specs.Clock.{passes}
 use Rattle.model.specs.Book.{free, queue, arranged}
 use Rattle.model.specs.Matching.{filled, isIn, filledOf, lessBy, settle}
 use Rattle.model.specs.Figures.{nextNumber}
 use Rattle.model.specs.Entry.{entryTrades, restPrice}
 use Rattle.model.specs.Calls.{written, joined, entered, orderCall}
-use Rattle.model.specs.ClockCall.{auctionTrades, hold, start, moved, clockCall}
+use Rattle.model.specs.ClockCall.{auctionTrades, start, moved, clockCall}
 use Rattle.model.specs.Words.{Each, Some, Sound}
 use Rattle.book.specs.Standing.{Fair, Standing}
 use Rattle.book.proofs.Lists.{keep-none, each-at}
@@ -29,7 +28,6 @@ use Rattle.book.proofs.Kept.{standing-settle}
 use Rattle.book.proofs.Settlements.{less-nothing}
 use Rattle.matching.proofs.EntryLaws.{remainder, ordersThen}
 use Rattle.pairing.proofs.Auctions.{settled-fit}
-use Rattle.pairing.proofs.Moves.{both, moved-by}
 use Rattle.demands.specs.Owning.{Stays}
 use Rattle.demands.proofs.Elements.{some-map, some-at}
 use Rattle.demands.proofs.Places.{stands-once}
@@ -38,7 +36,8 @@ use Rattle.demands.proofs.Cases.{order-cases, clock-cases}
 use Rattle.demands.proofs.Pricings.{sound-stands}
 use Rattle.demands.proofs.Settled.{settle-length}
 use Rattle.demands.proofs.Entered.{Allowed, allowed, orders-stand, orders-fit}
-use Rattle.demands.proofs.Moved.{not-reached}
+use Rattle.demands.proofs.Moved.{in-time}
+use Rattle.demands.proofs.OneAuction.{up-to-close}
 
 -- ---- trades that do not name it
 
@@ -123,26 +122,28 @@ module _ (d : Day) (a : Asked) (book : List Order) (s : Sound d book) where
       (λ z. rw (take-at ts (drop (length ts) lent) (length ts) refl) (entered-stays (allowed d a book lent z)))
       (λ _. none-moves [] book (sound-stands d book s))
 
--- ---- a move of the clock: before the close it holds the opening auction, or none
+-- ---- a move of the clock: up to the close one auction at most has trades
 
 module _ (d : Day) (t : ℕ) (book : List Order) (s : Standing book) where
-  moved-stays : (p : Bool) → Stays (both d t book p false .trades) book (both d t book p false .book)
-  unfolding hold start
-  moved-stays true =
-      arranged-stays (auctionTrades d book) book (length book) (settle (auctionTrades d book) book)
+  moved-stays : d .time ≤ t → t < 54_000 → Stays (moved d t book .trades) book (moved d t book .book)
+  unfolding start
+  moved-stays l c =
+      ⊎-elim (λ e. rw e (none-moves [] book s))
+      (λ x.
+      rw (x .orders, x .trades)
+      (arranged-stays (auctionTrades d book) book (length book) (settle (auctionTrades d book) book)
       (standing-settle (auctionTrades d book) book s) (settled-fit book s d)
-      (settle-stays (auctionTrades d book) book s)
-  moved-stays false = none-moves [] book s
+      (settle-stays (auctionTrades d book) book s)))
+      (up-to-close d book s t l c)
 
   pub clock-stays :
       (lent : List Trade)
       → t < 54_000
       → Stays (take (clockCall d t book lent .answer .made) (clockCall d t book lent .trades)) book (clockCall d t book lent .book)
   unfolding written
-  clock-stays lent l =
+  clock-stays lent c =
       clock-cases d t book lent (λ o. Stays (take (o .answer .made) (o .trades)) book (o .book))
-      (λ _.
+      (λ z.
       rw (take-at (moved d t book .trades) (drop (length (moved d t book .trades)) lent) (length (moved d t book .trades)) refl)
-      (rw (moved-by d t book (passes 33_900 (d .time) t) false refl (not-reached 54_000 (d .time) t l))
-      (moved-stays (passes 33_900 (d .time) t))))
+      (moved-stays (in-time d t book lent z .0) c))
       (λ _. none-moves [] book s)

@@ -12,20 +12,25 @@ use Rattle.model.specs.declared.Order.{Order}
 use Rattle.model.specs.declared.Asked.{Asked}
 use Rattle.model.specs.declared.Trade.{Trade}
 use Rattle.model.specs.declared.Day.{Day}
-use Rattle.model.specs.declared.Boundary.{Boundary}
 use Rattle.model.specs.Lists.{total}
-use Rattle.model.specs.Clock.{passes, boundaries}
+use Rattle.model.specs.Clock.{passed}
 use Rattle.model.specs.Matching.{filled, firstPrice, lastPrice}
 use Rattle.model.specs.Figures.{at, issue, money, tally}
 use Rattle.model.specs.Entry.{entryTrades}
 use Rattle.model.specs.Calls.{written, entered, orderCall}
-use Rattle.model.specs.ClockCall.{auctionTrades, Held, hold, pass, through, start, moved, clockCall}
+use Rattle.model.specs.ClockCall.{auctionTrades, Held, auction, resume, lapse, pass, start, moved, clockCall}
 use Rattle.model.specs.Words.{Each, Price, Sound}
+use Rattle.model.proofs.Seconds.{pass-cases, through-keeps}
+use Rattle.book.specs.Standing.{Standing}
 use Rattle.book.proofs.Lists.{each-append}
+use Rattle.book.proofs.Kept.{standing-cleared}
+use Rattle.pairing.proofs.Auctions.{afterwards-stands}
 use Rattle.demands.specs.Totalling.{Totals}
 use Rattle.demands.proofs.Cases.{order-cases, clock-cases}
 use Rattle.demands.proofs.Entered.{allowed, entered-prices}
-use Rattle.demands.proofs.Moved.{Fit, auction-proper, hold-fit, start-fit}
+use Rattle.demands.proofs.Moved.{auction-proper}
+use Rattle.demands.proofs.Pricings.{sound-stands}
+use Rattle.demands.proofs.HaltDays.{SameFigures, same-fired, same-resumed}
 
 abbrev pub Prices : List Trade → Type 0
 Prices ts = Each (λ (t : Trade). Price (t .price)) ts
@@ -87,6 +92,16 @@ totals-none d =
     go true e = eqb-true (d .first) 0 e
     go false e = refl
 
+-- what fires changes none of them
+totals-same : (d e f : Day) (ts : List Trade) → SameFigures e f → Totals d e ts → Totals d f ts
+totals-same d e f ts x k =
+    record {
+      shares = x .shares ∙ k .shares;
+      turnover = x .turnover ∙ k .turnover;
+      first = x .first ∙ k .first;
+      last = x .last ∙ k .last;
+    }
+
 -- ---- an order
 
 pub order-totals :
@@ -97,7 +112,8 @@ order-totals d a book lent =
     order-cases d a book lent (λ o. Totals d (o .answer .day) (take (o .answer .made) (o .trades)))
     (λ _.
     rw (take-at (entryTrades d a book) (drop (length (entryTrades d a book)) lent) (length (entryTrades d a book)) refl)
-    (record { shares = refl; turnover = refl; first = refl; last = refl }))
+    (totals-same d _ _ _ (same-fired (d .time) (entryTrades d a book) (tally (entryTrades d a book) (issue d)))
+    (record { shares = refl; turnover = refl; first = refl; last = refl })))
     (λ _. totals-none d)
 
 pub order-prices :
@@ -116,39 +132,44 @@ order-prices d a book lent s =
 
 -- the figures so far, in the middle of a move
 record SoFar (d : Day) (h : Held) : Type 0 where
-  fit : Fit h
+  stands : Standing (h .book)
   prices : Prices (h .trades)
   totals : Totals d (h .day) (h .trades)
 
 module _ (d : Day) where
-  hold-totals : (b : Boundary) (h : Held) → SoFar d h → SoFar d (hold b h)
-  unfolding hold
-  hold-totals b h k =
+  auction-totals : (h : Held) → SoFar d h → SoFar d (auction h)
+  unfolding auction
+  auction-totals h k =
       let ts = auctionTrades (h .day) (h .book) in
       record {
-        fit = hold-fit h (k .fit) b;
-        prices = each-append (λ (t : Trade). Price (t .price)) (h .trades) ts (k .prices) (auction-proper h (k .fit) .priced);
+        stands = afterwards-stands (h .book) (k .stands) (h .day);
+        prices = each-append (λ (t : Trade). Price (t .price)) (h .trades) ts (k .prices) (auction-proper h (k .stands) .priced);
         totals = totals-join d (h .day) (tally ts (h .day)) (h .trades) ts (k .prices) (k .totals) (totals-tally (h .day) ts);
       }
 
-  through-totals : (old new : ℕ) (bs : List Boundary) (h : Held) → SoFar d h → SoFar d (through old new bs h)
-  unfolding through pass
-  through-totals old new [] h k = k
-  through-totals old new (b ∷ bs) h k = through-totals old new bs (pass old new b h) (go (passes (b .second) old new))
-    where
-      go : (p : Bool) → SoFar d (cond p (hold b h) h)
-      go true = hold-totals b h k
-      go false = k
+  pass-totals : (s : ℕ) (h : Held) → SoFar d h → SoFar d (pass s h)
+  unfolding resume lapse
+  pass-totals s h k =
+      let a = auction-totals h k in
+      pass-cases (SoFar d) s h (λ _. a)
+      (λ _.
+      record {
+        stands = a .stands;
+        prices = a .prices;
+        totals = totals-same d (auction h .day) (resume s h .day) (auction h .trades) (same-resumed s h) (a .totals);
+      })
+      (λ _. record { stands = standing-cleared (auction h .book); prices = a .prices; totals = a .totals })
+      (λ _ _ _. k)
 
   module _ (book : List Order) (s : Sound d book) where
     so-far : (t : ℕ) → SoFar d (moved d t book)
     unfolding moved
-    so-far t = through-totals (d .time) t boundaries (start d book) begun
+    so-far t = through-keeps (SoFar d) pass-totals (passed (d .time) t) (start d book) begun
       where
         begun : SoFar d (start d book)
-        begun = record { fit = start-fit d book s; prices = unfold start in tt; totals = unfold start in totals-none d }
+        begun = unfold start in record { stands = sound-stands d book s; prices = tt; totals = totals-none d }
 
-    moved-totals : (t : ℕ) → Totals d (at t (moved d t book .day)) (moved d t book .trades)
+    pub moved-totals : (t : ℕ) → Totals d (at t (moved d t book .day)) (moved d t book .trades)
     unfolding at
     moved-totals t =
         let k = so-far t .totals in

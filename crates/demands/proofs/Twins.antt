@@ -165,12 +165,12 @@ frees-arranged : (n : ℕ) → arranged n (replicate n free) ≡ replicate n fre
 unfolding arranged queue inPriority
 frees-arranged n = rw (keep-frees 0 n, keep-frees 1 n) (take-frees n n (omega arith))
 
-pub cleared-twin : {n : ℕ} {o c : List Order} (ts : List Trade) → Twin n o c → Twin n (cleared (settle ts o)) (cleared c)
-cleared-twin {n} {o} {c} ts t =
-    let older : cleared (settle ts o) ≡ replicate n free = cleared-frees (settle ts o) ∙ rw (settle-length ts o, t .long) in
+pub cleared-twin : {n : ℕ} {o c : List Order} → Twin n o c → Twin n (cleared o) (cleared c)
+cleared-twin {n} {o} {c} t =
+    let older : cleared o ≡ replicate n free = cleared-frees o ∙ rw (t .long) in
     let newer : cleared c ≡ replicate n free = cleared-frees c ∙ rw (twin-length t) in
     record {
-      stands = standing-cleared (settle ts o);
+      stands = standing-cleared o;
       long = ap length older ∙ length-replicate n free;
       made = newer ∙ sym (ap (arranged n) older ∙ frees-arranged n);
     }

@@ -31,12 +31,12 @@ pub record Whole (d : Day) (book : List Order) : Type 0 where
   pub shares : 2 * d .shares + total (λ (o : Order). o .left) book ≤ 1_000_000 * d .issued
   pub figures : Traded d
 
--- the book at a time: empty outside the hours, not crossed in continuous trading
-pub record Timely (t : ℕ) (book : List Order) : Type 0 where
+-- the book at a time: empty outside the hours, not crossed between the auctions unless a halt runs, which this is the end of
+pub record Timely (t halt : ℕ) (book : List Order) : Type 0 where
   pub time : t ≤ 86_399
   pub early : t < 33_300 → Empty book
   pub late : 54_000 ≤ t → Empty book
-  pub uncrossed : 33_900 ≤ t → t ≤ 53_819 → crosses book ≡ false
+  pub uncrossed : 33_900 ≤ t → t ≤ 53_819 → halt ≡ 0 → crosses book ≡ false
 
 module _ (d : Day) (book : List Order) where
   pub whole-of : SoundDay d book → Whole d book
@@ -51,18 +51,18 @@ module _ (d : Day) (book : List Order) where
         figures = record { untraded = s .untraded; traded = s .traded; least = s .least; most = s .most };
       }
 
-  pub timely-of : SoundDay d book → Timely (d .time) book
+  pub timely-of : SoundDay d book → Timely (d .time) (d .halt) book
   timely-of s =
       record {
         time = s .time;
         early = s .early;
         late = s .late;
-        uncrossed = λ a b.
+        uncrossed = λ a b z.
             not-true-false
-            (λ e. let h = says-crosses book .0 e in not-le-of-lt (s .uncrossed a b (h .0) (h .1)) (h .2));
+            (λ e. let h = says-crosses book .0 e in not-le-of-lt (s .uncrossed a b z (h .0) (h .1)) (h .2));
       }
 
-  pub sound-of : Whole d book → Timely (d .time) book → SoundDay d book
+  pub sound-of : Whole d book → Timely (d .time) (d .halt) book → SoundDay d book
   sound-of w t =
       record {
         close = w .close;
@@ -73,7 +73,7 @@ module _ (d : Day) (book : List Order) where
         apart = w .apart;
         early = t .early;
         late = t .late;
-        uncrossed = λ a b m n. lt-of-not-le (λ l. not-both (says-crosses book .1 (m, n, l)) (t .uncrossed a b));
+        uncrossed = λ a b z m n. lt-of-not-le (λ l. not-both (says-crosses book .1 (m, n, l)) (t .uncrossed a b z));
         shares = w .shares;
         untraded = w .figures .untraded;
         traded = w .figures .traded;

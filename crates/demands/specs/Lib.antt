@@ -8,6 +8,7 @@ pub mod Running
 pub mod Entering
 pub mod Totalling
 pub mod Timing
+pub mod Halting
 pub mod Owning
 pub mod Leaving
 pub mod Ordering

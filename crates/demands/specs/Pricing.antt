@@ -2,17 +2,17 @@
 use Prim.Native.Nat.{ℕ, _≤_, _<_, min}
 use mathlib.Core.Path.{_≡_}
 use mathlib.Core.Logic.{_↔_}
-use mathlib.Core.Bool.{true, false}
+use mathlib.Core.Bool.{Bool, true, false, _||_}
 use mathlib.Core.List.{List, [], _∷_, _++_}
 use lib.ListN.{length, getD, take, drop}
+use lib.Dec.{eqb}
 use Rattle.model.specs.declared.Order.{Order}
 use Rattle.model.specs.declared.Trade.{Trade}
 use Rattle.model.specs.declared.Day.{Day}
 use Rattle.model.specs.declared.ListReply as ListReply
 use Rattle.model.specs.declared.ClockReply as ClockReply
-use Rattle.model.specs.declared.Boundary.{Boundary}
 use Rattle.model.specs.Lists.{any, among}
-use Rattle.model.specs.Clock.{passes, boundaries}
+use Rattle.model.specs.Clock.{passed}
 use Rattle.model.specs.Book.{standsOn, queue, arranged}
 use Rattle.model.specs.Matching.{filled, filledOf, settle}
 use Rattle.model.specs.Figures.{reference}
@@ -69,25 +69,29 @@ pub record TradesThere (d : Day) (book : List Order) (ts : List Trade) : Type 0 
   pub none : qualifying book ≡ [] → ts ≡ []
   pub after : NoneReach (arranged (length book) (settle ts book))
 
+-- the opening auction, that of a halt and the closing auction
+unfoldable pub isAuction : ℕ → Day → Bool
+isAuction s d = eqb s 33_900 || eqb s (d .halt) || eqb s 54_000
+
 -- each auction that a move of the clock holds trades there, with the day and the book as they stand then
-abbrev pub EachAuction : ℕ → ℕ → List Boundary → Held → Type 0
-EachAuction old new [] h = Unit {0}
-EachAuction old new (b ∷ bs) h =
-    (passes (b .second) old new ≡ true → TradesThere (h .day) (h .book) (auctionTrades (h .day) (h .book)))
-    × EachAuction old new bs (pass old new b h)
+abbrev pub EachAuction : List ℕ → Held → Type 0
+EachAuction [] h = Unit {0}
+EachAuction (s ∷ ss) h =
+    (isAuction s (h .day) ≡ true → TradesThere (h .day) (h .book) (auctionTrades (h .day) (h .book)))
+    × EachAuction ss (pass s h)
 
 -- and so do the trades that a move of the clock writes, on the day and the book as they stood before it, where it is accepted and
--- passes a boundary; else it writes none
+-- passes an auction of that day; else it writes none
 pub record ClockTrades (d : Day) (t : ℕ) (book : List Order) (lent : List Trade) : Type 0 where
   pub there :
       (phase made : ℕ)
       → clockCall d t book lent .answer .reply ≡ ClockReply.the-variants.Moved phase made
-      → any (λ b. passes (b .second) (d .time) t) boundaries ≡ true
+      → any (λ s. isAuction s d) (passed (d .time) t) ≡ true
       → TradesThere d book (take made (clockCall d t book lent .trades))
   pub none-else :
       (phase made : ℕ)
       → clockCall d t book lent .answer .reply ≡ ClockReply.the-variants.Moved phase made
-      → any (λ b. passes (b .second) (d .time) t) boundaries ≡ false
+      → any (λ s. isAuction s d) (passed (d .time) t) ≡ false
       → made ≡ 0
 
 -- the demand, for any sound day
@@ -96,5 +100,5 @@ pub record Pricing : Type 0 where
   pub called : (d : Day) (book : List Order) → Sound d book → (asked : ℕ) (lent : List ℕ) → Called d book asked lent
   pub one-left : (d : Day) (book : List Order) → Sound d book → (qualifying book ≡ [] → ⊥) → (ref : ℕ) → OneLeft book ref
   pub trades-there : (d : Day) (book : List Order) → Sound d book → TradesThere d book (auctionTrades d book)
-  pub auctions : (d : Day) (book : List Order) → Sound d book → (t : ℕ) → EachAuction (d .time) t boundaries (start d book)
+  pub auctions : (d : Day) (book : List Order) → Sound d book → (t : ℕ) → EachAuction (passed (d .time) t) (start d book)
   pub clock-trades : (d : Day) (book : List Order) → Sound d book → (t : ℕ) (lent : List Trade) → ClockTrades d t book lent

@@ -77,6 +77,9 @@ on time close orders asked answered =
             turnover = 0;
             first = 0;
             last = 0;
+            halt = 0;
+            used30 = 0;
+            used60 = 0;
           };
       book = orders ++ (free ∷ free ∷ []);
       asked = asked;
