@@ -2,16 +2,17 @@
 -- Assumes nothing.
 use Prim.Native.Nat.{ℕ, zero, suc, _≤_, _<_}
 use mathlib.Core.Path.{_≡_, refl, sym, _∙_, subst}
-use mathlib.Core.Logic.{_⊎_, ⊎-elim}
+use mathlib.Core.Logic.{_⊎_, inl, inr, ⊎-elim}
 use mathlib.Core.List.{List}
 use native.Mathlib.Omega.{arith}
 use Rattle.model.specs.declared.Order.{Order}
 use Rattle.model.specs.declared.Trade.{Trade}
 use Rattle.model.specs.declared.Day.{Day}
+use Rattle.model.specs.Clock.{phaseAt, continuous}
 use Rattle.model.specs.Figures.{at}
 use Rattle.model.specs.Halts.{haltEnd, halting, fired, resumed}
 use Rattle.model.specs.ClockCall.{Held, auction, resume}
-use Rattle.model.proofs.HaltEnds.{Continuous, Ends, ends, LedTo, led-told, told-led}
+use Rattle.model.proofs.HaltEnds.{Continuous, hours-continuous, Ends, ends, LedTo, led-told, told-led}
 use Rattle.halts.proofs.Kept.{fired-cases, resume-cases}
 use Rattle.model.specs.Words.{Sound}
 use Rattle.soundness.specs.SoundDay.{HaltDay}
@@ -130,6 +131,10 @@ none-runs d h = go (d .halt) h
     go zero h = refl
     go (suc n) h = absurd (h (λ z. omega (arith, z)))
 
+now-is : (t : ℕ) → Continuous t → phaseAt t ≡ 4
+unfolding continuous
+now-is t c = hours-continuous t c
+
 pub day-halted : (d : Day) (book : List Order) → Sound d book → Halted d
 day-halted d book s =
     let k = sound-halt d book (s .1) in
@@ -141,6 +146,7 @@ day-halted d book s =
       uses = k .uses;
       ahead = λ n. let r = running d k n in (r .begun, r .ahead, r .latest);
       over = λ l. none-runs d (λ n. let r = running d k n in omega (arith, l, r .ahead, r .latest));
+      lands = λ n. ⊎-elim (λ c. inl (now-is (d .halt) c)) inr (running d k n .lands);
     }
 
 -- ---- the day then: the same thresholds are used
