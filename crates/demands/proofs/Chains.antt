@@ -26,6 +26,7 @@ use Rattle.demands.specs.Chains.{Door, Link, Chained, lastLeft, callsOf,
 use Rattle.demands.proofs.Answers.{event-sound, event-not-15}
 use Rattle.demands.proofs.Pricings.{not-unsound}
 use Rattle.demands.proofs.Runs.{fresh-sound, running}
+use Rattle.demands.proofs.HaltRuns.{once-a-day, limited-none}
 
 -- ---- the two ways in which a step of the definitions is written
 
@@ -93,7 +94,13 @@ ends (Lists asked lent ∷ vs) s = ends vs s
 
 pub told : (s : Desk) → Fresh s → (vs : List AnyCall) → Told vs s
 told s f vs =
-    record { never-unsound = all-not-15 vs s (fresh-sound s f); ends = ends vs s; running = running s f (eventsOf vs) }
+    record {
+      never-unsound = all-not-15 vs s (fresh-sound s f);
+      ends = ends vs s;
+      running = running s f (eventsOf vs);
+      once-a-day = once-a-day (eventsOf vs) s f;
+      limited-none = λ l. rw (ends vs s) (limited-none (eventsOf vs) s f l);
+    }
 
 -- ---- a chain
 

@@ -24,7 +24,7 @@ use Rattle.demands.proofs.Totals.{order-totals, clock-totals}
 use Rattle.demands.proofs.Owns.{cancel-own}
 use Rattle.demands.proofs.Staying.{order-stays, clock-stays}
 use Rattle.demands.proofs.Leavings.{order-leaves, incoming-leaves, clock-leaves, clock-stands}
-use Rattle.demands.proofs.Hours.{phase-noon}
+use Rattle.demands.proofs.Hours.{phase-noon, noon-takes}
 use Rattle.demands.proofs.HaltDays.{day-halted}
 use Rattle.demands.proofs.Starting.{order-starts}
 use Rattle.demands.proofs.Ending.{auction-passed, clock-halts}
@@ -80,7 +80,7 @@ halting =
             clock-trades d book s t lent .there phase made e (auction-passed d book s n t l),
           );
       collects = collects;
-      noon = phase-noon;
+      noon = λ d e. let t = noon-takes (d .time) e in (phase-noon d e, t .0, t .1);
       once = once-a-day;
       limited = limited-none;
     }

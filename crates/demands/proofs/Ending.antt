@@ -21,7 +21,7 @@ use Rattle.model.specs.Figures.{at, openPrice, tally}
 use Rattle.model.specs.Halts.{reach, haltEnd, halting, fires, fired, resumed}
 use Rattle.model.specs.Calls.{written}
 use Rattle.model.specs.ClockCall.{auctionTrades, Held, auction, resume, lapse, pass, through, start, moved, clockCall}
-use Rattle.model.proofs.Bools.{not-both}
+use Rattle.model.proofs.Bools.{not-both, true-or-false}
 use Rattle.model.proofs.Seconds.{pass-quiet, pass-cases, through-quiet, through-stop, through-seconds}
 use Rattle.model.proofs.HaltEnds.{Continuous, Ends, ends, found-any}
 use Rattle.model.specs.Words.{Sound}
@@ -43,11 +43,7 @@ use Rattle.demands.proofs.Totals.{moved-totals}
 use Rattle.demands.proofs.Starting.{says-reach, says-fires, ends-at}
 
 earlier : (a b : ℕ) → (a < b) ⊎ (b ≤ a)
-earlier a b = go (ltb a b) refl
-  where
-    go : (c : Bool) → ltb a b ≡ c → (a < b) ⊎ (b ≤ a)
-    go true h = inl (ltb-true a b h)
-    go false h = inr (ltb-false a b h)
+earlier a b = ⊎-elim (λ e. inl (ltb-true a b e)) (λ e. inr (ltb-false a b e)) (true-or-false (ltb a b))
 
 -- ---- while none runs none begins
 

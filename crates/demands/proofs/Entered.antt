@@ -43,7 +43,8 @@ use Rattle.demands.proofs.Cases.{order-cases}
 use Rattle.demands.proofs.Pricings.{sound-stands}
 use Rattle.demands.proofs.Wholes.{Traded, Whole, timely-of}
 use Rattle.demands.proofs.Hours.{none-early, none-late, then-continuous, phase-unhalted, now-continuous}
-use Rattle.demands.proofs.HaltDays.{same-whole, same-halting, halt-waits, halt-begins}
+use Rattle.demands.proofs.SameFigures.{same-whole, same-halting}
+use Rattle.demands.proofs.HaltDays.{halt-waits, halt-begins}
 use Rattle.demands.proofs.Firing.{fires-unlimited, fires-some, traded-now, mark-set}
 use Rattle.demands.proofs.Tallied.{traded-tally}
 use Rattle.demands.proofs.Settled.{Later, settle-places}

@@ -2,105 +2,18 @@
 -- Assumes nothing.
 use Prim.Native.Nat.{ℕ, zero, suc, _≤_, _<_}
 use mathlib.Core.Path.{_≡_, refl, sym, _∙_, subst}
-use mathlib.Core.Logic.{_⊎_, ⊎-elim}
+use mathlib.Core.Logic.{_⊎_, inl, inr, ⊎-elim}
 use mathlib.Core.List.{List}
 use native.Mathlib.Omega.{arith}
 use Rattle.model.specs.declared.Order.{Order}
-use Rattle.model.specs.declared.Trade.{Trade}
 use Rattle.model.specs.declared.Day.{Day}
-use Rattle.model.specs.Figures.{at}
-use Rattle.model.specs.Halts.{haltEnd, halting, fired, resumed}
-use Rattle.model.specs.ClockCall.{Held, auction, resume}
-use Rattle.model.proofs.HaltEnds.{Continuous, Ends, ends, LedTo, led-told, told-led}
-use Rattle.halts.proofs.Kept.{fired-cases, resume-cases}
+use Rattle.model.specs.Clock.{phaseAt, continuous}
+use Rattle.model.specs.Halts.{haltEnd}
+use Rattle.model.proofs.HaltEnds.{Continuous, hours-continuous, Ends, ends, LedTo, led-told, told-led}
 use Rattle.model.specs.Words.{Sound}
 use Rattle.soundness.specs.SoundDay.{HaltDay}
 use Rattle.soundness.proofs.SoundDays.{sound-day, sound-halt}
 use Rattle.demands.specs.Halting.{Halted}
-use Rattle.demands.proofs.Wholes.{Whole}
-use Rattle.demands.proofs.Settled.{places-later}
-
--- ---- a day of which the time or the halt alone changes: what fires changes no figure
-
-pub record SameFigures (d e : Day) : Type 0 where
-  pub close : e .close ≡ d .close
-  pub limited : e .limited ≡ d .limited
-  pub issued : e .issued ≡ d .issued
-  pub shares : e .shares ≡ d .shares
-  pub turnover : e .turnover ≡ d .turnover
-  pub first : e .first ≡ d .first
-  pub last : e .last ≡ d .last
-
-pub same-at : (t : ℕ) (d : Day) → SameFigures d (at t d)
-unfolding at
-same-at t d =
-    record { close = refl; limited = refl; issued = refl; shares = refl; turnover = refl; first = refl; last = refl }
-
-pub same-halting : (end used30 used60 : ℕ) (d : Day) → SameFigures d (halting end used30 used60 d)
-unfolding halting
-same-halting end used30 used60 d =
-    record { close = refl; limited = refl; issued = refl; shares = refl; turnover = refl; first = refl; last = refl }
-
-same-itself : (d : Day) → SameFigures d d
-same-itself d =
-    record { close = refl; limited = refl; issued = refl; shares = refl; turnover = refl; first = refl; last = refl }
-
-pub same-then : (d e f : Day) → SameFigures d e → SameFigures e f → SameFigures d f
-same-then d e f x y =
-    record {
-      close = y .close ∙ x .close;
-      limited = y .limited ∙ x .limited;
-      issued = y .issued ∙ x .issued;
-      shares = y .shares ∙ x .shares;
-      turnover = y .turnover ∙ x .turnover;
-      first = y .first ∙ x .first;
-      last = y .last ∙ x .last;
-    }
-
-pub same-fired : (s : ℕ) (ts : List Trade) (d : Day) → SameFigures d (fired s ts d)
-same-fired s ts d = fired-cases (SameFigures d) s ts d (λ _. same-itself d) (λ _. same-halting _ _ _ d)
-
-pub same-resumed : (s : ℕ) (h : Held) → SameFigures (auction h .day) (resume s h .day)
-unfolding resumed
-same-resumed s h =
-    let d = auction h .day in
-    let e = halting 0 (d .used30) (d .used60) d in
-    resume-cases (SameFigures d) s h (same-halting _ _ _ d) (λ _ _. same-then d e _ (same-halting _ _ _ d) (same-halting _ _ _ e))
-
--- nor the time
-pub fired-time : (s : ℕ) (ts : List Trade) (d : Day) → fired s ts d .time ≡ d .time
-unfolding halting
-fired-time s ts d = fired-cases (λ e. e .time ≡ d .time) s ts d (λ _. refl) (λ _. refl)
-
-pub same-back : (d e : Day) → SameFigures d e → SameFigures e d
-same-back d e f =
-    record {
-      close = sym (f .close);
-      limited = sym (f .limited);
-      issued = sym (f .issued);
-      shares = sym (f .shares);
-      turnover = sym (f .turnover);
-      first = sym (f .first);
-      last = sym (f .last);
-    }
-
-pub same-whole : (d e : Day) → SameFigures d e → (book : List Order) → Whole d book → Whole e book
-same-whole d e f book w =
-    record {
-      close = rw (f .close) (w .close);
-      limited = omega (arith, f .limited, w .limited);
-      issued = omega (arith, f .issued, w .issued);
-      places = places-later d e (record { close = f .close; limited = f .limited; issued = omega (arith, f .issued) }) book (w .places);
-      apart = w .apart;
-      shares = omega (arith, f .shares, f .issued, w .shares);
-      figures =
-          record {
-            untraded = λ z. rw (f .first, f .last) (w .figures .untraded (sym (f .shares) ∙ z));
-            traded = λ n. rw (f .first, f .last) (w .figures .traded (λ z. n (f .shares ∙ z)));
-            least = omega (arith, f .shares, f .turnover, w .figures .least);
-            most = omega (arith, f .shares, f .turnover, w .figures .most);
-          };
-    }
 
 -- ---- what the end of a halt says of the hours
 
@@ -130,6 +43,10 @@ none-runs d h = go (d .halt) h
     go zero h = refl
     go (suc n) h = absurd (h (λ z. omega (arith, z)))
 
+now-is : (t : ℕ) → Continuous t → phaseAt t ≡ 4
+unfolding continuous
+now-is t c = hours-continuous t c
+
 pub day-halted : (d : Day) (book : List Order) → Sound d book → Halted d
 day-halted d book s =
     let k = sound-halt d book (s .1) in
@@ -141,6 +58,7 @@ day-halted d book s =
       uses = k .uses;
       ahead = λ n. let r = running d k n in (r .begun, r .ahead, r .latest);
       over = λ l. none-runs d (λ n. let r = running d k n in omega (arith, l, r .ahead, r .latest));
+      lands = λ n. ⊎-elim (λ c. inl (now-is (d .halt) c)) inr (running d k n .lands);
     }
 
 -- ---- the day then: the same thresholds are used

@@ -104,6 +104,12 @@ phase-most t =
     held-has (λ r. r .phase ≤ 6) closed laterRows t (omega arith)
     (omega arith, (omega arith, (omega arith, (omega arith, (omega arith, (omega arith, (omega arith, (omega arith, tt))))))))
 
+pub noon-takes : (t : ℕ) → phaseAt t ≡ 5 → (takesOrders t ≡ false) × (takesCancels t ≡ false)
+unfolding phaseAt takesOrders takesCancels rowAt closed laterRows
+noon-takes t =
+    held-has (λ r. r .phase ≡ 5 → (r .orders ≡ false) × (r .cancels ≡ false)) closed laterRows t (λ _. (refl, refl))
+    (λ e. absurd (omega (arith, e)), (λ e. absurd (omega (arith, e)), (λ _. (refl, refl), (λ e. absurd (omega (arith, e)), (λ _. (refl, refl), (λ e. absurd (omega (arith, e)), (λ e. absurd (omega (arith, e)), (λ _. (refl, refl), tt))))))))
+
 -- ---- the phase of a day
 
 module _ (d : Day) where

@@ -31,7 +31,7 @@ use Rattle.demands.specs.Running.{
   after,
   acceptedIn,
 }
-use Rattle.demands.proofs.HaltDays.{same-fired, same-resumed}
+use Rattle.demands.proofs.SameFigures.{same-fired, same-resumed}
 use Rattle.demands.proofs.Cases.{order-cases, clock-cases}
 
 abbrev pub numbers : List Owner → List ℕ

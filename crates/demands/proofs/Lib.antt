@@ -13,6 +13,7 @@ pub mod Cancelled
 pub mod Tallied
 pub mod Hours
 pub mod Settled
+pub mod SameFigures
 pub mod HaltDays
 pub mod Firing
 pub mod EntryPrices
@@ -28,6 +29,12 @@ pub mod Runs
 pub mod Entries
 pub mod Totals
 pub mod Times
+pub mod Starting
+pub mod Ending
+pub mod Marks
+pub mod Reaching
+pub mod HaltRuns
+pub mod Collecting
 pub mod Owns
 pub mod Staying
 pub mod Once
@@ -49,10 +56,4 @@ pub mod TurnTests
 pub mod LineRefusals
 pub mod Stars
 pub mod ClockTrades
-pub mod Starting
-pub mod Ending
-pub mod Marks
-pub mod Reaching
-pub mod HaltRuns
-pub mod Collecting
 pub mod Demands

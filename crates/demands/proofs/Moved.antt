@@ -42,7 +42,8 @@ use Rattle.demands.proofs.Arranged.{arranged-whole, arranged-ordered, a
 use Rattle.demands.proofs.Fresh.{cleared-empty, places-cleared, whole-cleared}
 use Rattle.demands.proofs.Tallied.{Proper, traded-tally}
 use Rattle.demands.proofs.Settled.{Later, settle-places}
-use Rattle.demands.proofs.HaltDays.{SameFigures, same-at, same-halting, same-back, same-then, same-whole, Runs, running, halt-over, halt-waits, halt-begins}
+use Rattle.demands.proofs.SameFigures.{SameFigures, same-at, same-halting, same-back, same-then, same-whole}
+use Rattle.demands.proofs.HaltDays.{Runs, running, halt-over, halt-waits, halt-begins}
 use Rattle.demands.proofs.Firing.{fires-unlimited, mark-set}
 
 -- ---- an auction

@@ -7,7 +7,7 @@ use Rattle.model.specs.Figures.{at, issue, tally}
 use Rattle.model.specs.Halts.{phaseNow}
 use Rattle.model.specs.Calls.{entered}
 use Rattle.demands.specs.Timing.{Timing}
-use Rattle.demands.proofs.HaltDays.{fired-time}
+use Rattle.demands.proofs.SameFigures.{fired-time}
 use Rattle.demands.proofs.Cases.{isMoved, phaseOf, order-cases, clock-cases}
 
 pub timing : Timing

@@ -30,7 +30,7 @@ use Rattle.demands.proofs.Cases.{order-cases, clock-cases}
 use Rattle.demands.proofs.Entered.{allowed, entered-prices}
 use Rattle.demands.proofs.Moved.{auction-proper}
 use Rattle.demands.proofs.Pricings.{sound-stands}
-use Rattle.demands.proofs.HaltDays.{SameFigures, same-fired, same-resumed}
+use Rattle.demands.proofs.SameFigures.{SameFigures, same-fired, same-resumed}
 
 abbrev pub Prices : List Trade → Type 0
 Prices ts = Each (λ (t : Trade). Price (t .price)) ts

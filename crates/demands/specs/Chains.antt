@@ -10,6 +10,7 @@ use Rattle.model.specs.Session.{Desk}
 use Rattle.model.specs.Words.{Each, Sound}
 use Rattle.demands.specs.Running.{Call, Running}
 use Rattle.demands.specs.Running as run
+use Rattle.demands.specs.Halting.{OnceADay, NoHalt}
 use Rattle.demands.specs.Histories.{AnyCall, Happens, Reports, Lists, Seen, Opened, Moved, Entered, Cancelled, Reported, Listed, present, seen, stepped, allSeen, after}
 
 -- ---- a door, and what a chain of its calls is
@@ -107,11 +108,13 @@ eventsOf (Reports ∷ vs) = eventsOf vs
 eventsOf (Lists asked lent ∷ vs) = eventsOf vs
 
 -- a history from an accepted opening: no call of it is refused with 15, report and price list included, and day and book are those of
--- the run of its events, of which `Running` says the rest
+-- the run of its events, of which `Running` says the rest, and `OnceADay` and `NoHalt` what there is to halts
 pub record Told (vs : List AnyCall) (s : Desk) : Type 0 where
   pub never-unsound : Each (λ (x : Seen). refusalOf x ≡ 15 → ⊥) (allSeen present vs s)
   pub ends : after present vs s ≡ run.after (eventsOf vs) s
   pub running : Running (eventsOf vs) s
+  pub once-a-day : OnceADay (eventsOf vs) s
+  pub limited-none : s .day .limited ≡ 1 → NoHalt (after present vs s .day)
 
 -- so a chain that begins with an accepted opening has the answers, trades, day and book of the model's run, and what demand 2 says
 -- of the run holds of the chain

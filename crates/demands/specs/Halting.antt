@@ -3,7 +3,7 @@
 use Prim.Native.Nat.{ℕ, _+_, _-_, _*_, _≤_, _<_}
 use mathlib.Core.Path.{_≡_}
 use mathlib.Core.Logic.{_⊎_, _↔_}
-use mathlib.Core.Bool.{Bool, true, not, _&&_}
+use mathlib.Core.Bool.{Bool, true, false, not, _&&_}
 use mathlib.Core.List.{List, [], _∷_, _++_}
 use lib.ListN.{take}
 use lib.Dec.{leb, ltb, eqb}
@@ -39,6 +39,8 @@ pub record Halted (d : Day) : Type 0 where
   pub uses : (d .halt ≡ 0 → ⊥) → d .used30 ≡ 1
   pub ahead : (d .halt ≡ 0 → ⊥) → (34_200 ≤ d .time) × (d .time < d .halt) × (d .halt ≤ 53_820)
   pub over : 53_820 ≤ d .time → d .halt ≡ 0
+  -- it lies in continuous trading, or is 14:57
+  pub lands : (d .halt ≡ 0 → ⊥) → (phaseAt (d .halt) ≡ 4) ⊎ (d .halt ≡ 53_820)
 
 -- ---- what starts a halt
 
@@ -195,8 +197,9 @@ pub record Halting : Type 0 where
       × ((qualifying book ≡ [] → ⊥) → OneLeft book (reference d))
       × TradesThere d book (take made (clockCall d t book lent .trades))
   pub collects : (d : Day) → phaseNow d ≡ 7 → Collects d
-  -- noon stays noon
-  pub noon : (d : Day) → phaseAt (d .time) ≡ 5 → phaseNow d ≡ 5
+  -- noon stays noon, and takes nothing
+  pub noon :
+      (d : Day) → phaseAt (d .time) ≡ 5 → (phaseNow d ≡ 5) × (takesOrders (d .time) ≡ false) × (takesCancels (d .time) ≡ false)
   -- over any run from an accepted opening
   pub once : (cs : List Call) (s : Desk) → Fresh s → OnceADay cs s
   pub limited : (cs : List Call) (s : Desk) → Fresh s → s .day .limited ≡ 1 → NoHalt (after cs s .day)

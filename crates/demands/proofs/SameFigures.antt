@@ -1,0 +1,95 @@
+-- A day of which the time or the halt alone changes: its figures are the same, and it fits its book as before. What fires changes no figure
+-- either. Assumes nothing.
+use Prim.Native.Nat.{ℕ}
+use mathlib.Core.Path.{_≡_, refl, sym, _∙_}
+use mathlib.Core.List.{List}
+use native.Mathlib.Omega.{arith}
+use Rattle.model.specs.declared.Order.{Order}
+use Rattle.model.specs.declared.Trade.{Trade}
+use Rattle.model.specs.declared.Day.{Day}
+use Rattle.model.specs.Figures.{at}
+use Rattle.model.specs.Halts.{halting, fired, resumed}
+use Rattle.model.specs.ClockCall.{Held, auction, resume}
+use Rattle.halts.proofs.Kept.{fired-cases, resume-cases}
+use Rattle.demands.proofs.Wholes.{Whole}
+use Rattle.demands.proofs.Settled.{places-later}
+
+pub record SameFigures (d e : Day) : Type 0 where
+  pub close : e .close ≡ d .close
+  pub limited : e .limited ≡ d .limited
+  pub issued : e .issued ≡ d .issued
+  pub shares : e .shares ≡ d .shares
+  pub turnover : e .turnover ≡ d .turnover
+  pub first : e .first ≡ d .first
+  pub last : e .last ≡ d .last
+
+pub same-at : (t : ℕ) (d : Day) → SameFigures d (at t d)
+unfolding at
+same-at t d =
+    record { close = refl; limited = refl; issued = refl; shares = refl; turnover = refl; first = refl; last = refl }
+
+pub same-halting : (end used30 used60 : ℕ) (d : Day) → SameFigures d (halting end used30 used60 d)
+unfolding halting
+same-halting end used30 used60 d =
+    record { close = refl; limited = refl; issued = refl; shares = refl; turnover = refl; first = refl; last = refl }
+
+same-itself : (d : Day) → SameFigures d d
+same-itself d =
+    record { close = refl; limited = refl; issued = refl; shares = refl; turnover = refl; first = refl; last = refl }
+
+pub same-then : (d e f : Day) → SameFigures d e → SameFigures e f → SameFigures d f
+same-then d e f x y =
+    record {
+      close = y .close ∙ x .close;
+      limited = y .limited ∙ x .limited;
+      issued = y .issued ∙ x .issued;
+      shares = y .shares ∙ x .shares;
+      turnover = y .turnover ∙ x .turnover;
+      first = y .first ∙ x .first;
+      last = y .last ∙ x .last;
+    }
+
+pub same-fired : (s : ℕ) (ts : List Trade) (d : Day) → SameFigures d (fired s ts d)
+same-fired s ts d = fired-cases (SameFigures d) s ts d (λ _. same-itself d) (λ _. same-halting _ _ _ d)
+
+pub same-resumed : (s : ℕ) (h : Held) → SameFigures (auction h .day) (resume s h .day)
+unfolding resumed
+same-resumed s h =
+    let d = auction h .day in
+    let e = halting 0 (d .used30) (d .used60) d in
+    resume-cases (SameFigures d) s h (same-halting _ _ _ d) (λ _ _. same-then d e _ (same-halting _ _ _ d) (same-halting _ _ _ e))
+
+-- nor the time
+pub fired-time : (s : ℕ) (ts : List Trade) (d : Day) → fired s ts d .time ≡ d .time
+unfolding halting
+fired-time s ts d = fired-cases (λ e. e .time ≡ d .time) s ts d (λ _. refl) (λ _. refl)
+
+pub same-back : (d e : Day) → SameFigures d e → SameFigures e d
+same-back d e f =
+    record {
+      close = sym (f .close);
+      limited = sym (f .limited);
+      issued = sym (f .issued);
+      shares = sym (f .shares);
+      turnover = sym (f .turnover);
+      first = sym (f .first);
+      last = sym (f .last);
+    }
+
+pub same-whole : (d e : Day) → SameFigures d e → (book : List Order) → Whole d book → Whole e book
+same-whole d e f book w =
+    record {
+      close = rw (f .close) (w .close);
+      limited = omega (arith, f .limited, w .limited);
+      issued = omega (arith, f .issued, w .issued);
+      places = places-later d e (record { close = f .close; limited = f .limited; issued = omega (arith, f .issued) }) book (w .places);
+      apart = w .apart;
+      shares = omega (arith, f .shares, f .issued, w .shares);
+      figures =
+          record {
+            untraded = λ z. rw (f .first, f .last) (w .figures .untraded (sym (f .shares) ∙ z));
+            traded = λ n. rw (f .first, f .last) (w .figures .traded (λ z. n (f .shares ∙ z)));
+            least = omega (arith, f .shares, f .turnover, w .figures .least);
+            most = omega (arith, f .shares, f .turnover, w .figures .most);
+          };
+    }
