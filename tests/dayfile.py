@@ -1,5 +1,5 @@
 #!/usr/bin/env python3
-"""Day files (./pack, ./unpack), compared with a reader and a writer of the tests' own (dayfiles.py), written from the
+"""Day files (./pack, ./unpack, ./rescue), compared with a reader and a writer of the tests' own (dayfiles.py), written from the
 request.
 
     tests/dayfile.py          ends with 'N passed, M failed'
@@ -18,7 +18,7 @@ import dayfiles
 from program import ROOT, X86, Counts, run
 
 SEED = 109_110
-PROGRAMS = ["pack_script", "unpack_file"]
+PROGRAMS = ["pack_script", "unpack_file", "rescue_file"]
 CHUNK = 4_096  # what the programs read at once
 RECORD = dayfiles.record(b"T 34200")
 
@@ -34,10 +34,11 @@ class Files(Counts):
         self.same("%s, %s" % (name, what), b"%s(told %s, status 0)" % expected, b"%s(told %s, status %d)" % (output, told, status))
 
     def packs(self, what, script, lengths=None):
-        self.gives(what, "pack_script", script, dayfiles.packed(script), lengths)
+        self.gives(what, "pack_script", script, dayfiles.packed(script), lengths and lengths())
 
     def reads(self, what, day, lengths=None):
-        self.gives(what, "unpack_file", day, dayfiles.unpacked(day), lengths)
+        for name, expected in [("unpack_file", dayfiles.unpacked(day)), ("rescue_file", dayfiles.rescued(day))]:
+            self.gives(what, name, day, expected, lengths and lengths())
 
 
 def random_lengths(seed):
@@ -47,10 +48,11 @@ def random_lengths(seed):
 
 
 def cuts(seed):
+    """How an input is cut: a name, and what makes the lengths of its pieces."""
     yield "whole", None
-    yield "in pieces of 7 bytes", itertools.repeat(7)
-    yield "in pieces of 512 bytes", itertools.repeat(512)
-    yield "in random pieces", random_lengths(seed)
+    yield "in pieces of 7 bytes", lambda: itertools.repeat(7)
+    yield "in pieces of 512 bytes", lambda: itertools.repeat(512)
+    yield "in random pieces", lambda: random_lengths(seed)
 
 
 def stored(counts, seed):
@@ -132,7 +134,7 @@ def damaged_files(counts, source, seed):
             counts.reads("%d records, %s" % (size, how), day, lengths)
         for cut in {1, 100, 511, 512, 513, 1023, 1024, len(day) - 1} if day else {}:
             counts.reads("%d records, %d bytes of them" % (size, cut), day[:cut])
-        counts.reads("%d records and a byte" % size, day + b"\0", random_lengths(seed))
+        counts.reads("%d records and a byte" % size, day + b"\0", lambda: random_lengths(seed))
     blocks, _ = dayfiles.blocks_of(dayfiles.file_of(230 * [RECORD]))
     for _ in range(60):
         some = list(blocks)
@@ -151,14 +153,14 @@ def damaged_files(counts, source, seed):
                 place = source.randrange(512)
                 some[at] = some[at][:place] + source.randbytes(1) + some[at][place + 1 :]
         tail = source.randbytes(source.choice([0, 0, 0, 1, 511]))
-        counts.reads("blocks changed", b"".join(some) + tail, source.choice([None, random_lengths(seed)]))
+        counts.reads("blocks changed", b"".join(some) + tail, source.choice([None, lambda: random_lengths(seed)]))
     for size in [1, 511, 512, 1024, 5000, 20_000]:
-        counts.reads("%d random bytes" % size, source.randbytes(size), random_lengths(seed))
+        counts.reads("%d random bytes" % size, source.randbytes(size), lambda: random_lengths(seed))
 
 
 def faults(counts):
     """An output that cannot be written and an input that cannot be read are said on standard error."""
-    for name, said in zip(PROGRAMS, [b"pack", b"unpack"]):
+    for name, said in zip(PROGRAMS, [b"pack", b"unpack", b"rescue"]):
         source = b"T 1\n" * 30 if name == "pack_script" else dayfiles.file_of(60 * [RECORD])
         with open("/dev/full", "wb") as full:
             told = subprocess.run([X86, path(name)], input=source, stdout=full, stderr=subprocess.PIPE).stderr

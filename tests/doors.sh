@@ -1,6 +1,7 @@
 #!/bin/bash
-# The doors as people use them: ./run, ./convert, ./explain, ./install, and the example of docs/C.md, compiled as C and as C++ against
-# what ./install put, linked with the static and the shared library, and run. Ends with a line 'N passed, M failed'.
+# The doors as people use them: ./run, ./convert, ./pack, ./unpack, ./rescue, ./explain, ./install, and the example of docs/C.md,
+# compiled as C and as C++ against what ./install put, linked with the static and the shared library, and run. Ends with a line
+# 'N passed, M failed'.
 set -u
 cd "$(dirname "$0")/.." || exit 2
 work=$(mktemp -d) || exit 2
@@ -50,6 +51,27 @@ printf 'O 0 0 7 100 1000 0\n' > "$work/new"
 ends "convert SCRIPT" 0 ./convert "$work/old"
 same "convert SCRIPT" "$work/new" "$work/out"
 ends "convert --help" 0 ./convert --help
+
+# ./pack, ./unpack and ./rescue
+ends "pack SCRIPT" 0 ./pack examples/late-cancel.txt
+same "pack SCRIPT" examples/late-cancel.fmx "$work/out"
+ends "unpack and run" 0 bash -c './unpack examples/late-cancel.fmx | ./run'
+same "unpack and run" examples/late-cancel.out "$work/out"
+printf 'bad\nT 1\nO 256 0 1 1 1 1\n' > "$work/script"
+ends "pack, lines left out" 0 ./pack "$work/script"
+says "pack, lines left out" "X 27 3" "$work/err"
+says "pack, lines left out" "K 1" "$work/err"
+ends "rescue FILE" 0 ./rescue examples/late-cancel.fmx
+same "rescue FILE" examples/late-cancel.fmx "$work/out"
+head -c 511 examples/late-cancel.fmx > "$work/cut"
+ends "unpack, damaged" 1 ./unpack "$work/cut"
+says "unpack, damaged" "X 26 1" "$work/err"
+ends "rescue, damaged" 0 ./rescue "$work/cut"
+says "rescue, damaged" "B 1 0 0" "$work/err"
+for door in pack unpack rescue; do
+    ends "$door --help" 0 "./$door" --help
+    ends "$door on a folder" 1 "./$door" examples
+done
 if script --version > /dev/null 2>&1; then # a terminal of its own
     script -qec './run' /dev/null < /dev/null > "$work/out" 2>&1
     says "run on a terminal" "waiting for lines" "$work/out"

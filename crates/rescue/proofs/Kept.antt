@@ -1,13 +1,14 @@
 -- What a rescue keeps: the blocks before the first refused one, byte for byte. Assumes nothing.
-use Prim.Native.Nat.{ℕ, zero, suc, _+_, _-_, _*_, _/_, _≤_}
+use Prim.Native.Nat.{ℕ, zero, suc, _+_, _-_, _*_, _/_, _%_, _≤_}
 use mathlib.Core.Path.{_≡_, refl, sym, ap, _∙_}
 use mathlib.Core.Bool.{Bool, true, false, cond, _||_}
-use mathlib.Core.List.{List, [], _∷_}
+use mathlib.Core.List.{List, [], _∷_, map}
 use native.Mathlib.Omega.{arith}
 use lib.ListN.{length, take, drop, length-drop}
 use lib.Seq.{take-take, drop-drop, length-take-le}
 use lib.Dec.{ltb, eqb}
 use borrow.Author.Tests.{eqb-false, eq-eqb, ne-eqb, ltb-false, le-ltb}
+use Rattle.model.specs.Lists.{from}
 use Rattle.model.specs.Refusals.{_when_, firstOf}
 use Rattle.model.specs.declared.Event.{Event}
 use Rattle.octets.specs.Numbers.{AllBytes}
@@ -32,7 +33,7 @@ module _ (file : List ℕ) (bytes : AllBytes file) where
       blocks-again n (goodFrom n n 1 file) 1 file (good-passing n n 1 file) (omega (arith, good-most n n 1 file))
       (omega (arith, good-most n n 1 file)) bytes
 
-  kept-front : rescued file .file ≡ take (512 * goodBlocks file) file
+  pub kept-front : rescued file .file ≡ take (512 * goodBlocks file) file
   unfolding rescued fileBytes
   kept-front =
       let r : Again (goodBlocks file) 1 file = good-again in
@@ -197,6 +198,44 @@ module _ (file : List ℕ) where
       all-three (rescued file) file (length es) []
       (kept-events ∙ ap fileBytes events ∙ sym (one-file file es bytes e)) (kept-count ∙ ap length events) (k .1)
 
+-- ---- the places of the list
+
+listed-places : (n place : ℕ) (rest : List ℕ) → map (λ l. l .place) (listFrom n place rest) ≡ from place (length (listFrom n place rest))
+unfolding listFrom from
+listed-places zero place rest = go (ltb 0 (length rest))
+  where
+    go :
+        (t : Bool)
+        → map (λ (l : Listed). l .place) (cond t (record { place = place; sound = false; number = 0 } ∷ []) [])
+        ≡ from place (length (cond {A = List Listed} t (record { place = place; sound = false; number = 0 } ∷ []) []))
+    go true = refl
+    go false = refl
+listed-places (suc n) place rest = ap (λ (l : List ℕ). place ∷ l) (listed-places n (suc place) (drop 512 rest))
+
+listed-count : (n place : ℕ) (rest : List ℕ) → length (listFrom n place rest) ≡ n + cond (ltb 0 (length (drop (512 * n) rest))) 1 0
+unfolding listFrom
+listed-count zero place rest = go (ltb 0 (length rest))
+  where
+    go :
+        (t : Bool)
+        → length (cond {A = List Listed} t (record { place = place; sound = false; number = 0 } ∷ []) []) ≡ 0 + cond t 1 0
+    go true = refl
+    go false = refl
+listed-count (suc n) place rest =
+    let d : 512 * suc n ≡ 512 + 512 * n = omega arith in
+    rw (d, ← drop-drop (512 * n) 512 rest) (ap suc (listed-count n (suc place) (drop 512 rest)) ∙ omega arith)
+
+all-named :
+    (file : List ℕ) → length (rescued file .list) ≡ wholeBlocks file - goodBlocks file + cond (ltb 0 (length file % 512)) 1 0
+unfolding rescued wholeBlocks goodBlocks
+all-named file =
+    let n : ℕ = length file / 512 in
+    let g : ℕ = goodFrom n n 1 file in
+    let few : g ≤ n = good-most n n 1 file in
+    let tail : length (drop (512 * (n - g)) (drop (512 * g) file)) ≡ length file % 512 =
+    rw (length-drop, length-drop) (omega arith) in
+    listed-count (n - g) (suc g) (drop (512 * g) file) ∙ rw tail
+
 pub rescuing : Rescuing
 unfolding rescued goodBlocks goodFrom wholeBlocks eventsOf fileBytes blocksFrom listFrom
 rescuing =
@@ -205,5 +244,7 @@ rescuing =
       empty = refl;
       front = kept-front;
       reads = kept-reads;
+      named = λ file. listed-places (wholeBlocks file - goodBlocks file) (suc (goodBlocks file)) (drop (512 * goodBlocks file) file);
+      all-named = all-named;
       all-kept = λ file. (listed-none file, λ e. undamaged-list file _ e .1);
     }

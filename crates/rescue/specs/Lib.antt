@@ -1,3 +1,5 @@
--- The rescue of a damaged day file as definitions, and what is promised of it.
+-- The rescue of a damaged day file: as definitions, as statements, as lines, and chunk by chunk.
 pub mod Rescue
 pub mod Promises
+pub mod Marks
+pub mod Chunkwise

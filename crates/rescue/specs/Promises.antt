@@ -1,9 +1,12 @@
 -- What is promised of a rescue, as statements: each can be read without its proof.
-use Prim.Native.Nat.{ℕ, _*_}
+use Prim.Native.Nat.{ℕ, suc, _+_, _-_, _*_, _%_}
 use mathlib.Core.Path.{_≡_}
 use mathlib.Core.Logic.{_↔_}
-use mathlib.Core.List.{List, []}
+use mathlib.Core.List.{List, [], map}
 use lib.ListN.{length, take}
+use lib.Dec.{ltb}
+use Rattle.model.specs.Choice.{if_then_else_}
+use Rattle.model.specs.Lists.{from}
 use Rattle.model.specs.declared.Event.{Event}
 use Rattle.day_files.specs.Files.{Reading, wholeBlocks, eventsOf, readFile}
 use Rattle.octets.specs.Numbers.{AllBytes}
@@ -25,3 +28,8 @@ pub record Rescuing : Type 0 where
       (file : List ℕ) → AllBytes file → readFile (rescued file .file) ≡ Reading.Read (eventsOf (goodBlocks file) file)
   -- the list is empty exactly when the file is undamaged
   pub all-kept : (file : List ℕ) → (rescued file .list ≡ []) ↔ (readFile file ≡ Reading.Read (eventsOf (wholeBlocks file) file))
+  -- it names every block from the first refused one on, once, in order, and then a tail
+  pub named : (file : List ℕ) → map (λ l. l .place) (rescued file .list) ≡ from (suc (goodBlocks file)) (length (rescued file .list))
+  pub all-named :
+      (file : List ℕ)
+      → length (rescued file .list) ≡ wholeBlocks file - goodBlocks file + (if ltb 0 (length file % 512) then 1 else 0)

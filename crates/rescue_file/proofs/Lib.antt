@@ -1,0 +1,2 @@
+-- The laws of the rescue's turns.
+pub mod Turns

@@ -1,0 +1,2 @@
+-- What the rescue promises between a read and a write.
+pub mod Serving
