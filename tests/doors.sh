@@ -1,7 +1,7 @@
 #!/bin/bash
-# The doors as people use them: ./run, ./convert, ./pack, ./unpack, ./rescue, ./explain, ./install, and the example of docs/C.md,
-# compiled as C and as C++ against what ./install put, linked with the static and the shared library, and run. Ends with a line
-# 'N passed, M failed'.
+# The doors as people use them: ./run, ./convert, ./pack, ./unpack, ./rescue, ./explain, ./install, and the examples of docs/C.md,
+# compiled as C and as C++, and of docs/JUDGE.md, against what ./install put, linked with the static and the shared library, and run. Ends
+# with a line 'N passed, M failed'.
 set -u
 cd "$(dirname "$0")/.." || exit 2
 work=$(mktemp -d) || exit 2
@@ -112,6 +112,9 @@ compiles() { # NAME COMPILER.. : then the program prints what the page says
 compiles "in C" "$(doors/library --compiler)" -std=c11 "${flags[@]}" "$work/example.c" "$static"
 compiles "in C++" "$(doors/library --compiler++)" -std=c++11 "${flags[@]}" "$work/example.cpp" "$static"
 compiles "in C, shared" "$(doors/library --compiler)" -std=c11 "${flags[@]}" "$work/example.c" "${shared[@]}"
+awk '/^```/ { inside = ($0 == "```c"); next } inside' docs/JUDGE.md > "$work/judge.c"
+awk '/^```/ { inside = ($0 == "```text"); next } inside' docs/JUDGE.md > "$work/expected"
+compiles "of the judge" "$(doors/library --compiler)" -std=c11 "${flags[@]}" "$work/judge.c" "$static"
 says "pkg-config" "-lflemorix" "$work/prefix/lib/pkgconfig/flemorix.pc"
 
 echo "$passed passed, $failed failed"

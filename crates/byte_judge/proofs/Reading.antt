@@ -8,8 +8,9 @@ use lib.ListN.{length, drop}
 use lib.Seq.{drop-drop}
 use Rattle.model.specs.declared.Day.{Day}
 use Rattle.book.specs.Rows.{bookOf}
-use Rattle.records.specs.Layout.{parts, bookIn}
-use Rattle.records.proofs.Back.{length-parts}
+use Rattle.octets.specs.Numbers.{parts}
+use Rattle.octets.proofs.Parts.{length-parts}
+use Rattle.records.specs.Layout.{bookIn}
 use Rattle.judge.specs.declared.Claim.{Claim}
 use Rattle.judge.specs.declared.Verdict.{Verdict}
 use Rattle.judge.specs.Judging.{judgeCall}

@@ -2,7 +2,8 @@
 use Prim.Native.Nat.{ℕ, _/_}
 use mathlib.Core.List.{List}
 use lib.ListN.{length}
-use Rattle.records.specs.Layout.{parts, numbers}
+use Rattle.octets.specs.Numbers.{parts}
+use Rattle.records.specs.Layout.{numbers}
 use Rattle.judge.specs.declared.Claim.{Claim}
 use Rattle.judge.specs.Promises.{claimOf}
 
