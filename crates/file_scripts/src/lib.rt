@@ -7,9 +7,6 @@ ghost use Rattle.file_scripts.specs.Scripts.{eventLine};
 use model::Event;
 use printing::put_reply;
 
-// The longest line of an event, with its newline, for numbers of any size.
-pub const LONGEST_EVENT: usize = 128;
-
 // An event's line, put into the output at a place; answers the place after it.
 pub fn put_event(e: Event, out: &mut [u8], at: usize) -> usize
     requires { ⌜ at + 128 ≤ length (now out) ⌝ }

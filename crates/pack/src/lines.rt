@@ -23,9 +23,6 @@ use text::NextCommand;
 use text::reading::is_left;
 use text::reading::next_command;
 
-// The longest line that tells of one that is not stored, with its newline.
-pub const LONGEST_TOLD: usize = 44;
-
 // Tells why a line is not stored.
 fn tell(why: u64, line: u64, said: &mut [u8], at: usize) -> usize
     requires { ⌜ at + 44 ≤ length (now said) ⌝ }

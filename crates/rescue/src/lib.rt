@@ -16,9 +16,6 @@ use file_blocks::reading::right_check;
 use file_records::reading::four_at;
 use printing::put_reply;
 
-// The longest line of the list, with its newline.
-pub const LONGEST_LISTED: usize = 65;
-
 // Whether a block's own check and layout are sound, as 1 or 0.
 fn sound_by_itself(block: &[u8]) -> u64
     requires { ⌜ length (now block) ≡ 512 ⌝ }
