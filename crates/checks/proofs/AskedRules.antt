@@ -1,7 +1,7 @@
 -- An order's rules before the book is looked at: which is the first to hold, from the tests' answers; and the groups in which
 -- the code goes through them are document 01's rules in its order. Assumes nothing.
 use Prim.Native.Nat.{ℕ, _≤_, _<_}
-use mathlib.Core.Path.{_≡_, refl, sym, ap}
+use mathlib.Core.Path.{_≡_, refl}
 use mathlib.Core.Bool.{Bool, true, false, not, _||_}
 use mathlib.Core.List.{List, [], _∷_, _++_}
 use lib.Dec.{eqb}

@@ -2,7 +2,7 @@
 -- once its auction's trades are known, the seconds of a move one after the other, and each clause of soundness. Assumes nothing.
 use Prim.Native.Nat.{ℕ, _*_, _+_}
 use mathlib.Core.Path.{_≡_, refl}
-use mathlib.Core.Bool.{Bool, true, false, not, _&&_}
+use mathlib.Core.Bool.{true, false}
 use mathlib.Core.List.{List, [], _∷_, _++_, map}
 use lib.ListN.{drop, replicate}
 use lib.Dec.{eqb}
@@ -10,7 +10,7 @@ use Rattle.model.specs.declared.Order.{Order}
 use Rattle.model.specs.declared.Asked.{Asked}
 use Rattle.model.specs.declared.Trade.{Trade}
 use Rattle.model.specs.declared.Day.{Day}
-use Rattle.model.specs.declared.Remainder.the-variants.{Nothing, Rests, Withdrawn}
+use Rattle.model.specs.declared.Remainder.the-variants.{Rests}
 use Rattle.model.specs.declared.OrderReply as OrderReply
 use Rattle.model.specs.declared.ClockReply as ClockReply
 use Rattle.model.specs.declared.OrderAnswer.{OrderAnswer}

@@ -1,11 +1,11 @@
 -- A move of the clock: the places for its trades, which of its rules is the first to hold, the state that it has reached in memory, and
 -- what a move that no rule refuses comes to. Assumes nothing.
-use Prim.Native.Nat.{ℕ, zero, suc, _+_, _-_, _≤_, _<_}
+use Prim.Native.Nat.{ℕ, suc, _+_, _-_, _≤_, _<_}
 use mathlib.Core.Path.{_≡_, refl, sym, ap, _∙_}
 use mathlib.Core.Bool.{true, false}
 use mathlib.Core.List.{List, [], _∷_, _++_, map-append}
 use native.Mathlib.Omega.{arith}
-use lib.ListN.{length, take, drop, getD, length-map, take-append-drop}
+use lib.ListN.{length, take, drop, length-map, take-append-drop}
 use lib.Seq.{length-take-le, drop-drop}
 use lib.Dec.{ltb}
 use borrow.Author.Tests.{eq-eqb, ne-eqb, eqb-false, le-leb, lt-leb, le-ltb, ltb-false}

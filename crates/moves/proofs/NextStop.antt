@@ -1,6 +1,6 @@
 -- The next stop of a move: it is the first second on the way at which something is due, and before it nothing happens. Assumes nothing.
 use Prim.Native.Nat.{ℕ, suc, _+_, _-_, _≤_, _<_}
-use mathlib.Core.Path.{_≡_, refl, sym, ap, _∙_}
+use mathlib.Core.Path.{_≡_, refl, _∙_}
 use mathlib.Core.Logic.{_⊎_, inl, inr, ⊎-elim}
 use mathlib.Core.Bool.{Bool, true, false, cond, _&&_, _||_}
 use mathlib.Core.List.{List, [], _∷_}
@@ -9,12 +9,12 @@ use native.Mathlib.Numerals.{add-one}
 use lib.ListN.{length, drop, getD}
 use lib.Seq.{drop-cons}
 use lib.Dec.{leb, ltb, eqb}
-use borrow.Author.Tests.{lt-ltb, le-ltb, ltb-true, ltb-false, leb-true, le-leb, lt-leb, eq-eqb, ne-eqb, eqb-true, eqb-false}
+use borrow.Author.Tests.{lt-ltb, le-ltb, ltb-true, ltb-false, leb-true, le-leb, eq-eqb, ne-eqb, eqb-true, eqb-false}
 use Rattle.model.specs.Lists.{any, among}
 use Rattle.model.specs.Clock.{passed}
-use Rattle.model.specs.ClockCall.{Held, auction, resume, lapse, pass, through}
-use Rattle.model.proofs.Bools.{not-both, and-left, and-right, true-or-false}
-use Rattle.model.proofs.Seconds.{pass-cases, through-quiet, through-by-way, through-stop}
+use Rattle.model.specs.ClockCall.{Held, pass, through}
+use Rattle.model.proofs.Bools.{not-both, and-left, and-right}
+use Rattle.model.proofs.Seconds.{pass-cases, through-quiet, through-stop}
 use Rattle.moves.specs.Stops.{stops, isStop, passes, sooner, firstPassed, nextStop}
 
 module _ (old new : ℕ) where

@@ -1,8 +1,8 @@
 -- What the clauses of a day's halt say, as plain facts. Assumes nothing.
-use Prim.Native.Nat.{ℕ, _≤_, _<_}
-use mathlib.Core.Path.{_≡_, refl}
+use Prim.Native.Nat.{_≤_}
+use mathlib.Core.Path.{_≡_}
 use mathlib.Core.Logic.{_⊎_, inl, inr, ⊎-elim}
-use mathlib.Core.Bool.{Bool, true, false}
+use mathlib.Core.Bool.{true}
 use native.Mathlib.Nat.{lt-of-not-le, not-le-of-lt}
 use Rattle.model.specs.declared.Day.{Day}
 use Rattle.model.specs.Halts.{runs}

@@ -7,7 +7,7 @@ use lib.Dec.{eqb}
 use borrow.Author.Needs.{needs}
 use Rattle.model.specs.Halts.{reach}
 use Rattle.book.specs.Rows.{tradesOf}
-use Rattle.halts.proofs.Fires.{NotThirty, fires-limited, fires-thirty, thirty-used, thirty-short, fires-sixty, fires-none}
+use Rattle.halts.proofs.Fires.{fires-limited, fires-thirty, thirty-used, thirty-short, fires-sixty, fires-none}
 use Rattle.halts.proofs.firing.fires.Statement.{statement}
 use Rattle.halts.proofs.firing.fires.Tie as tie
 

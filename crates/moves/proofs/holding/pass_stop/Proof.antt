@@ -1,7 +1,5 @@
 -- `moves::holding::pass_stop` meets its contract: the opening auction, the end of a halt, or the close. Assumes nothing.
 use borrow.Author.Needs.{needs}
-use Rattle.model.specs.ClockCall.{start}
-use Rattle.book.specs.Rows.{bookOf}
 use Rattle.moves.proofs.AuctionHeld.{reached-opening, reached-end, reached-close}
 use Rattle.moves.proofs.holding.pass_stop.Statement.{statement}
 use Rattle.moves.proofs.holding.pass_stop.Tie as tie

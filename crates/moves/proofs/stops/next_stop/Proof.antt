@@ -1,9 +1,9 @@
 -- `moves::stops::next_stop` meets its contract: at each turn the next stop so far is the first of those from `at` on, and the end of a halt
 -- comes to them last. That the code's table is the definition's is seen by computation. Assumes nothing.
-use Prim.Native.Nat.{ℕ, _+_, _-_, _≤_, _<_}
+use Prim.Native.Nat.{ℕ, _+_, _-_, _≤_}
 use mathlib.Core.Path.{_≡_, refl, ap, _∙_}
 use native.Mathlib.Omega.{arith}
-use lib.ListN.{length, getD, drop}
+use lib.ListN.{getD, drop}
 use borrow.Author.Needs.{needs}
 use Rattle.moves.specs.Stops.{stops, sooner, firstPassed, nextStop}
 use Rattle.moves.proofs.NextStop.{sooner-stop}
