@@ -4,8 +4,7 @@ use mathlib.Core.Path.{_≡_, refl, sym, ap, subst, _∙_}
 use mathlib.Core.Bool.{Bool, true, false}
 use mathlib.Core.List.{List, [], _∷_, _++_, append-nil}
 use mathlib.Core.Option.{none}
-use lib.ListN.{length, take, drop, take-append-drop}
-use lib.Seq.{take-take}
+use lib.ListN.{length, take}
 use Rattle.model.specs.Lines.{linesOf, refusalLine}
 use Rattle.model.specs.Session as Session
 use Rattle.printing.proofs.Replied.{refusal-fits}
@@ -17,10 +16,9 @@ use Rattle.desk.specs.declared.Desk as Desk
 use Rattle.desk.specs.Desks.{deskOf}
 use Rattle.chunks.specs.SoundDesk.{SoundDesk}
 use Rattle.chunks.proofs.SoundDesks.{sound-after}
+use Rattle.streams.proofs.Filling.{read, read-on}
 use Rattle.rehearse.specs.declared.AfterChunk.{AfterChunk}
-use Rattle.rehearse.specs.declared.Input.{Input}
-use Rattle.rehearse.specs.declared.Input.the-variants.{Bytes}
-use Rattle.rehearse.specs.Serving.{Between, outset, afterChunk, afterChunks, Holds, Reached, Turned, Filled, Steps}
+use Rattle.rehearse.specs.Serving.{Between, outset, afterChunk, afterChunks, Holds, Reached, Turned, Steps}
 
 -- ---- the end of the input
 
@@ -41,23 +39,13 @@ end-fits c = go (isLeft c) refl
 
 -- ---- a turn
 
-pub filled-with :
-    {r : Input} {n : ℕ} (kept : ℕ) (before after : List ℕ)
-    → r ≡ Bytes n
-    → Filled kept before after r
-    → (kept ≤ n) × (n ≤ length after) × (take kept after ≡ take kept before)
-filled-with kept before after e f = subst (Filled kept before after) e f
-
 module _ (h : AfterChunk) (rows : List (List ℕ)) (before buf : List ℕ) (n : ℕ)
     (f : (h .kept ≤ n) × (n ≤ length buf) × (take (h .kept) buf ≡ take (h .kept) before)) where
-  -- what was read
-  abbrev read : List ℕ
-  read = drop (h .kept) (take n buf)
+  abbrev fresh : List ℕ
+  fresh = read (h .kept) n buf
 
-  whole : (s : Between) → Holds s rows before h → take n buf ≡ s .kept ++ read
-  whole s k =
-      sym (take-append-drop (h .kept) (take n buf))
-      ∙ ap (λ (l : List ℕ). l ++ read) (take-take (h .kept) n buf (f .0) ∙ f .2 ∙ k .kept)
+  whole : (s : Between) → Holds s rows before h → take n buf ≡ s .kept ++ fresh
+  whole s k = read-on (h .kept) n before buf f ∙ ap (λ (l : List ℕ). l ++ fresh) (k .kept)
 
   pub turned :
       {rows′ : List (List ℕ)} {buf′ : List ℕ} {r : AfterChunk}
@@ -65,7 +53,7 @@ module _ (h : AfterChunk) (rows : List (List ℕ)) (before buf : List ℕ) (n : 
       → Turned rows before h rows′ buf′ r
   unfolding afterChunk
   turned t = record {
-    chunk = read;
+    chunk = fresh;
     holds = λ s k.
         let l : h .long ≡ s .carry .long = ap (λ (c : Carry). c .long) (k .carry) in
         let w = whole s k in
@@ -76,7 +64,7 @@ module _ (h : AfterChunk) (rows : List (List ℕ)) (before buf : List ℕ) (n : 
               t .desk
               ∙ ap (λ (b : Bool). deskAfter (asksOf b (linesOf (take n buf))) (deskOf (h .desk) rows)) l
               ∙ ap (λ (c : List ℕ). deskAfter (asksOf (s .carry .long) (linesOf c)) (deskOf (h .desk) rows)) w
-              ∙ ap (deskAfter (asksOf (s .carry .long) (linesOf (s .kept ++ read)))) (k .desk);
+              ∙ ap (deskAfter (asksOf (s .carry .long) (linesOf (s .kept ++ fresh)))) (k .desk);
         };
   }
 

@@ -1,10 +1,10 @@
 -- The program from chunk to chunk: what goes on by the definitions, and that its memory holds just that.
-use Prim.Native.Nat.{ℕ, _≤_}
+use Prim.Native.Nat.{ℕ}
 use mathlib.Core.Path.{_≡_}
 use mathlib.Core.Bool.{Bool, false}
 use mathlib.Core.List.{List, [], _∷_, _++_}
 use mathlib.Core.Option.{Option, none}
-use lib.ListN.{length, take}
+use lib.ListN.{take}
 use Rattle.model.specs.Lines.{linesOf}
 use Rattle.model.specs.Session.{Desk}
 use Rattle.text.specs.declared.Carry.{Carry}
@@ -12,8 +12,6 @@ use Rattle.text.specs.Chunks.{asksOf}
 use Rattle.text.specs.Answers.{deskAfter, carryAfter, keptAfter}
 use Rattle.desk.specs.Desks.{deskOf}
 use Rattle.rehearse.specs.declared.AfterChunk.{AfterChunk}
-use Rattle.rehearse.specs.declared.Input.{Input}
-use Rattle.rehearse.specs.declared.Input.the-variants.{Failed, Ended, Bytes}
 
 -- ---- by the definitions
 
@@ -59,12 +57,6 @@ pub record Turned (rows : List (List ℕ)) (buf : List ℕ) (h : AfterChunk) (ro
   pub holds : (s : Between) → Holds s rows buf h → Holds (afterChunk s chunk) rows′ buf′ r
 
 -- ---- the parts of a turn
-
--- what a read brought lies in the buffer, after what was kept, which stays
-abbrev pub Filled : ℕ → List ℕ → List ℕ → Input → Type 0
-Filled kept before after Failed = Unit {0}
-Filled kept before after Ended = Unit {0}
-Filled kept before after (Bytes n) = (kept ≤ n) × (n ≤ length after) × (take kept after ≡ take kept before)
 
 -- the desk after the lines that end in the chunk, the carry, and the bytes that it keeps at the buffer's front
 pub record Steps (chunk : List ℕ) (long : Bool) (old : Option Desk) (rows : List (List ℕ)) (buf : List ℕ) (r : AfterChunk) : Type 0 where

@@ -13,13 +13,6 @@ pub struct AfterChunk {
     pub stops: bool,
 }
 
-// What a read brought: how many bytes stand in the buffer then.
-pub enum Input {
-    Failed,
-    Ended,
-    Bytes(usize),
-}
-
 fn main() {
     serving::run();
 }

@@ -1,7 +1,6 @@
 // Chunks read from standard input, and their replies written to standard output. No promise can say what is read or
 // written; what lies between is the definitions' step from chunk to chunk.
 use crate::AfterChunk;
-use crate::Input;
 use crate::memory::output;
 use crate::memory::places;
 use crate::memory::trade_list;
@@ -9,6 +8,8 @@ use chunks::Progress;
 use chunks::answer_lines;
 use desk::Desk;
 use printing::put_refusal;
+use streams::Input;
+use streams::fill;
 use text::Carry;
 use text::reading::carry_over;
 use text::reading::is_left;
@@ -23,7 +24,7 @@ ghost use Rattle.text.specs.Answers.{chunkwise};
 ghost use Rattle.desk.specs.Desks.{deskOf};
 ghost use Rattle.chunks.specs.SoundDesk.{SoundDesk};
 ghost use Rattle.chunks.specs.Points.{pointOf, Onward, Through};
-ghost use Rattle.rehearse.specs.Serving.{Steps, Filled, Reached, Turned};
+ghost use Rattle.rehearse.specs.Serving.{Steps, Reached, Turned};
 
 fn stopped(h: AfterChunk) -> AfterChunk
     ensures { λ r. ⌜ r .stops ≡ true ⌝ }
@@ -103,22 +104,6 @@ fn serve(
         long: c.long,
         stops: false,
     }
-}
-
-// Reads once, after what was kept.
-fn fill(buf: &mut [u8], kept: usize) -> Input
-    requires { ⌜ kept ≤ length (now buf) ⌝ }
-    ensures { λ r. ⌜ Filled kept (now (buf .entry)) (now (buf .exit)) r ⌝ }
-{
-    let got = libc::read(libc::STDIN_FILENO, &mut buf[kept..]);
-    if got < 0 {
-        return Input::Failed;
-    }
-    let n = kept + io::count(got, &buf[kept..]);
-    if n == kept {
-        return Input::Ended;
-    }
-    Input::Bytes(n)
 }
 
 // What is due at the end of the input: an unended line is refused.

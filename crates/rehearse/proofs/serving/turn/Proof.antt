@@ -1,7 +1,8 @@
 -- A read that failed or ended stops the program; else the chunk is served. Assumes nothing.
 use native.Mathlib.Omega.{arith}
 use Rattle.model.proofs.Bools.{not-both}
-use Rattle.rehearse.proofs.Turns.{filled-with, turned, reached-few, reached-sound}
+use Rattle.streams.proofs.Filling.{filled-with}
+use Rattle.rehearse.proofs.Turns.{turned, reached-few, reached-sound}
 use borrow.Author.Needs.{needs}
 use Rattle.rehearse.proofs.serving.turn.Statement.{statement}
 use Rattle.rehearse.proofs.serving.turn.Tie as tie
