@@ -101,7 +101,7 @@ module _ (number : ℕ) (es : List Event) (few : length es ≤ 25) where
   unfolding bodyBytes digits
   behind-eight check = refl
 
-  behind :
+  pub behind :
       drop 8 (blockBytes number es)
       ≡ flat recordBytes es ++ (replicate (20 * (25 - length es)) 0 ++ digits 4 (checkOf (bodyBytes number es)))
   unfolding blockBytes placesBytes

@@ -5,3 +5,4 @@ pub mod Changes
 pub mod Readings
 pub mod Determined
 pub mod Judged
+pub mod Filed

@@ -1,0 +1,4 @@
+-- Laws of the records of a day file as a list.
+pub mod Placed
+pub mod Copying
+pub mod Listed

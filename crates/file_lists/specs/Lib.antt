@@ -1,0 +1,2 @@
+-- The records of a day file as a list, as definitions, and what is promised of it.
+pub mod Lists
