@@ -2,3 +2,6 @@
 pub mod Placed
 pub mod Copying
 pub mod Listed
+pub mod Told
+pub mod Promised
+pub mod Tried

@@ -1,8 +1,8 @@
 -- The list that is written: the records that a file has one after the other are those of its events. Assumes nothing.
 use Prim.Native.Nat.{ℕ, zero, suc, _+_, _*_, _/_, _≤_, _<_, min}
-use mathlib.Core.Path.{_≡_, refl, sym, ap, _∙_}
+use mathlib.Core.Path.{_≡_, refl, ap, _∙_}
 use mathlib.Core.Bool.{Bool, true, false}
-use mathlib.Core.List.{List, [], _∷_, _++_}
+use mathlib.Core.List.{List}
 use native.Mathlib.Omega.{arith}
 use lib.ListN.{length, getD, take, drop}
 use lib.Seq.{drop-cons, take-all}
@@ -18,6 +18,20 @@ use Rattle.file_blocks.specs.declared.Block as Block
 use Rattle.day_files.specs.Files.{Reading, readFile, counted, countFile}
 use Rattle.file_lists.specs.Lists.{recordAt, listed, listedFrom, written}
 use Rattle.file_lists.proofs.Placed.{few-records, placed}
+
+-- how many are written: none of a refused file, all that there are, or as many as there is room for
+module _ {found : Block.Block} (room : ℕ) where
+  pub none-written : {n : ℕ} → found ≡ Block.the-variants.Refused n → 0 ≡ written found room
+  unfolding written
+  none-written e = rw e
+
+  pub all-written : {n : ℕ} → found ≡ Block.the-variants.Records n → n < room → n ≡ written found room
+  unfolding written
+  all-written e h = rw e (omega arith)
+
+  pub cut-written : {n : ℕ} → found ≡ Block.the-variants.Records n → room ≤ n → room ≡ written found room
+  unfolding written
+  cut-written e h = rw e (omega arith)
 
 -- what stands at each place in turn is the row of what belongs there
 flat-from :

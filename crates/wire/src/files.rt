@@ -2,7 +2,6 @@
 use file_lists::found_numbers;
 use file_lists::list_records;
 use records::replies::put_reply;
-ghost use mathlib.Core.Path.{_≡_};
 ghost use Rattle.wire.specs.Files.{ReadFilePromise};
 
 #[no_mangle]
