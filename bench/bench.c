@@ -1,9 +1,10 @@
-/* Runs the rules' situations, random days, days that halt and damaged ones through the exported calls and through the independent
- * engine, and compares them after every call. Prints the seeds; the last line is `N passed, M failed`.
+/* Runs the rules' situations, random days, days that halt, damaged ones and day files through the exported calls and through the
+ * independent engine, and compares them after every call. Prints the seeds; the last line is `N passed, M failed`.
  *
  * bench [--exactly | --walls] [--damage PART NTH] [FIRST [LAST]]: the seeds FIRST to LAST, or FIRST alone. compare.h says what the
  * options do. Without seeds all are run, and two things are tested besides: the independent engine, which tries every price on small
- * books, and the days that halt, which have to show everything often enough. */
+ * books, and what was made, days that halt, claims and day files, which has to show everything often enough. */
+#include "chance.h"
 #include "compare.h"
 #include "runs.h"
 #include <stdio.h>
@@ -27,10 +28,13 @@ static int run(uint64_t first, uint64_t last, uint64_t tries) {
     for (uint64_t seed = first; seed <= last; seed++) {
         run_seed(seed);
         run_halting_seed(seed);
+        begin_chance(seed);
+        read_files(seed, chance);
     }
     print_told();
     print_halts(tries != 0);
     if (tries) print_judged();
+    if (tries) print_files();
     printf("every price tried on %llu small books\n", (unsigned long long)(tries - engine_tries_left));
     expect("books on which trying every price differed", engine_tries_differed, 0);
     expect("auctions in which buys reached sells and not exactly one price was left", engine_undecided, 0);

@@ -43,11 +43,16 @@ static uint64_t proved_judge(struct lent *m, const uint64_t *a) {
                           a[0]);
 }
 
-const struct engines calls[CALLS] = {
+static uint64_t proved_read_file(struct lent *m, const uint64_t *a) {
+    (void)a;
+    return flemorix_read_file(m->book, m->book_length, m->list, m->list_length, m->reply, m->reply_length);
+}
+
+const struct engines calls[ALL_CALLS] = {
     [OPEN] = {"open", proved_open, engine_open},         [ORDER] = {"order", proved_order, engine_order},
     [CANCEL] = {"cancel", proved_cancel, engine_cancel}, [CLOCK] = {"clock", proved_clock, engine_clock},
     [REPORT] = {"report", proved_report, engine_report}, [LIST] = {"list", proved_list, engine_list},
-    [JUDGE] = {"judge", proved_judge, engine_judge},
+    [JUDGE] = {"judge", proved_judge, engine_judge},     [READ_FILE] = {"read_file", proved_read_file, engine_read_file},
 };
 
 /* ---- memory: each slice stands between guards */
@@ -175,13 +180,14 @@ static uint64_t call_between_walls(call *made, const struct lent *m, const uint6
 
 /* ---- a byte of what is expected, flipped */
 
-enum { NO_PART, NUMBER_PART, DAY_PART, BOOK_PART, TRADES_PART, PRICES_PART, REPLY_PART, GUARD_PART, PRINTED_PART, PARTS };
+enum { NO_PART, NUMBER_PART, DAY_PART, BOOK_PART, TRADES_PART, PRICES_PART, FILE_PART, RECORDS_PART, REPLY_PART, GUARD_PART, PRINTED_PART, PARTS };
 
 static int damaged_part;
 static uint64_t damaged_nth, times_seen;
 
 int damage_expected(const char *part, uint64_t nth) {
-    static const char *const parts[PARTS] = {"", "number", "day", "book", "trades", "prices", "reply", "guard", "printed"};
+    static const char *const parts[PARTS] = {"",     "number",  "day",   "book",  "trades", "prices",
+                                             "file", "records", "reply", "guard", "printed"};
     for (int p = NO_PART + 1; p < PARTS; p++)
         if (!strcmp(part, parts[p])) damaged_part = p;
     damaged_nth = nth;
@@ -209,9 +215,11 @@ static uint8_t *damaged_byte(int which, uint64_t *number) {
     switch (damaged_part) {
     case NUMBER_PART: return is_damaged_now() ? (uint8_t *)number + damaged_nth % 8 : NULL;
     case DAY_PART: return byte_of_slice(DAY);
-    case BOOK_PART: return byte_of_slice(BOOK);
+    case BOOK_PART: return which != READ_FILE ? byte_of_slice(BOOK) : NULL;
     case TRADES_PART: return trades ? byte_of_slice(TRADES_OR_PRICES) : NULL;
     case PRICES_PART: return which == LIST ? byte_of_slice(TRADES_OR_PRICES) : NULL;
+    case FILE_PART: return which == READ_FILE ? byte_of_slice(BOOK) : NULL;
+    case RECORDS_PART: return which == READ_FILE ? byte_of_slice(TRADES_OR_PRICES) : NULL;
     case REPLY_PART: return byte_of_slice(REPLY);
     case GUARD_PART: return byte_of_guard();
     default: return NULL;
@@ -221,7 +229,8 @@ static uint8_t *damaged_byte(int which, uint64_t *number) {
 /* ---- the comparison */
 
 uint64_t passed, failed;
-static uint64_t told[CALLS][16];
+enum { NUMBERS = 32 }; /* no refusal number is so large */
+static uint64_t told[ALL_CALLS][NUMBERS];
 
 static bool guard_differs(int slice) {
     size_t behind = GUARD + length_of(&lent, slice);
@@ -237,8 +246,9 @@ static bool slice_differs(int slice) {
 static const char *difference(int which, uint64_t got, uint64_t want) {
     if (got != want) return "the number differs";
     if (slice_differs(DAY)) return "the day differs";
-    if (slice_differs(BOOK)) return "the book differs";
-    if (slice_differs(TRADES_OR_PRICES)) return which == LIST ? "the prices differ" : "the trades differ";
+    if (slice_differs(BOOK)) return which == READ_FILE ? "the file differs" : "the book differs";
+    if (slice_differs(TRADES_OR_PRICES))
+        return which == LIST ? "the prices differ" : which == READ_FILE ? "the records differ" : "the trades differ";
     if (slice_differs(REPLY)) return "the reply differs";
     for (int s = 0; s < SLICES; s++)
         if (guard_differs(s)) return "a guard differs";
@@ -278,9 +288,9 @@ void expect(const char *what, uint64_t got, uint64_t want) {
 }
 
 void print_told(void) {
-    for (int which = 0; which < CALLS; which++) {
+    for (int which = 0; which < ALL_CALLS; which++) {
         printf("%s:", calls[which].name);
-        for (int r = 0; r < 16; r++)
+        for (int r = 0; r < NUMBERS; r++)
             if (told[which][r]) printf(" %llu times %d", (unsigned long long)told[which][r], r);
         printf("\n");
     }

@@ -7,7 +7,8 @@
 
 enum { LONGEST = 200000 }; /* no slice is longer */
 
-enum { OPEN, ORDER, CANCEL, CLOCK, REPORT, LIST, JUDGE, CALLS };
+/* The calls on a day, and the one that reads a day file, for which the file stands where the others have the book. */
+enum { OPEN, ORDER, CANCEL, CLOCK, REPORT, LIST, JUDGE, CALLS, READ_FILE = CALLS, ALL_CALLS };
 
 typedef uint64_t call(struct lent *m, const uint64_t *asked);
 
@@ -16,7 +17,7 @@ struct engines {
     call *proved, *independent;
 };
 
-extern const struct engines calls[CALLS];
+extern const struct engines calls[ALL_CALLS];
 
 /* The memory with which a run goes on from call to call: the independent engine writes it, the proved one gets a copy. */
 extern struct lent lent;
@@ -56,8 +57,8 @@ extern uint64_t passed, failed;
 void print_told(void);
 
 /* For the bench's test of itself: flips one byte of what is expected where this part of a result comes up the nth time. The
- * parts: number, day, book, trades, prices, reply, guard, printed (a number that the rules print). Returns 0 for any other
- * word. */
+ * parts: number, day, book, trades, prices, file, records, reply, guard, printed (a number that the rules print). Returns 0 for
+ * any other word. */
 int damage_expected(const char *part, uint64_t nth);
 
 #endif

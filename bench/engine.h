@@ -11,7 +11,7 @@ enum { DAY_BYTES = 88, TRADE_BYTES = 48 }; /* eleven numbers, and six */
 
 /* Lent memory: what a call reads and writes. A call that has no use for a slice does not look at it. */
 struct lent {
-    uint8_t *day, *book, *list, *reply; /* list: the trades, or the prices */
+    uint8_t *day, *book, *list, *reply; /* list: the trades, the prices, the claims or a file's records */
     size_t day_length, book_length, list_length, reply_length;
 };
 
@@ -26,6 +26,8 @@ uint64_t engine_report(struct lent *m, const uint64_t *asked);
 uint64_t engine_list(struct lent *m, const uint64_t *asked); /* price */
 
 uint64_t engine_judge(struct lent *m, const uint64_t *asked); /* price; the list has the claims (judge.c) */
+
+uint64_t engine_read_file(struct lent *m, const uint64_t *asked); /* nothing; the file stands for the book (files.c) */
 
 /* On how many more small books the engine also tries all 999,999 prices, how often it then found that it had left one out, and
  * how often buys reached sells and the tie rules did not leave exactly one price. */

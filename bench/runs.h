@@ -22,4 +22,10 @@ void judge_lists(uint64_t seed, uint64_t (*draw)(uint64_t n));
 /* How many lists of each kind were judged; a kind that never came up is a failure. */
 void print_judged(void);
 
+/* Asks both readers with day files, right ones and ones with each fault, and with lists of every length. */
+void read_files(uint64_t seed, uint64_t (*draw)(uint64_t n));
+
+/* How many files of each kind were read; a kind that came up too rarely is a failure. */
+void print_files(void);
+
 #endif

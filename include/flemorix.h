@@ -4,7 +4,7 @@
  * Every slice is a pointer and a length in bytes. Any length is taken, also 0. The slices of one call must not overlap.
  * Every call returns its refusal number, 0 where it is accepted, and writes its reply to the lent reply buffer as numbers of
  * 8 bytes, as many whole ones as the buffer holds: the refusal number first, then the values named below, zeros after a
- * refusal. A refused call leaves day, book, trades and prices as they were. A call takes up to half a megabyte of stack, and
+ * refusal. A refused call leaves day, book, trades, prices and records as they were. A call takes up to half a megabyte of stack, and
  * nothing from the heap. There are no globals: calls on different memory may run at once in different threads. */
 #ifndef FLEMORIX_H
 #define FLEMORIX_H
@@ -97,6 +97,9 @@ enum flemorix_refusal {
     FLEMORIX_ROOM = 13,      /* the event's trades outnumber the lent trade list */
     FLEMORIX_OPENING = 14,   /* opening: close not 1 to 999,999, mark not 0 or 1, places not 1 to 4,096, or day not 88 bytes */
     FLEMORIX_UNSOUND = 15,   /* day not sound or not 88 bytes, book out of order, or places not 1 to 4,096 */
+    FLEMORIX_CHECK = 24,     /* day file: a block's check is wrong */
+    FLEMORIX_BLOCK = 25,     /* day file: a block's number is not its place */
+    FLEMORIX_LAYOUT = 26,    /* day file: any other break of the layout, a tail short of 512 bytes too */
 };
 
 /* The replies, one for each call: a buffer may be one of these. The values are 0 where the call is refused. */
@@ -149,6 +152,23 @@ struct flemorix_judge_reply {
     uint64_t yes; /* 1 or 0 */
 };
 
+/* A record of a day file: an event in 20 bytes. Side and kind are those of an order, 0 in the others; so are the numbers that an event
+ * does not have. */
+struct flemorix_record {
+    uint8_t event;
+    uint8_t side;
+    uint8_t kind;
+    uint8_t zero;
+    uint32_t numbers[4]; /* open: close, mark; clock: time; order: account, quantity, price, balance; cancel: account, number */
+};
+
+enum flemorix_event { FLEMORIX_EVENT_OPEN = 1, FLEMORIX_EVENT_CLOCK = 2, FLEMORIX_EVENT_ORDER = 3, FLEMORIX_EVENT_CANCEL = 4 };
+
+struct flemorix_read_file_reply {
+    uint64_t refusal;
+    uint64_t records; /* how many the file has, also where the list is too short for them */
+};
+
 /* Opens a day: every place of the book becomes free, and the day's bytes are the new day. Reply: the refusal alone. 14. */
 uint64_t flemorix_open(uint8_t *day, size_t day_length, uint8_t *book, size_t book_length, uint8_t *reply,
                        size_t reply_length, uint64_t close, uint64_t mark);
@@ -185,6 +205,11 @@ uint64_t flemorix_list(const uint8_t *day, size_t day_length, const uint8_t *boo
  * whole claim are not read. Reply: 1 for yes, 0 for no. 15. */
 uint64_t flemorix_judge(const uint8_t *day, size_t day_length, const uint8_t *book, size_t book_length, const uint8_t *claims,
                         size_t claims_length, uint8_t *reply, size_t reply_length, uint64_t price);
+
+/* Reads a day file (docs/DAYFILE.md) and writes its records, 20 bytes each, in their order to the front of the lent list, as many whole ones
+ * as fit; the rest of the list stays. A refused file writes none. Reply: how many records the file has. 24, 25, 26. */
+uint64_t flemorix_read_file(const uint8_t *file, size_t file_length, uint8_t *records, size_t records_length, uint8_t *reply,
+                            size_t reply_length);
 
 #ifdef __cplusplus
 }
