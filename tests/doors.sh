@@ -1,7 +1,7 @@
 #!/bin/bash
 # The doors as people use them: ./run, ./convert, ./pack, ./unpack, ./rescue, ./explain, ./install, and the examples of docs/C.md,
-# compiled as C and as C++, and of docs/JUDGE.md, against what ./install put, linked with the static and the shared library, and run. Ends
-# with a line 'N passed, M failed'.
+# compiled as C and as C++, of docs/JUDGE.md and of docs/DAYFILE.md, against what ./install put, linked with the static and the
+# shared library, and run. Ends with a line 'N passed, M failed'.
 set -u
 cd "$(dirname "$0")/.." || exit 2
 work=$(mktemp -d) || exit 2
@@ -115,6 +115,11 @@ compiles "in C, shared" "$(doors/library --compiler)" -std=c11 "${flags[@]}" "$w
 awk '/^```/ { inside = ($0 == "```c"); next } inside' docs/JUDGE.md > "$work/judge.c"
 awk '/^```/ { inside = ($0 == "```text"); next } inside' docs/JUDGE.md > "$work/expected"
 compiles "of the judge" "$(doors/library --compiler)" -std=c11 "${flags[@]}" "$work/judge.c" "$static"
+awk '/^```/ { inside = ($0 == "```c"); next } inside' docs/DAYFILE.md > "$work/file.c"
+awk '/^```/ { inside = ($0 == "```text"); next } inside' docs/DAYFILE.md > "$work/expected"
+cp "$work/file.c" "$work/file.cpp"
+compiles "of the day file" "$(doors/library --compiler)" -std=c11 "${flags[@]}" "$work/file.c" "$static"
+compiles "of the day file in C++" "$(doors/library --compiler++)" -std=c++11 "${flags[@]}" "$work/file.cpp" "$static"
 says "pkg-config" "-lflemorix" "$work/prefix/lib/pkgconfig/flemorix.pc"
 
 echo "$passed passed, $failed failed"
