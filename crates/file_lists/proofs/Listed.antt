@@ -16,21 +16,21 @@ use Rattle.records.specs.Layout.{over}
 use Rattle.file_records.specs.Records.{recordBytes}
 use Rattle.file_blocks.specs.declared.Block as Block
 use Rattle.day_files.specs.Files.{Reading, readFile, counted, countFile}
-use Rattle.file_lists.specs.Lists.{recordAt, listed, listedFrom, written}
+use Rattle.file_lists.specs.Lists.{recordAt, listed, listedFrom, fittingRecords}
 use Rattle.file_lists.proofs.Placed.{few-records, placed}
 
 -- how many are written: none of a refused file, all that there are, or as many as there is room for
 module _ {found : Block.Block} (room : ℕ) where
-  pub none-written : {n : ℕ} → found ≡ Block.the-variants.Refused n → 0 ≡ written found room
-  unfolding written
+  pub none-written : {n : ℕ} → found ≡ Block.the-variants.Refused n → 0 ≡ fittingRecords found room
+  unfolding fittingRecords
   none-written e = rw e
 
-  pub all-written : {n : ℕ} → found ≡ Block.the-variants.Records n → n < room → n ≡ written found room
-  unfolding written
+  pub all-written : {n : ℕ} → found ≡ Block.the-variants.Records n → n < room → n ≡ fittingRecords found room
+  unfolding fittingRecords
   all-written e h = rw e (omega arith)
 
-  pub cut-written : {n : ℕ} → found ≡ Block.the-variants.Records n → room ≤ n → room ≡ written found room
-  unfolding written
+  pub cut-written : {n : ℕ} → found ≡ Block.the-variants.Records n → room ≤ n → room ≡ fittingRecords found room
+  unfolding fittingRecords
   cut-written e h = rw e (omega arith)
 
 -- what stands at each place in turn is the row of what belongs there
@@ -62,14 +62,14 @@ take-min xs n = go (leb (length xs) n) refl
 
 module _ (file list : List ℕ) (bytes : AllBytes file) where
   -- the records that are written are there in the file, and have room in the list
-  pub written-inside : {found : Block.Block} {n : ℕ} → found ≡ countFile file → n ≡ written found (length list / 20) → (n ≤ 25 * (length file / 512)) × (20 * n ≤ length list)
-  unfolding countFile counted written
-  written-inside {found} {n} e w = go (readFile file) refl (w ∙ ap (λ (b : Block.Block). written b (length list / 20)) e)
+  pub written-inside : {found : Block.Block} {n : ℕ} → found ≡ countFile file → n ≡ fittingRecords found (length list / 20) → (n ≤ 25 * (length file / 512)) × (20 * n ≤ length list)
+  unfolding countFile counted fittingRecords
+  written-inside {found} {n} e w = go (readFile file) refl (w ∙ ap (λ (b : Block.Block). fittingRecords b (length list / 20)) e)
     where
       go :
           (r : Reading)
           → readFile file ≡ r
-          → n ≡ written (counted r) (length list / 20)
+          → n ≡ fittingRecords (counted r) (length list / 20)
           → (n ≤ 25 * (length file / 512)) × (20 * n ≤ length list)
       go (Reading.Refused m) f w = (omega arith, omega arith)
       go (Reading.Read es) f w = let most : length es ≤ 25 * (length file / 512) = few-records file es bytes f in (omega arith, omega arith)
@@ -78,16 +78,16 @@ module _ (file list : List ℕ) (bytes : AllBytes file) where
   pub list-written :
       {found : Block.Block} {n : ℕ} {list' : List ℕ}
       → found ≡ countFile file
-      → n ≡ written found (length list / 20)
+      → n ≡ fittingRecords found (length list / 20)
       → list' ≡ over (flat (recordAt file) (from 0 n)) list
       → list' ≡ listedFrom (readFile file) list
-  unfolding countFile counted written listedFrom listed over flat from
-  list-written {found} {n} {list'} e w put = go (readFile file) refl (w ∙ ap (λ (b : Block.Block). written b (length list / 20)) e)
+  unfolding countFile counted fittingRecords listedFrom listed over flat from
+  list-written {found} {n} {list'} e w put = go (readFile file) refl (w ∙ ap (λ (b : Block.Block). fittingRecords b (length list / 20)) e)
     where
       go :
           (r : Reading)
           → readFile file ≡ r
-          → n ≡ written (counted r) (length list / 20)
+          → n ≡ fittingRecords (counted r) (length list / 20)
           → list' ≡ listedFrom r list
       go (Reading.Refused m) f w = put ∙ rw w
       go (Reading.Read es) f w =

@@ -37,6 +37,6 @@ unfoldable pub recordAt : List ℕ → ℕ → List ℕ
 recordAt file i = take 20 (drop (placeOf i) file)
 
 -- how many records are written where there is room for so many
-unfoldable pub written : Block.Block → ℕ → ℕ
-written (Block.the-variants.Refused n) room = 0
-written (Block.the-variants.Records n) room = min n room
+unfoldable pub fittingRecords : Block.Block → ℕ → ℕ
+fittingRecords (Block.the-variants.Refused n) room = 0
+fittingRecords (Block.the-variants.Records n) room = min n room

@@ -9,7 +9,7 @@ ghost use Rattle.model.specs.Lists.{from};
 ghost use Rattle.octets.specs.Numbers.{flat};
 ghost use Rattle.records.specs.Layout.{over};
 ghost use Rattle.day_files.specs.Files.{readFile, countFile};
-ghost use Rattle.file_lists.specs.Lists.{recordAt, listedFrom, written, foundNumbers};
+ghost use Rattle.file_lists.specs.Lists.{recordAt, listedFrom, fittingRecords, foundNumbers};
 
 const RECORD_BYTES: usize = 20;
 
@@ -28,8 +28,8 @@ fn copy_records(file: &[u8], list: &mut [u8], count: usize)
 }
 
 // How many records are written where there is room for so many: none of a refused file.
-fn fitting(found: Block, room: usize) -> usize
-    ensures { λ r. ⌜ r ≡ written found room ⌝ }
+fn fitting_records(found: Block, room: usize) -> usize
+    ensures { λ r. ⌜ r ≡ fittingRecords found room ⌝ }
 {
     let Block::Records(count) = found else {
         return 0;
@@ -42,7 +42,7 @@ pub fn list_records(file: &[u8], list: &mut [u8]) -> Block
     ensures { λ r. ⌜ (r ≡ countFile (now (file .entry))) × (now (list .exit) ≡ listedFrom (readFile (now (file .entry))) (now (list .entry))) ⌝ }
 {
     let found = count_records(file);
-    let count = fitting(found, list.len() / RECORD_BYTES);
+    let count = fitting_records(found, list.len() / RECORD_BYTES);
     copy_records(file, list, count);
     found
 }
