@@ -7,4 +7,5 @@ pub mod Examples
 pub mod TriedLines
 pub mod TriedSound
 pub mod TriedCalls
+pub mod TriedScreen
 pub mod TriedHalts
