@@ -16,9 +16,8 @@ use Rattle.model.specs.declared.Day.{Day}
 use Rattle.model.specs.Choice.{if_then_else_}
 use Rattle.model.specs.Lists.{keep, any, among, from}
 use Rattle.model.specs.Figures.{reference}
-use Rattle.model.specs.Auction.{prices, qualifies, qualifying, leastDifference, leftBy}
+use Rattle.model.specs.Auction.{prices, qualifies, qualifying, leastDifference, leftBy, auctionPrice}
 use Rattle.model.specs.Sound.{crosses}
-use Rattle.model.specs.ClockCall.{auctionPrice}
 use Rattle.model.specs.AuctionCalls.{due}
 use Rattle.book.specs.Standing.{Standing}
 use Rattle.auction.specs.Spans.{turnOf, flatter, nearestIn}

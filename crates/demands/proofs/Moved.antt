@@ -18,7 +18,8 @@ use Rattle.model.specs.Figures.{at, tally}
 use Rattle.model.specs.Halts.{reach, haltEnd, halting, resumed}
 use Rattle.model.specs.Refusals.{_when_, firstOf}
 use Rattle.model.specs.Calls.{cleared}
-use Rattle.model.specs.ClockCall.{auctionPrice, auctionTrades, Held, auction, resume, lapse, pass, start, moved, clockRules, clockCall}
+use Rattle.model.specs.Auction.{auctionPrice}
+use Rattle.model.specs.ClockCall.{auctionTrades, Held, auction, resume, lapse, pass, start, moved, clockRules, clockCall}
 use Rattle.model.proofs.Bools.{not-both}
 use Rattle.model.proofs.Seconds.{pass-cases, through-seconds}
 use Rattle.model.proofs.HaltEnds.{Continuous}

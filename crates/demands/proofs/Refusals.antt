@@ -25,9 +25,9 @@ use Rattle.model.specs.Figures.{freshDay, at}
 use Rattle.model.specs.Refusals.{_when_, firstOf}
 use Rattle.model.specs.Lists.{keep, total}
 use Rattle.model.specs.Halts.{phaseNow}
-use Rattle.model.specs.Auction.{volume, surplus}
+use Rattle.model.specs.Auction.{volume, surplus, auctionPrice}
 use Rattle.model.specs.Calls.{Outcome, OpenOutcome, CancelOutcome, isOwn, openRules, openCall, orderRules, entered, orderCall, cancelRules, cancelCall}
-use Rattle.model.specs.ClockCall.{auctionPrice, moved, clockRules, clockCall}
+use Rattle.model.specs.ClockCall.{moved, clockRules, clockCall}
 use Rattle.model.specs.AuctionCalls.{ListOutcome, due, reportRules, reportAt, reportCall, listRules, listCall}
 use Rattle.demands.specs.Refusing.{Numbers, RefusesBy, EachRefusal, Untouched}
 use Rattle.demands.proofs.FirstRules.{refuses-by}

@@ -11,27 +11,9 @@ use Rattle.model.specs.declared.Day.{Day}
 use Rattle.model.specs.Lists.{keep, total}
 use Rattle.model.specs.Book.{standsOn, queue, other, headPrice, best}
 use Rattle.model.specs.Entry.{bestWithin, entryPrice, opposite, entryTrades, restPrice, base}
-use Rattle.model.specs.Auction.{
-  prices,
-  sharesOf,
-  demand,
-  supply,
-  volume,
-  buysAbove,
-  sellsBelow,
-  buysAt,
-  sellsAt,
-  mostTrades,
-  betterFill,
-  oneSideFills,
-  qualifies,
-  qualifying,
-  leastDifference,
-  leftBy,
-  surplus,
-}
+use Rattle.model.specs.Auction.{prices, sharesOf, demand, supply, volume, buysAbove, sellsBelow, buysAt, sellsAt, mostTrades, betterFill, oneSideFills, qualifies, qualifying, leastDifference, leftBy, surplus, auctionPrice}
 use Rattle.model.specs.Pairing.{tradesAt}
-use Rattle.model.specs.ClockCall.{auctionPrice, auctionTrades}
+use Rattle.model.specs.ClockCall.{auctionTrades}
 use Rattle.model.specs.AuctionCalls.{reportAt, due}
 use Rattle.book.proofs.Lists.{keep-keep, total-kept}
 use Rattle.book.proofs.Queues.{total-queue}

@@ -19,8 +19,7 @@ use Rattle.model.specs.Entry.{bestWithin, entryPrice, opposite, entryTrades, re
 use Rattle.model.specs.Sound.{hasPlaces, isMark, mayStand, soundFigures, isFree, isOrder, ownNumbers, isEmpty, crosses, between, sharesFit, pricesFit, turnoverFits, isLedTo, isUsed, haltFits, soundAnywhere, sound}
 use Rattle.model.specs.Refusals.{_when_, firstOf, unsound}
 use Rattle.model.specs.Calls.{orderRules, ended, joined, entered, orderCall}
-use Rattle.model.specs.Auction.{distance, sharesOf, demand, supply, volume, surplus}
-use Rattle.model.specs.ClockCall.{auctionPrice}
+use Rattle.model.specs.Auction.{distance, sharesOf, demand, supply, volume, surplus, auctionPrice}
 use Rattle.model.specs.AuctionCalls.{reportRules, reportAt, reportCall, listRules, due, listCall}
 use Rattle.model.specs.Replies.{restingOf, withdrawnOf, entryNumbers, orderNumbers, reportNumbers, listNumbers}
 use Rattle.model.specs.Words.{Each}

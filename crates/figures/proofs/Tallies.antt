@@ -108,6 +108,7 @@ with d shares turnover first last =
       turnover = turnover;
       first = first;
       last = last;
+      screen = d .screen;
       halt = d .halt;
       used30 = d .used30;
       used60 = d .used60;
