@@ -3,6 +3,7 @@ pub mod Bools
 pub mod Rules
 pub mod Seconds
 pub mod HaltEnds
+pub mod SameScreens
 pub mod Examples
 pub mod TriedLines
 pub mod TriedSound
