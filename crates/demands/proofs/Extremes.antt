@@ -8,22 +8,22 @@ use Rattle.model.specs.Matching.{firstPrice, lastPrice, highest, lowest}
 
 -- ---- they enclose
 
-pub highest-from : (p : ℕ) (ts : List Trade) → p ≤ highest p ts
+highest-from : (p : ℕ) (ts : List Trade) → p ≤ highest p ts
 unfolding highest
 highest-from p [] = omega arith
 highest-from p (t ∷ ts) = omega (arith, highest-from (max p (t .price)) ts)
 
-pub lowest-from : (p : ℕ) (ts : List Trade) → lowest p ts ≤ p
+lowest-from : (p : ℕ) (ts : List Trade) → lowest p ts ≤ p
 unfolding lowest
 lowest-from p [] = omega arith
 lowest-from p (t ∷ ts) = omega (arith, lowest-from (min p (t .price)) ts)
 
-pub last-highest : (q p : ℕ) (ts : List Trade) → q ≤ p → lastPrice q ts ≤ highest p ts
+last-highest : (q p : ℕ) (ts : List Trade) → q ≤ p → lastPrice q ts ≤ highest p ts
 unfolding lastPrice highest
 last-highest q p [] l = l
 last-highest q p (t ∷ ts) l = last-highest (t .price) (max p (t .price)) ts (omega arith)
 
-pub lowest-last : (p q : ℕ) (ts : List Trade) → p ≤ q → lowest p ts ≤ lastPrice q ts
+lowest-last : (p q : ℕ) (ts : List Trade) → p ≤ q → lowest p ts ≤ lastPrice q ts
 unfolding lastPrice lowest
 lowest-last p q [] l = l
 lowest-last p q (t ∷ ts) l = lowest-last (min p (t .price)) (t .price) ts (omega arith)

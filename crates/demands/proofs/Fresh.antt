@@ -117,7 +117,7 @@ module _ (close mark : ℕ) where
 
   module _ (book : List Order) where
     -- nothing is shown: midnight is in no phase, and the fresh count is all zero
-    pub fresh-screen : screenOf (freshDay close mark) (cleared book) 0 0 ≡ noScreen
+    fresh-screen : screenOf (freshDay close mark) (cleared book) 0 0 ≡ noScreen
     unfolding freshDay screenOf shownPrice phaseNow phaseAt rowAt holding laterRows closed continuous noScreen among any
     fresh-screen = rw (no-levels 0 book, no-levels 1 book)
 
@@ -185,10 +185,10 @@ module _ (close mark : ℕ) where
             (b : Bool)
             → opened b .reply ≡ OpenReply.the-variants.Opened d
             → (d .screen ≡ noScreen) × (screenOf d (opened b .book) 0 0 ≡ noScreen)
-        go true r = let k : freshDay close mark ≡ d = cc in rw (← k) (unblank, fresh-screen)
+        go true r = let k : freshDay close mark ≡ d = cc in rw (← k) (blank, fresh-screen)
           where
-            unblank : freshDay close mark .screen ≡ noScreen
-            unblank = unfold freshDay in refl
+            blank : freshDay close mark .screen ≡ noScreen
+            blank = unfold freshDay in refl
         go false r = let z : _≡_ {A = ℕ} 0 1 = cc in absurd (omega arith)
 
     pub open-call : (d : Day) → openCall close mark book .reply ≡ OpenReply.the-variants.Opened d → d ≡ freshDay close mark

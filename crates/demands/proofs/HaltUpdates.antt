@@ -16,7 +16,7 @@ module _ (us : List Trade) (book : List Order) (d e : Day) where
   abbrev shown : Day
   shown = update us book e
 
-  pub unchanged-updated : Unchanged d e → Unchanged d shown
+  unchanged-updated : Unchanged d e → Unchanged d shown
   unfolding update
   unchanged-updated k = record { halt = k .halt; thirty = k .thirty; sixty = k .sixty }
 

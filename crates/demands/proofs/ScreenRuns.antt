@@ -82,12 +82,6 @@ goes-none : (d : Day) → Traded d → Shown d → Goes (d .screen) (d .screen) 
 unfolding highWith lowWith highest lowest firstPrice lastPrice
 goes-none d k w = go (eqb (d .screen .last) 0) refl (eqb (d .shares) 0) refl
   where
-    low : ℕ
-    low = d .screen .low
-
-    high : ℕ
-    high = d .screen .high
-
     go : (b : Bool) → eqb (d .screen .last) 0 ≡ b → (c : Bool) → eqb (d .shares) 0 ≡ c → Goes (d .screen) (d .screen) []
     go true e true f =
         let z = w .enclosed .none (eqb-true (d .shares) 0 f) in record { last = refl; high = rw e (z .1); low = rw e (z .0) }

@@ -101,7 +101,7 @@ module _ (b d : Day) (ts : List Trade) (k : Traded b) (some : filled ts â‰¡ 0 â†
       }
 
   -- "nothing had traded" is read off the last price
-  pub event-enclosed : Enclosed (lowWith ts (b .screen)) (highWith ts (b .screen)) (d .shares) (d .first) (d .last)
+  event-enclosed : Enclosed (lowWith ts (b .screen)) (highWith ts (b .screen)) (d .shares) (d .first) (d .last)
   unfolding lowWith highWith
   event-enclosed = go (eqb (b .screen .last) 0) refl (eqb (b .shares) 0) refl
     where

@@ -90,7 +90,7 @@ totals-none d =
     go false e = refl
 
 -- what fires changes none of them, nor does the screen
-pub totals-same : (d e f : Day) (ts : List Trade) → SameFigures e f → Totals d e ts → Totals d f ts
+totals-same : (d e f : Day) (ts : List Trade) → SameFigures e f → Totals d e ts → Totals d f ts
 totals-same d e f ts x k =
     record {
       shares = x .shares ∙ k .shares;
@@ -99,7 +99,7 @@ totals-same d e f ts x k =
       last = x .last ∙ k .last;
     }
 
-pub totals-updated :
+totals-updated :
     (d e : Day) (book : List Order) (ts : List Trade) → Totals d e ts → Totals d (update ts book e) ts
 totals-updated d e book ts = totals-same d e (update ts book e) ts (same-update ts book e)
 
