@@ -19,7 +19,7 @@ pub struct Totals {
 }
 
 // No price stands.
-fn no_levels() -> Levels
+pub fn no_levels() -> Levels
     ensures { λ r. ⌜ r ≡ noLevels ⌝ }
 {
     let none = Level {
