@@ -11,7 +11,7 @@ use lib.Dec.{eqb}
 use borrow.Author.Tests.{eqb-true, eqb-false}
 use Rattle.model.specs.declared.Order.{Order}
 use Rattle.model.specs.declared.Levels.{Levels}
-use Rattle.model.specs.Book.{queue}
+use Rattle.model.specs.Book.{free, queue}
 use Rattle.model.specs.Figures.{noLevel, noLevels}
 use Rattle.model.specs.Screen.{levelsOf}
 use Rattle.model.specs.Words.{Each}
@@ -19,7 +19,8 @@ use Rattle.book.specs.declared.Stretch.{Stretch}
 use Rattle.book.specs.Rows.{orderOf, bookOf}
 use Rattle.book.specs.Standing.{Fair, Ranked}
 use Rattle.book.specs.Lines.{line, StretchOf}
-use Rattle.book.proofs.Lists.{each-take, each-drop}
+use Rattle.book.proofs.Lists.{each-at, each-take, each-drop}
+use Rattle.book.proofs.Memory.{book-at}
 use Rattle.book.proofs.Lines.{line-end, line-cons, line-length}
 use Rattle.auction.specs.declared.Tier.{Tier}
 use Rattle.auction.specs.Tiers.{runOf, alike, tierFrom}
@@ -45,6 +46,36 @@ line-most rows at end p r h =
     in
     omega (arith, run-most p (line at end rows) fair, line-length at end rows h, length-map rows orderOf, r .few)
 
+-- an order and a run of others
+pub run-fits :
+    (rows : List (List ℕ)) (from end p : ℕ)
+    → Ranked (bookOf rows)
+    → end ≤ length rows
+    → (end ≤ length rows) × (runOf p (line from end rows) ≤ 4_096_000_000)
+run-fits rows from end p r h = (h, line-most rows from end p r h)
+
+pub sum-fits :
+    (rows : List (List ℕ)) (at from end p : ℕ) {o : Order} {t : Tier}
+    → Ranked (bookOf rows)
+    → end ≤ length rows
+    → at < end
+    → o ≡ orderOf (getD rows at [])
+    → t ≡ tierFrom from p (line from end rows)
+    → o .left + t .shares ≤ 4_097_000_000
+unfolding tierFrom
+sum-fits rows at from end p {o} {t} r h l e g =
+    let fair : Fair (getD (bookOf rows) at free) =
+    each-at Fair (bookOf rows) free (r .stands .fair) at (omega (arith, length-map rows orderOf))
+    in
+    let same : o ≡ getD (bookOf rows) at free = e ∙ book-at rows at in
+    omega (
+      arith,
+      ap (λ (x : Order). x .left) same,
+      fair .left,
+      ap (λ (x : Tier). x .shares) g,
+      line-most rows from end p r h,
+    )
+
 -- ---- the next price
 
 level-of : (at : ℕ) (os : List Order) → nextFrom at os .level ≡ firstLevel os
@@ -62,24 +93,7 @@ module _ (rows : List (List ℕ)) (at end : ℕ) where
       begins : line at end rows ≡ o ∷ line (at + 1) end rows
       begins = line-cons at end rows l short e
 
-      pub others-fit : Ranked (bookOf rows) → (end ≤ length rows) × (runOf (o .price) (line (at + 1) end rows) ≤ 4_096_000_000)
-      others-fit r = (short, line-most rows (at + 1) end (o .price) r short)
-
       module _ {t : Tier} (g : t ≡ tierFrom (at + 1) (o .price) (line (at + 1) end rows)) where
-        shares-are : t .shares ≡ runOf (o .price) (line (at + 1) end rows)
-        unfolding tierFrom
-        shares-are = ap (λ (x : Tier). x .shares) g
-
-        pub level-fits : Ranked (bookOf rows) → o .left + t .shares ≤ 4_096_000_000
-        level-fits r =
-            omega (
-              arith,
-              shares-are,
-              run-on (o .price) o (line (at + 1) end rows) refl,
-              ap (runOf (o .price)) begins,
-              line-most rows at end (o .price) r short,
-            )
-
         pub next-some :
             record { level = record { price = o .price; shares = o .left + t .shares }; behind = t .behind }
             ≡ nextFrom at (line at end rows)

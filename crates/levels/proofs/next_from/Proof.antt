@@ -1,6 +1,6 @@
 -- Behind the last order there is no price; else the first order's, with those right behind it that stand at it.
 use native.Mathlib.Omega.{arith}
-use Rattle.levels.proofs.Nexts.{next-none, others-fit, level-fits, next-some}
+use Rattle.levels.proofs.Nexts.{next-none, run-fits, sum-fits, next-some}
 use borrow.Author.Needs.{needs}
 use Rattle.levels.proofs.next_from.Statement.{statement}
 use Rattle.levels.proofs.next_from.Tie as tie
@@ -16,10 +16,8 @@ add-run-from c = search needs
 
 run-from-requires : tie.Need-run-from-requires
 run-from-requires c κs =
-    let else1 = c .before in
-    let s = else1 .before in
-    others-fit (s .args .rows .now) (s .args .at) (s .args .end) (s .pre .1) (omega (arith, else1 .if1 .left))
-    (c .order-at .ensures) (s .pre .0)
+    let s = c .before .before in
+    run-fits (s .args .rows .now) _ (s .args .end) _ (s .pre .0) (s .pre .1)
 
 add-shares : tie.Need-add-shares
 add-shares c =
@@ -29,8 +27,8 @@ add-shares c =
     let s = else1 .before in
     omega (
       arith,
-      level-fits (s .args .rows .now) (s .args .at) (s .args .end) (s .pre .1) (omega (arith, else1 .if1 .left))
-          (after-order-at .order-at .ensures) (after-run-from .run-from .ensures) (s .pre .0),
+      sum-fits (s .args .rows .now) (s .args .at) _ (s .args .end) _ (s .pre .0) (s .pre .1) (omega (arith, else1 .if1 .left))
+          (after-order-at .order-at .ensures) (after-run-from .run-from .ensures),
     )
 
 returns-2 : tie.Need-returns-2
