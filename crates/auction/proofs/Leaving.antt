@@ -1,5 +1,5 @@
 -- What is left of a side at a price that nobody left is better than: the head and those right behind it that stand at it.
-use Prim.Native.Nat.{ℕ, _+_, _-_, _≤_, _<_}
+use Prim.Native.Nat.{ℕ, suc, _+_, _-_, _≤_, _<_}
 use mathlib.Core.Path.{_≡_, refl, sym, ap, _∙_}
 use mathlib.Core.Bool.{Bool, true, false, cond}
 use mathlib.Core.List.{List, [], _∷_}
@@ -21,7 +21,9 @@ use Rattle.book.specs.Heads.{asOrder, waiting}
 use Rattle.book.proofs.Lists.{each}
 use Rattle.book.proofs.Lines.{line-end, line-cons}
 use Rattle.auction.specs.Interest.{interest}
-use Rattle.auction.specs.Walks.{reach, runOf, leftAt}
+use Rattle.auction.specs.declared.Tier.{Tier}
+use Rattle.auction.specs.Tiers.{runOf, alike, tierFrom}
+use Rattle.auction.specs.Walks.{reach, leftAt}
 use Rattle.auction.proofs.Walks.{NoBetter, Falls, Taken, reach-nobody, reach-next, none-reach, total-at, nobody, here}
 
 -- ---- those at the front that stand at a price
@@ -30,14 +32,26 @@ run-nobody : (p : ℕ) → runOf p [] ≡ 0
 unfolding runOf
 run-nobody p = refl
 
+alike-nobody : (p : ℕ) → alike p [] ≡ 0
+unfolding alike
+alike-nobody p = refl
+
 module _ (p : ℕ) (o : Order) (os : List Order) where
-  run-on : o .price ≡ p → runOf p (o ∷ os) ≡ o .left + runOf p os
+  pub run-on : o .price ≡ p → runOf p (o ∷ os) ≡ o .left + runOf p os
   unfolding runOf
   run-on e = rw (eq-eqb (o .price) p e)
 
-  run-off : (o .price ≡ p → ⊥) → runOf p (o ∷ os) ≡ 0
+  pub run-off : (o .price ≡ p → ⊥) → runOf p (o ∷ os) ≡ 0
   unfolding runOf
   run-off e = rw (ne-eqb (o .price) p e)
+
+  pub alike-on : o .price ≡ p → alike p (o ∷ os) ≡ suc (alike p os)
+  unfolding alike
+  alike-on e = rw (eq-eqb (o .price) p e)
+
+  pub alike-off : (o .price ≡ p → ⊥) → alike p (o ∷ os) ≡ 0
+  unfolding alike
+  alike-off e = rw (ne-eqb (o .price) p e)
 
 own-price : (side p : ℕ) → meets side p p ≡ true
 unfolding meets
@@ -79,20 +93,39 @@ run-reach side p (o ∷ os) n f = elim (ℕ-discrete (o .price) p) [
 -- what is added up so far, with the rest of them, is the whole
 pub record Adds (rows : List (List ℕ)) (from end p sum at : ℕ) : Type 0 where
   pub whole : sum + runOf p (line at end rows) ≡ runOf p (line from end rows)
+  pub places : at + alike p (line at end rows) ≡ from + alike p (line from end rows)
+
+tier-is :
+    (from p : ℕ) (os : List Order) {sum at : ℕ}
+    → sum ≡ runOf p os
+    → at ≡ from + alike p os
+    → record { shares = sum; behind = at } ≡ tierFrom from p os
+unfolding tierFrom
+tier-is from p os e f = rw (e, f)
 
 module _ (rows : List (List ℕ)) (from end p : ℕ) (short : end ≤ length rows) where
   module _ {sum at : ℕ} {o : Order} (k : Adds rows from end p sum at) (l : at < end) (e : o ≡ orderOf (getD rows at [])) where
     begins : line at end rows ≡ o ∷ line (at + 1) end rows
     begins = line-cons at end rows l short e
 
-    pub run-ends : (o .price ≡ p → ⊥) → sum ≡ runOf p (line from end rows)
-    run-ends n = omega (arith, k .whole, ap (runOf p) begins, run-off p o (line (at + 1) end rows) n)
+    pub run-ends : (o .price ≡ p → ⊥) → record { shares = sum; behind = at } ≡ tierFrom from p (line from end rows)
+    run-ends n =
+        tier-is from p (line from end rows)
+        (omega (arith, k .whole, ap (runOf p) begins, run-off p o (line (at + 1) end rows) n))
+        (omega (arith, k .places, ap (alike p) begins, alike-off p o (line (at + 1) end rows) n))
 
     pub run-more : o .price ≡ p → Adds rows from end p (sum + o .left) (at + 1)
-    run-more n = record { whole = omega (arith, k .whole, ap (runOf p) begins, run-on p o (line (at + 1) end rows) n) }
+    run-more n =
+        record {
+          whole = omega (arith, k .whole, ap (runOf p) begins, run-on p o (line (at + 1) end rows) n);
+          places = omega (arith, k .places, ap (alike p) begins, alike-on p o (line (at + 1) end rows) n);
+        }
 
-  pub run-all : {sum at : ℕ} → Adds rows from end p sum at → end ≤ at → sum ≡ runOf p (line from end rows)
-  run-all {sum} {at} k l = omega (arith, k .whole, ap (runOf p) (line-end at end rows l), run-nobody p)
+  pub run-all : {sum at : ℕ} → Adds rows from end p sum at → end ≤ at → record { shares = sum; behind = at } ≡ tierFrom from p (line from end rows)
+  run-all {sum} {at} k l =
+      tier-is from p (line from end rows)
+      (omega (arith, k .whole, ap (runOf p) (line-end at end rows l), run-nobody p))
+      (omega (arith, k .places, ap (alike p) (line-end at end rows l), alike-nobody p))
 
 -- ---- of a head and those behind it
 
@@ -112,8 +145,9 @@ module _ (p : ℕ) (h : Head) (os : List Order) where
   pub left-most : (h .left ≡ 0 → ⊥) → h .price ≡ p → leftAt p h os ≤ 4_096_000_000 → runOf p os ≤ 4_096_000_000
   left-most n e l = omega (arith, left-on n e)
 
-  pub left-with : {r : ℕ} → (h .left ≡ 0 → ⊥) → h .price ≡ p → r ≡ runOf p os → h .left + r ≡ leftAt p h os
-  left-with n e g = omega (arith, left-on n e)
+  pub left-with : (from : ℕ) {r : Tier} → (h .left ≡ 0 → ⊥) → h .price ≡ p → r ≡ tierFrom from p os → h .left + r .shares ≡ leftAt p h os
+  unfolding tierFrom
+  left-with from n e g = omega (arith, left-on n e, ap (λ (t : Tier). t .shares) g)
 
 -- ---- where a walk has ended
 

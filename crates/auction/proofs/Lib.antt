@@ -15,4 +15,5 @@ pub mod Leaving
 pub mod Stopping
 pub mod Meeting
 pub mod Pricing
+pub mod Filling
 pub mod Rules

@@ -12,7 +12,7 @@ use borrow.Author.Tests.{ltb-true, leb-true, leb-false, le-leb, lt-ltb, le-ltb, 
 use Rattle.model.specs.declared.Order.{Order}
 use Rattle.model.specs.Book.{queue}
 use Rattle.model.specs.Matching.{meets}
-use Rattle.model.specs.Auction.{distance, demand, supply, qualifying}
+use Rattle.model.specs.Auction.{distance, demand, supply, volume, qualifying}
 use Rattle.model.proofs.Bools.{and-left, and-right}
 use Rattle.book.specs.declared.Head.{Head}
 use Rattle.book.specs.Rows.{bookOf}
@@ -24,7 +24,7 @@ use Rattle.book.proofs.Lists.{each, every, each-drop}
 use Rattle.book.proofs.Waiting.{past-kept, past-next, placed-first, placed-past}
 use Rattle.auction.specs.declared.Crossed.{Crossed}
 use Rattle.auction.specs.Spans.{ends, gap}
-use Rattle.auction.specs.Walks.{crossing, crossedBy, higher, lower, spanOf, reach, leftAt, StopOf}
+use Rattle.auction.specs.Walks.{crossing, crossedBy, higher, lower, spanOf, reach, leftAt, FillsAt, StopOf}
 use Rattle.auction.proofs.Sides.{interest-buys, interest-sells}
 use Rattle.auction.proofs.Stretches.{Stretches}
 use Rattle.auction.proofs.Walks.{NoBetter, Taken, taken-start, taken-next, stops, queue-falls, taken-fits, head-reach, reach-falls}
@@ -297,6 +297,37 @@ module _ (rows : List (List ℕ)) (ranked : Ranked (bookOf rows)) {middle end : 
             b .at-most hi inside (λ x. omega (arith, low-bounds .1 x)),
           )
 
+    -- ---- and at each price of the span
+
+    module _ (some : 1 ≤ c .shares) (p : ℕ) (from-lo : higher (c .sell) buy ≤ p) (to-hi : p ≤ lower (c .buy) sell) where
+      in-range : p ≤ 1_000_000
+      in-range = omega (arith, high-bounds .0, k .top some)
+
+      demand-there : demand book p ≡ c .shares + leftAt p buy (line (buy .at + 1) middle rows)
+      demand-there = buys-left p in-range (omega (arith, high-bounds .0)) (λ x. omega (arith, low-bounds .1 x))
+
+      supply-there : supply book p ≡ c .shares + leftAt p sell (line (sell .at + 1) end rows)
+      supply-there = sells-left p in-range (omega (arith, low-bounds .0)) (λ x. omega (arith, high-bounds .1 x))
+
+      -- of one side nothing is left there
+      one-fills : (demand book p ≤ c .shares) ⊎ (supply book p ≤ c .shares)
+      one-fills = elim (decLt 0 (sell .left)) [
+        | no l ↦ inr (s .at-most p in-range (λ x. absurd (l x)))
+        | yes l ↦ elim (decLt p (sell .price)) [
+          | yes i ↦ inr (s .at-most p in-range (λ x. i))
+          | no i ↦ inl (b .at-most p in-range (λ x. omega (arith, crossing-false buy sell done x l)))
+        ]
+      ]
+
+      fills-at : FillsAt rows middle end (record { crossed = c; buy = buy; sell = sell }) p
+      unfolding volume
+      fills-at =
+          record {
+            trades = ⊎-elim (λ x. omega (arith, demand-there, supply-there)) (λ x. omega (arith, demand-there, supply-there)) one-fills;
+            buys = sym demand-there;
+            sells = sym supply-there;
+          }
+
     pub walked-end : StopOf rows middle end (record { crossed = c; buy = buy; sell = sell })
     unfolding spanOf
     walked-end =
@@ -309,6 +340,10 @@ module _ (rows : List (List ℕ)) (ranked : Ranked (bookOf rows)) {middle end : 
           high = elim (ℕ-discrete (c .shares) 0) [
             | yes z ↦ rw (eq-eqb (c .shares) 0 z) (λ l. absurd (omega arith))
             | no z ↦ rw (ne-eqb (c .shares) 0 z) (high-left (omega arith))
+          ];
+          fills = elim (ℕ-discrete (c .shares) 0) [
+            | yes z ↦ rw (eq-eqb (c .shares) 0 z) (λ p i l h. absurd (omega arith))
+            | no z ↦ rw (ne-eqb (c .shares) 0 z) (λ p i l h. fills-at (omega arith) p l h)
           ];
           buying = λ x. ⊎-elim (λ y. y .1) (λ y. absurd (omega (arith, y .0))) (k .buying);
           selling = λ x. ⊎-elim (λ y. y .1) (λ y. absurd (omega (arith, y .0))) (k .selling);

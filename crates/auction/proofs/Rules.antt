@@ -6,7 +6,6 @@ use mathlib.Core.Logic.{_⊎_, inl, inr, ⊎-elim, _↔_}
 use mathlib.Core.Bool.{Bool, true, false, _||_}
 use mathlib.Core.List.{List, [], _∷_}
 use native.Mathlib.Nat.{le-refl, le-trans}
-use native.Mathlib.Decide.{decLt}
 use native.Mathlib.Omega.{arith}
 use borrow.Author.Tests.{eqb-true, leb-true, le-leb}
 use lib.ListN.{length, getD}
@@ -16,19 +15,18 @@ use Rattle.model.specs.declared.Day.{Day}
 use Rattle.model.specs.Choice.{if_then_else_}
 use Rattle.model.specs.Lists.{keep, any, among, from}
 use Rattle.model.specs.Figures.{reference}
-use Rattle.model.specs.Auction.{prices, qualifies, qualifying, leastDifference, leftBy}
+use Rattle.model.specs.Auction.{prices, qualifies, qualifying, leastDifference, leftBy, auctionPrice}
 use Rattle.model.specs.Sound.{crosses}
-use Rattle.model.specs.ClockCall.{auctionPrice}
 use Rattle.model.specs.AuctionCalls.{due}
 use Rattle.book.specs.Standing.{Standing}
-use Rattle.auction.specs.Spans.{turnOf, flatter, nearestIn}
+use Rattle.auction.specs.Spans.{turnOf, nearestIn}
 use Rattle.model.specs.Words.{Rising, NoGap, Qualifies}
 use Rattle.auction.specs.Rule.{PriceRule}
 use Rattle.model.proofs.Bools.{true-or-false, not-both, not-true-false}
 use Rattle.auction.proofs.Runs.{run-length, run-at, run-has, has-run}
 use Rattle.auction.proofs.Conditions.{test-told, told-test}
 use Rattle.auction.proofs.Spanning.{Spans, span-law}
-use Rattle.auction.proofs.Ties.{Flattest, flattest-one, flattest-many, left-is, none-left, nearest-least, none-flattest}
+use Rattle.auction.proofs.Ties.{some-flattest, left-is, none-left, nearest-least, none-flattest}
 use Rattle.auction.proofs.Crossing.{crosses-told, told-crosses, cross-qualifies, qualifies-cross}
 
 -- ---- what a test keeps of a list
@@ -117,24 +115,17 @@ module _ (os : List Order) where
   pub qualifying-no-gap : NoGap (qualifying os)
   qualifying-no-gap = ⊎-elim (λ k. empty-no-gap (k .2)) (λ k. run-no-gap _ _ (k .list)) (span-law os)
 
-  -- those of smallest difference, where some price qualifies
-  some-flattest : {lo hi : ℕ} (k : Spans os lo hi) → (low : ℕ) × (high : ℕ) × Flattest os k low high
-  some-flattest {lo} {hi} k = elim (decLt lo hi) [
-    | yes h ↦ (flatter os lo (lo + 1), flatter os hi (hi - 1), flattest-many os k h)
-    | no h ↦ (lo, lo, flattest-one os k (omega (arith, k .some)))
-  ]
-
   pub least-no-gap : NoGap (leastDifference os)
   least-no-gap =
       ⊎-elim
       (λ k. empty-no-gap (none-flattest os (k .2)))
-      (λ k. let f = some-flattest k in run-no-gap _ _ (f .2 .list))
+      (λ k. let f = some-flattest os k in run-no-gap _ _ (f .2 .list))
       (span-law os)
 
   -- the one that is left of them
   left-one : {lo hi : ℕ} → Spans os lo hi → (ref : ℕ) → (p : ℕ) × (leftBy os ref ≡ p ∷ []) × Qualifies os p
   left-one {lo} {hi} k ref =
-      let f = some-flattest k in
+      let f = some-flattest os k in
       let low = f .0 in
       let high = f .1 in
       let l = f .2 .least in

@@ -232,6 +232,21 @@ module _ (os : List Order) {lo hi : ℕ} (s : Spans os lo hi) where
       one : (n : ℕ) → from n (n + 1 - n) ≡ n ∷ []
       one n = let e : n + 1 - n ≡ 1 = omega arith in ap (from n) e ∙ one-run n
 
+  -- where some price qualifies there are such
+  pub some-flattest : (low : ℕ) × (high : ℕ) × Flattest low high
+  some-flattest = elim (decLt lo hi) [
+    | yes h ↦ (flatter os lo (lo + 1), flatter os hi (hi - 1), flattest-many h)
+    | no h ↦ (lo, lo, flattest-one (omega (arith, s .some)))
+  ]
+
+  -- and the price that is left lies between the ends
+  left-inside : (ref : ℕ) → (lo ≤ getD (leftBy os ref) 0 0) × (getD (leftBy os ref) 0 0 ≤ hi)
+  left-inside ref =
+      let f = some-flattest in
+      let l = f .2 .least in
+      let n = nearest-least ref (f .0) (f .1) (l .some) in
+      rw (left-is ref (f .2)) (omega (arith, l .from-lo, n .from-lo), omega (arith, n .to-hi, l .to-hi))
+
 -- ---- what the code answers
 -- a span of one price, or none
 pub price-alone :
@@ -243,6 +258,19 @@ price-alone os ref {s} e same =
     ⊎-elim
     (λ k. rw (none-left os ref (k .2)) (k .0))
     (λ k. rw (left-is os k ref (flattest-one os k same)) (sym (nearest-same ref (s .lo))))
+    (span-cases os e)
+
+-- a price that is left lies in the span
+pub price-inside :
+    (os : List Order) (ref : ℕ) {s : Span} {p : ℕ}
+    → s ≡ ends (qualifying os)
+    → p ≡ getD (leftBy os ref) 0 0
+    → (p ≡ 0 → ⊥)
+    → (s .lo ≤ p) × (p ≤ s .hi)
+price-inside os ref {s} {p} e f n =
+    ⊎-elim
+    (λ k. absurd (n (f ∙ rw (none-left os ref (k .2)))))
+    (λ k. rw f (left-inside os k ref))
     (span-cases os e)
 
 -- several prices

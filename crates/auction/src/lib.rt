@@ -2,9 +2,11 @@
 // supply at a price, the price list and the report.
 pub mod depth;
 pub mod ends;
+pub mod fixings;
 pub mod listing;
 pub mod price;
 pub mod report;
+pub mod tiers;
 pub mod walk;
 
 use book::Head;
@@ -33,6 +35,19 @@ pub struct Stop {
     pub crossed: Crossed,
     pub buy: Head,
     pub sell: Head,
+}
+
+// The orders of a side that stand at one price, one behind the other: their shares, and the place behind the last of them.
+pub struct Tier {
+    pub shares: u64,
+    pub behind: usize,
+}
+
+// What an auction would come to: its price, the volume and the signed surplus there, zeros where no price stands.
+pub struct Fixing {
+    pub price: u64,
+    pub volume: u64,
+    pub surplus: i64,
 }
 
 // Prices without a gap: the first, how many are written, and the next one due behind those, or 0.

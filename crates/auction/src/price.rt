@@ -1,41 +1,24 @@
 // The auction's price: of the qualifying prices those of smallest difference, of these the nearest to the reference price.
+use crate::Stop;
 use crate::ends::span_at;
+use crate::tiers::run_from;
 use crate::walk::walk;
 use book::Head;
-use book::order_at;
 use book::seats::free_from;
 use book::seats::sells_from;
 ghost use mathlib.Core.Path.{_≡_};
 ghost use Prim.Native.Nat.{_+_, _≤_, _<_};
 ghost use lib.ListN.{length, getD};
 ghost use Rattle.model.specs.Auction.{leftBy};
+ghost use Rattle.model.specs.Book.{queue};
 ghost use Rattle.book.specs.Rows.{bookOf};
 ghost use Rattle.book.specs.Standing.{Ranked};
 ghost use Rattle.book.specs.Lines.{line};
 ghost use Rattle.auction.specs.Spans.{flatterBy, besideOf, nearestIn};
-ghost use Rattle.auction.specs.Walks.{runOf, leftAt};
-
-// The shares of the orders from a place on, up to the end of their side, for as long as they stand at price p.
-fn run_from(rows: &[[u64; 5]], from: usize, end: usize, p: u64) -> u64
-    requires { ⌜ end ≤ length (now rows) ⌝ }
-    requires { ⌜ runOf p (line from end (now rows)) ≤ 4_096_000_000 ⌝ }
-    ensures { λ r. ⌜ r ≡ runOf p (line from end (now (rows .entry))) ⌝ }
-{
-    let mut sum: u64 = 0;
-    let mut at = from;
-    while at < end {
-        let o = order_at(rows, at);
-        if o.price != p {
-            return sum;
-        }
-        sum += o.left;
-        at += 1;
-    }
-    sum
-}
+ghost use Rattle.auction.specs.Walks.{leftAt, StopOf};
 
 // What is left at price p of a side of which nobody is left at a better price: the head and those right behind it.
-fn left_at(rows: &[[u64; 5]], end: usize, h: Head, p: u64) -> u64
+pub fn left_at(rows: &[[u64; 5]], end: usize, h: Head, p: u64) -> u64
     requires { ⌜ end ≤ length (now rows) ⌝ }
     requires { ⌜ (0 < h .left → h .at < end) ⌝ }
     requires { ⌜ leftAt p h (line (h .at + 1) end (now rows)) ≤ 4_096_000_000 ⌝ }
@@ -47,7 +30,8 @@ fn left_at(rows: &[[u64; 5]], end: usize, h: Head, p: u64) -> u64
     if h.price != p {
         return 0;
     }
-    h.left + run_from(rows, h.at + 1, end, p)
+    let others = run_from(rows, h.at + 1, end, p);
+    h.left + others.shares
 }
 
 // The difference beside an end: 0 where a price lies between the ends, else that of the other end.
@@ -78,14 +62,14 @@ fn nearest(reference: u64, a: u64, b: u64) -> u64
     reference
 }
 
-// The price that the two tie rules leave, 0 where none qualifies: one walk along both sides, and a look at who is left at an end.
-pub fn auction_price(rows: &[[u64; 5]], reference: u64) -> u64
+// Where the walk has ended, the price that the two tie rules leave, 0 where none qualifies: a look at who is left at an end.
+pub fn price_at(rows: &[[u64; 5]], middle: usize, end: usize, stop: Stop, reference: u64) -> u64
     requires { ⌜ Ranked (bookOf (now rows)) ⌝ }
+    requires { ⌜ middle ≡ length (queue 0 (bookOf (now rows))) ⌝ }
+    requires { ⌜ end ≡ length (queue 0 (bookOf (now rows))) + length (queue 1 (bookOf (now rows))) ⌝ }
+    requires { ⌜ StopOf (now rows) middle end stop ⌝ }
     ensures { λ r. ⌜ r ≡ getD (leftBy (bookOf (now (rows .entry))) reference) 0 0 ⌝ }
 {
-    let middle = sells_from(rows);
-    let end = free_from(rows);
-    let stop = walk(rows, middle, end);
     let c = stop.crossed;
     let buy = stop.buy;
     let sell = stop.sell;
@@ -102,4 +86,15 @@ pub fn auction_price(rows: &[[u64; 5]], reference: u64) -> u64
     let low = flatter(lo, buys, lo + 1, beside(lo, hi, sells));
     let high = flatter(hi, sells, hi - 1, beside(lo, hi, buys));
     nearest(reference, low, high)
+}
+
+// The auction's price, 0 where none qualifies: one walk along both sides.
+pub fn auction_price(rows: &[[u64; 5]], reference: u64) -> u64
+    requires { ⌜ Ranked (bookOf (now rows)) ⌝ }
+    ensures { λ r. ⌜ r ≡ getD (leftBy (bookOf (now (rows .entry))) reference) 0 0 ⌝ }
+{
+    let middle = sells_from(rows);
+    let end = free_from(rows);
+    let stop = walk(rows, middle, end);
+    price_at(rows, middle, end, stop, reference)
 }

@@ -10,7 +10,7 @@ ghost use Rattle.book.specs.Rows.{bookOf};
 ghost use Rattle.book.specs.Standing.{Ranked};
 
 // Demand minus supply.
-fn surplus_of(demand: u64, supply: u64) -> i64
+pub fn surplus_of(demand: u64, supply: u64) -> i64
     requires { ⌜ (demand ≤ 4_096_000_000) × (supply ≤ 4_096_000_000) ⌝ }
     ensures { λ r. ⌜ r ≡ subℕ demand supply ⌝ }
 {

@@ -8,6 +8,7 @@ use Rattle.model.specs.declared.OrderAnswer.{OrderAnswer}
 use Rattle.model.specs.declared.ClockReply as ClockReply
 use Rattle.model.specs.declared.ClockAnswer.{ClockAnswer}
 use Rattle.model.specs.declared.CancelReply as CancelReply
+use Rattle.model.specs.declared.CancelAnswer.{CancelAnswer}
 use Rattle.model.specs.declared.ListReply as ListReply
 use Rattle.model.specs.Calls.{Outcome, OpenOutcome, CancelOutcome}
 use Rattle.model.specs.AuctionCalls.{ListOutcome}
@@ -28,9 +29,12 @@ orderRefused d n = record { reply = OrderReply.the-variants.Refused n; made = 0;
 abbrev pub clockRefused : Day → ℕ → ClockAnswer
 clockRefused d n = record { reply = ClockReply.the-variants.Refused n; made = 0; day = d }
 
--- a cancel: its reply, and the rows of the book
-abbrev pub cancelLeft : CancelReply.CancelReply → List (List ℕ) → CancelOutcome
-cancelLeft reply rows = record { reply = reply; book = bookOf rows }
+-- a cancel: what it handed back, and the rows of the book
+abbrev pub cancelLeft : CancelAnswer → List (List ℕ) → CancelOutcome
+cancelLeft answer rows = record { answer = answer; book = bookOf rows }
+
+abbrev pub cancelRefused : Day → ℕ → CancelAnswer
+cancelRefused d n = record { reply = CancelReply.the-variants.Refused n; day = d }
 
 -- a price list: its reply, and the lent list
 abbrev pub listLeft : ListReply.ListReply → List ℕ → ListOutcome

@@ -17,7 +17,8 @@ use Rattle.model.specs.declared.ClockAnswer.{ClockAnswer}
 use Rattle.model.specs.declared.ReportReply.{ReportReply}
 use Rattle.model.specs.Refusals.{Rule, _when_, firstOf}
 use Rattle.model.specs.Calls.{Outcome, OpenOutcome, CancelOutcome, openRules, openCall, orderRules, entered, orderCall, cancelRules, cancelCall}
-use Rattle.model.specs.ClockCall.{auctionPrice, clockRules, clockCall}
+use Rattle.model.specs.Auction.{auctionPrice}
+use Rattle.model.specs.ClockCall.{clockRules, clockCall}
 use Rattle.model.specs.AuctionCalls.{ListOutcome, reportRules, reportAt, reportCall, listRules, listCall}
 use Rattle.model.specs.Replies.{openNumbers, orderNumbers, cancelNumbers, clockNumbers, listNumbers}
 use Rattle.model.proofs.Rules.{hit, skip}

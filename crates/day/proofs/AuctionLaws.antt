@@ -10,7 +10,7 @@ use Rattle.model.specs.declared.ReportReply as ReportReply
 use Rattle.model.specs.declared.ListReply as ListReply
 use Rattle.model.specs.Lists.{from}
 use Rattle.model.specs.Refusals.{_when_, firstOf, unsound}
-use Rattle.model.specs.ClockCall.{auctionPrice}
+use Rattle.model.specs.Auction.{auctionPrice}
 use Rattle.model.specs.AuctionCalls.{reportRules, reportAt, reportCall, listRules, due, listCall}
 use Rattle.book.specs.Writing.{fitted}
 use Rattle.auction.specs.declared.Run.{Run}

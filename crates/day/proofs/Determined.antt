@@ -10,7 +10,7 @@ use Rattle.model.specs.declared.Day.{Day}
 use Rattle.model.specs.declared.OpenReply.{OpenReply}
 use Rattle.model.specs.declared.OrderAnswer.{OrderAnswer}
 use Rattle.model.specs.declared.ClockAnswer.{ClockAnswer}
-use Rattle.model.specs.declared.CancelReply.{CancelReply}
+use Rattle.model.specs.declared.CancelAnswer.{CancelAnswer}
 use Rattle.model.specs.declared.ReportReply.{ReportReply}
 use Rattle.model.specs.declared.ListReply.{ListReply}
 use Rattle.model.specs.Calls.{Outcome, OpenOutcome, CancelOutcome, orderCall}
@@ -115,14 +115,14 @@ pub clock-determined :
 clock-determined d time before lent = trading-determined (clockCall d time (bookOf before) (tradesOf lent))
 
 pub cancel-determined :
-    (d : Day) (account number : ℕ) (before m n : List (List ℕ)) (r s : CancelReply)
+    (d : Day) (account number : ℕ) (before m n : List (List ℕ)) (r s : CancelAnswer)
     → Places m
     → Places n
     → CancelPromise d before account number r m
     → CancelPromise d before account number s n
     → (r ≡ s) × (m ≡ n)
 cancel-determined d account number before m n r s a b e f =
-    (ap (λ (o : CancelOutcome). o .reply) (e ∙ sym f), same-places m n a b (ap (λ (o : CancelOutcome). o .book) (e ∙ sym f)))
+    (ap (λ (o : CancelOutcome). o .answer) (e ∙ sym f), same-places m n a b (ap (λ (o : CancelOutcome). o .book) (e ∙ sym f)))
 
 pub report-determined :
     (d : Day) (rows : List (List ℕ)) (r s : ReportReply) → ReportPromise d rows r → ReportPromise d rows s → r ≡ s

@@ -8,7 +8,7 @@ use Rattle.model.specs.declared.Day.{Day}
 use Rattle.model.specs.declared.OpenReply.{OpenReply}
 use Rattle.model.specs.declared.ClockAnswer.{ClockAnswer}
 use Rattle.model.specs.declared.OrderAnswer.{OrderAnswer}
-use Rattle.model.specs.declared.CancelReply.{CancelReply}
+use Rattle.model.specs.declared.CancelAnswer.{CancelAnswer}
 use Rattle.model.specs.declared.ReportReply.{ReportReply}
 use Rattle.model.specs.declared.ListReply.{ListReply}
 use Rattle.model.specs.Calls.{openCall, orderCall, cancelCall}
@@ -32,8 +32,8 @@ abbrev pub OrderPromise : Day → Rows → Rows → Asked → OrderAnswer → Ro
 OrderPromise d rows trades a answer rows' trades' =
     callLeft answer rows' trades' ≡ orderCall d a (bookOf rows) (tradesOf trades)
 
-abbrev pub CancelPromise : Day → Rows → ℕ → ℕ → CancelReply → Rows → Type 0
-CancelPromise d rows account number reply rows' = cancelLeft reply rows' ≡ cancelCall d account number (bookOf rows)
+abbrev pub CancelPromise : Day → Rows → ℕ → ℕ → CancelAnswer → Rows → Type 0
+CancelPromise d rows account number answer rows' = cancelLeft answer rows' ≡ cancelCall d account number (bookOf rows)
 
 -- it can change nothing
 abbrev pub ReportPromise : Day → Rows → ReportReply → Type 0

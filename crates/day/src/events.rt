@@ -1,11 +1,12 @@
 // A move of the clock, an order and a cancel: 15 where the day is not sound, else what they do on a sound day.
 use model::Asked;
-use model::CancelReply;
+use model::CancelAnswer;
 use model::ClockAnswer;
 use model::Day;
 use model::OrderAnswer;
 use moves::moving::clock_refused;
 use moves::moving::clock_sound;
+use orders::cancelling::cancel_refused;
 use orders::cancelling::cancel_sound;
 use orders::entering::order_refused;
 use orders::entering::order_sound;
@@ -30,11 +31,11 @@ pub fn order_call(d: Day, rows: &mut [[u64; 5]], trades: &mut [[u64; 6]], a: Ask
     order_sound(d, &mut *rows, &mut *trades, a)
 }
 
-pub fn cancel_call(d: Day, rows: &mut [[u64; 5]], account: u64, number: u64) -> CancelReply
+pub fn cancel_call(d: Day, rows: &mut [[u64; 5]], account: u64, number: u64) -> CancelAnswer
     ensures { λ r. ⌜ CancelPromise d (now (rows .entry)) account number r (now (rows .exit)) ⌝ }
 {
     if !is_sound(d, rows) {
-        return CancelReply::Refused(15);
+        return cancel_refused(d, 15);
     }
     cancel_sound(d, &mut *rows, account, number)
 }

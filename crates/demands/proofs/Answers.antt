@@ -23,9 +23,7 @@ use Rattle.demands.specs.Running.{isOpening, answeredBy, steppedBy}
 use Rattle.demands.proofs.FirstRules.{not-given}
 use Rattle.demands.proofs.Cases.{order-cases, cancel-cases, clock-cases}
 use Rattle.demands.proofs.Pricings.{not-unsound}
-use Rattle.demands.proofs.Cancelled.{cancel-kept}
-use Rattle.demands.proofs.Entered.{order-kept}
-use Rattle.demands.proofs.Moved.{clock-kept}
+use Rattle.demands.proofs.Keepings.{cancel-kept, order-kept, clock-kept}
 
 pub event-sound :
     (e : Event.Event) → isOpening e ≡ false → (lent : List Trade) (s : Desk)
@@ -33,7 +31,7 @@ pub event-sound :
     → Sound (steppedBy e lent s .day) (steppedBy e lent s .book)
 unfolding isOpening steppedBy
 event-sound (Event.the-variants.Open close mark) o lent s k = absurd (not-both refl o)
-event-sound (Event.the-variants.Clock t) o lent s k = clock-kept (s .day) (s .book) k t lent
+event-sound (Event.the-variants.Clock t) o lent s k = clock-kept (s .day) t (s .book) lent k
 event-sound (Event.the-variants.Order a) o lent s k = order-kept (s .day) a (s .book) lent k
 event-sound (Event.the-variants.Cancel account number) o lent s k = cancel-kept (s .day) account number (s .book) k
 
@@ -76,6 +74,6 @@ event-not-15 (Event.the-variants.Order a) o lent s k =
     (λ _. eqb-false 0 15 refl)
     (λ _. order-not-15 (s .day) (s .book) k a (length lent))
 event-not-15 (Event.the-variants.Cancel account number) o lent s k =
-    cancel-cases (s .day) account number (s .book) (λ o. getD (cancelNumbers (o .reply)) 0 0 ≡ 15 → ⊥)
+    cancel-cases (s .day) account number (s .book) (λ o. getD (cancelNumbers (o .answer .reply)) 0 0 ≡ 15 → ⊥)
     (λ _. eqb-false 0 15 refl)
     (λ _. cancel-not-15 (s .day) (s .book) k account number)

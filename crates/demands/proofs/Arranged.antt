@@ -11,7 +11,7 @@ use Rattle.model.specs.declared.Order.{Order}
 use Rattle.model.specs.declared.Day.{Day}
 use Rattle.model.specs.Book.{free, standsOn, queue, arranged}
 use Rattle.model.specs.Sound.{hasPlaces}
-use Rattle.model.specs.Words.{Each, Some, Ordered, Sound}
+use Rattle.model.specs.Words.{Each, Some, Ordered}
 use Rattle.book.specs.Standing.{Fair, Standing}
 use Rattle.book.proofs.Lists.{both, each, at-each}
 use Rattle.book.proofs.Queues.{Place as Side, place-of}
@@ -20,11 +20,12 @@ use Rattle.book.proofs.Kept.{free-left}
 use Rattle.book.proofs.Parts.{spareIn, arranged-is}
 use Rattle.book.proofs.Arranging.{each-arranged, arranged-length, arranged-stands, arranged-ranked, arranged-crosses, total-arranged}
 use Rattle.soundness.specs.SoundDay.{Place, HaltDay}
-use Rattle.soundness.proofs.SoundDays.{day-sound, few-places}
+use Rattle.soundness.proofs.SoundDays.{few-places}
 use Rattle.demands.specs.Owning.{StandsOnce}
 use Rattle.demands.proofs.Elements.{some-left, some-right, some-at, each-some}
 use Rattle.demands.proofs.Places.{stands-once}
 use Rattle.demands.proofs.Wholes.{Whole, Timely, whole-stands, sound-of}
+use Rattle.demands.proofs.BeforeScreens.{BeforeScreen}
 
 -- ---- who stands there
 
@@ -115,17 +116,19 @@ pub arranged-many :
 unfolding hasPlaces
 arranged-many book os e = rw (arranged-length (length book) os) e
 
-pub arranged-sound :
+pub arranged-before :
     (d : Day) (book os : List Order)
     → hasPlaces book ≡ true
     → Whole d os
     → Timely (d .time) (d .halt) os
     → HaltDay d
     → length (queue 0 os) + length (queue 1 os) ≤ length book
-    → Sound d (arranged (length book) os)
-arranged-sound d book os many w t halt fit =
-    let n = length book in (
-      arranged-many book os many,
-      day-sound d (arranged n os) (sound-of d (arranged n os) (arranged-whole d n os w fit) (arranged-timely d n os w fit (d .time) (d .halt) t))
-          (arranged-ordered d n os w fit (few-places book many)) halt,
-    )
+    → BeforeScreen d (arranged (length book) os)
+arranged-before d book os many w t halt fit =
+    let n = length book in
+    record {
+      places = arranged-many book os many;
+      day = sound-of d (arranged n os) (arranged-whole d n os w fit) (arranged-timely d n os w fit (d .time) (d .halt) t);
+      ordered = arranged-ordered d n os w fit (few-places book many);
+      halt = halt;
+    }

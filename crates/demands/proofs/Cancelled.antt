@@ -1,7 +1,7 @@
--- A cancel keeps a sound day sound: one order is taken out, and the others stay. Assumes nothing.
-use Prim.Native.Nat.{ℕ, _+_, _≤_, _<_}
+-- After a cancel the day is sound but for its screen: one order is taken out, and the others stay. Assumes nothing.
+use Prim.Native.Nat.{_+_, _≤_, _<_}
 use mathlib.Core.Path.{_≡_}
-use mathlib.Core.Bool.{Bool, true, not}
+use mathlib.Core.Bool.{Bool, true}
 use mathlib.Core.List.{List}
 use native.Mathlib.Omega.{arith}
 use lib.ListN.{length}
@@ -9,7 +9,6 @@ use Rattle.model.specs.declared.Order.{Order}
 use Rattle.model.specs.declared.Day.{Day}
 use Rattle.model.specs.Lists.{keep}
 use Rattle.model.specs.Book.{free, standsOn, queue, arranged}
-use Rattle.model.specs.Calls.{isOwn, cancelCall}
 use Rattle.book.specs.Standing.{Standing}
 use Rattle.book.proofs.Lists.{each, each-keep, length-keep, total-keep}
 use Rattle.book.proofs.Kept.{standing-keep}
@@ -18,10 +17,10 @@ use Rattle.book.proofs.Crossing.{SellsAbove, Uncrossed, uncrossed, not-crossed}
 use Rattle.soundness.specs.SoundDay.{Place, SoundDay}
 use Rattle.soundness.proofs.SoundDays.{sound-day, sound-halt}
 use Rattle.model.specs.Words.{Sound}
-use Rattle.demands.proofs.Cases.{cancel-cases}
 use Rattle.demands.proofs.Pricings.{sound-stands}
 use Rattle.demands.proofs.Wholes.{Whole, Timely, whole-of, timely-of}
-use Rattle.demands.proofs.Arranged.{arranged-sound}
+use Rattle.demands.proofs.BeforeScreens.{BeforeScreen}
+use Rattle.demands.proofs.Arranged.{arranged-before}
 
 -- some orders fewer, whichever they are
 module _ (p : Order → Bool) (d : Day) (book : List Order) (s : Sound d book) where
@@ -65,9 +64,5 @@ module _ (p : Order → Bool) (d : Day) (book : List Order) (s : Sound d book) w
   kept-fit : length (queue 0 (keep p book)) + length (queue 1 (keep p book)) ≤ length book
   kept-fit = omega (arith, queues-fit (keep p book) (standing-keep p book stands .fair), length-keep p book)
 
-  kept-sound : Sound d (arranged (length book) (keep p book))
-  kept-sound = arranged-sound d book (keep p book) (s .0) kept-whole kept-timely (sound-halt d book (s .1)) kept-fit
-
-pub cancel-kept : (d : Day) (account number : ℕ) (book : List Order) → Sound d book → Sound d (cancelCall d account number book .book)
-cancel-kept d account number book s =
-    cancel-cases d account number book (λ o. Sound d (o .book)) (λ _. kept-sound (λ o. not (isOwn account number o)) d book s) (λ _. s)
+  pub kept-before : BeforeScreen d (arranged (length book) (keep p book))
+  kept-before = arranged-before d book (keep p book) (s .0) kept-whole kept-timely (sound-halt d book (s .1)) kept-fit

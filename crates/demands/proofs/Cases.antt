@@ -2,7 +2,7 @@
 use Prim.Native.Nat.{ℕ}
 use mathlib.Core.Path.{_≡_, refl}
 use mathlib.Core.Bool.{Bool, true, false, cond, not}
-use mathlib.Core.List.{List}
+use mathlib.Core.List.{List, []}
 use lib.ListN.{length}
 use lib.Dec.{eqb}
 use borrow.Author.Tests.{eqb-true, eqb-false}
@@ -19,6 +19,7 @@ use Rattle.model.specs.Lists.{keep, total}
 use Rattle.model.specs.Book.{arranged}
 use Rattle.model.specs.Figures.{at}
 use Rattle.model.specs.Halts.{phaseNow}
+use Rattle.model.specs.Screen.{update}
 use Rattle.model.specs.Refusals.{firstOf}
 use Rattle.model.specs.Calls.{Outcome, written, CancelOutcome, isOwn, orderRules, entered, orderCall, cancelRules, cancelCall}
 use Rattle.model.specs.ClockCall.{Held, moved, clockRules, clockCall}
@@ -47,15 +48,22 @@ module _ (d : Day) (account number : ℕ) (book : List Order) where
   abbrev cancel-rule : ℕ
   cancel-rule = firstOf (cancelRules d account number book)
 
+  abbrev cancel-after : List Order
+  cancel-after = arranged (length book) (keep (λ o. not (isOwn account number o)) book)
+
   pub cancel-cases :
       (P : CancelOutcome → Type 0)
       → (cancel-rule ≡ 0
       → P
       (record {
-        reply = CancelReply.the-variants.Withdrawn (total (λ o. o .left) (keep (isOwn account number) book));
-        book = arranged (length book) (keep (λ o. not (isOwn account number o)) book);
+        answer =
+            record {
+              reply = CancelReply.the-variants.Withdrawn (total (λ o. o .left) (keep (isOwn account number) book));
+              day = update [] cancel-after d;
+            };
+        book = cancel-after;
       }))
-      → ((cancel-rule ≡ 0 → ⊥) → P (record { reply = CancelReply.the-variants.Refused cancel-rule; book = book }))
+      → ((cancel-rule ≡ 0 → ⊥) → P (record { answer = record { reply = CancelReply.the-variants.Refused cancel-rule; day = d }; book = book }))
       → P (cancelCall d account number book)
   unfolding cancelCall
   cancel-cases P = by-number P cancel-rule _ _
@@ -76,7 +84,7 @@ module _ (d : Day) (t : ℕ) (book : List Order) (lent : List Trade) where
             record {
               reply = ClockReply.the-variants.Moved (phaseNow (at t (held .day))) (length (held .trades));
               made = length (held .trades);
-              day = at t (held .day);
+              day = update (held .trades) (held .book) (at t (held .day));
             };
         book = held .book;
         trades = written (held .trades) lent;

@@ -1,5 +1,5 @@
 -- The three demands: each record of specs/ that is put together from several files. Demand 1 is in Refusals, the runs of
--- demand 2 in Runs, the starred table in Stars. Assumes nothing.
+-- demand 2 in Runs, the screen after each event in Screenings, the starred table in Stars. Assumes nothing.
 use Rattle.model.specs.Figures.{reference}
 use Rattle.demands.specs.Pricing.{Pricing}
 use Rattle.demands.specs.Conditions.{Conditions}
@@ -16,16 +16,16 @@ use Rattle.demands.specs.Older.{SameHistories}
 use Rattle.demands.proofs.ClockTrades.{clock-trades}
 use Rattle.demands.proofs.Pricings.{sound-stands, listing, called, one, trades-there}
 use Rattle.demands.proofs.Fresh.{open-fresh}
-use Rattle.demands.proofs.Cancelled.{cancel-kept}
-use Rattle.demands.proofs.Entered.{order-kept}
-use Rattle.demands.proofs.Moved.{move-auctions, clock-kept}
+use Rattle.demands.proofs.Keepings.{cancel-kept, order-kept, clock-kept}
+use Rattle.demands.proofs.Moved.{move-auctions}
 use Rattle.demands.proofs.Entries.{accepted}
-use Rattle.demands.proofs.Totals.{order-totals, clock-totals}
+use Rattle.demands.proofs.Totals.{order-totals, cancel-totals, clock-totals}
 use Rattle.demands.proofs.Owns.{cancel-own}
 use Rattle.demands.proofs.Staying.{order-stays, clock-stays}
 use Rattle.demands.proofs.Leavings.{order-leaves, incoming-leaves, clock-leaves, clock-stands}
 use Rattle.demands.proofs.Hours.{phase-noon, noon-takes}
 use Rattle.demands.proofs.HaltDays.{day-halted}
+use Rattle.demands.proofs.HaltUpdates.{cancel-unchanged}
 use Rattle.demands.proofs.Starting.{order-starts}
 use Rattle.demands.proofs.Ending.{auction-passed, clock-halts}
 use Rattle.demands.proofs.HaltRuns.{once-a-day, limited-none}
@@ -41,14 +41,14 @@ keeping =
       fresh = open-fresh;
       order-kept = order-kept;
       cancel-kept = cancel-kept;
-      clock-kept = λ d t book lent s. clock-kept d book s t lent;
+      clock-kept = clock-kept;
     }
 
 pub entering : Entering
 entering = record { accepted = accepted }
 
 pub totalling : Totalling
-totalling = record { order = order-totals; clock = λ d t book lent s. clock-totals d book s t lent }
+totalling = record { order = order-totals; cancel = cancel-totals; clock = λ d t book lent s. clock-totals d book s t lent }
 
 pub own-only : OwnOnly
 own-only =
@@ -73,6 +73,7 @@ halting =
       halted = day-halted;
       order = λ d a book lent s. order-starts d a book s lent;
       clock = λ d t book lent phase made s. clock-halts d book s t lent phase made;
+      cancel = cancel-unchanged;
       auction = λ d t book lent phase made s e n l.
           let stands = sound-stands d book s in (
             listing book stands,

@@ -33,6 +33,7 @@ use Rattle.pairing.proofs.Auctions.{uncrossed-none}
 use Rattle.pairing.proofs.Moves.{Quiet, auction-quiet}
 use Rattle.demands.specs.Pricing.{isAuction}
 use Rattle.demands.specs.Halting.{Fires, Unchanged, Another, ByMove}
+use Rattle.demands.proofs.HaltUpdates.{by-move-updated}
 use Rattle.demands.proofs.Cases.{isMoved, madeOf, clock-cases}
 use Rattle.demands.proofs.Pricings.{sound-stands}
 use Rattle.demands.proofs.HaltDays.{Runs, running}
@@ -322,5 +323,6 @@ module _ (d : Day) (book : List Order) (s : Sound d book) where
       (λ z r.
       let m : made ≡ length (moved d t book .trades) = sym (ap madeOf r) in
       rw (m, take-at (moved d t book .trades) (drop (length (moved d t book .trades)) lent) (length (moved d t book .trades)) refl)
-      (by-move t (in-time d t book lent z .0)))
+      (by-move-updated (moved d t book .trades) (moved d t book .book) d (at t (moved d t book .day)) t (moved d t book .trades)
+      (by-move t (in-time d t book lent z .0))))
       (λ _ r. let z : _≡_ {A = ℕ} 0 1 = ap isMoved r in absurd (omega arith))

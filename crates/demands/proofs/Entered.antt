@@ -1,4 +1,4 @@
--- An order keeps a sound day sound: what no rule refuses, and then the day and the book after it. Assumes nothing.
+-- What no rule refuses of an order, and then the day and the book after it, sound but for the screen. Assumes nothing.
 use Prim.Native.Nat.{ℕ, suc, _+_, _-_, _*_, _≤_, _<_}
 use mathlib.Core.Path.{_≡_, refl, ap, _∙_}
 use mathlib.Core.Logic.{inr, ⊎-elim}
@@ -21,7 +21,7 @@ use Rattle.model.specs.Figures.{nextNumber, issue, tally}
 use Rattle.model.specs.Halts.{reach, haltEnd, halting, fires, fired}
 use Rattle.model.specs.Entry.{entryTrades, restPrice}
 use Rattle.model.specs.Refusals.{_when_, firstOf}
-use Rattle.model.specs.Calls.{orderRules, joined, entered, orderCall}
+use Rattle.model.specs.Calls.{orderRules, joined}
 use Rattle.model.proofs.Bools.{and-left, and-right, and-true, not-both}
 use Rattle.model.proofs.HaltEnds.{continuous-hours, ends}
 use Rattle.model.specs.Words.{Each, Price, Sized, Sound}
@@ -39,7 +39,6 @@ use Rattle.matching.proofs.AfterEntry.{entered-uncrossed}
 use Rattle.demands.specs.Refusing.{NoneOf}
 use Rattle.demands.proofs.FirstRules.{gives-none}
 use Rattle.demands.proofs.Refusals.{order-numbers}
-use Rattle.demands.proofs.Cases.{order-cases}
 use Rattle.demands.proofs.Pricings.{sound-stands}
 use Rattle.demands.proofs.Wholes.{Traded, Whole, timely-of}
 use Rattle.demands.proofs.Hours.{none-early, none-late, then-continuous, phase-unhalted, now-continuous}
@@ -48,7 +47,8 @@ use Rattle.demands.proofs.HaltDays.{halt-waits, halt-begins}
 use Rattle.demands.proofs.Firing.{fires-unlimited, fires-some, traded-now, mark-set}
 use Rattle.demands.proofs.Tallied.{traded-tally}
 use Rattle.demands.proofs.Settled.{Later, settle-places}
-use Rattle.demands.proofs.Arranged.{arranged-sound}
+use Rattle.demands.proofs.BeforeScreens.{BeforeScreen}
+use Rattle.demands.proofs.Arranged.{arranged-before}
 use Rattle.demands.proofs.EntryPrices.{trades-have, rest-has, entry-proper}
 
 -- ---- an order that no rule refuses
@@ -235,12 +235,12 @@ module _ (d : Day) (a : Asked) (book : List Order) (s : Sound d book) (k : Allow
   late l = absurd (not-both (k .hours) (none-late (d .time) l))
 
   abbrev Then : Day → Type 0
-  Then e = Sound e (arranged (length book) orders)
+  Then e = BeforeScreen e (arranged (length book) orders)
 
   not-fired : Then next
   unfolding tally issue
   not-fired =
-      arranged-sound next book orders (s .0) entered-whole
+      arranged-before next book orders (s .0) entered-whole
       (record {
         time = day .time;
         early = early;
@@ -258,7 +258,7 @@ module _ (d : Day) (a : Asked) (book : List Order) (s : Sound d book) (k : Allow
   begun f =
       let now = continuous-hours (d .time) (now-continuous d (traded-now d a book (fires-some ts next f)) .0) in
       let e = halting (haltEnd (d .time)) 1 (cond (reach 60 ts next) 1 (next .used60)) next in
-      arranged-sound e book orders (s .0)
+      arranged-before e book orders (s .0)
       (same-whole next e (same-halting (haltEnd (d .time)) 1 (cond (reach 60 ts next) 1 (next .used60)) next) orders entered-whole)
       (record {
         time = day .time;
@@ -272,15 +272,5 @@ module _ (d : Day) (a : Asked) (book : List Order) (s : Sound d book) (k : Allow
       (λ z. fires-some ts next f (entry-proper d a book (stands .fair) entered-prices .some (omega (arith, z)))))
       orders-fit
 
-  pub entered-sound : Then (fired (d .time) ts next)
-  entered-sound = fired-cases Then (d .time) ts next (λ _. not-fired) begun
-
-pub order-kept :
-    (d : Day) (a : Asked) (book : List Order) (lent : List Trade)
-    → Sound d book
-    → Sound (orderCall d a book lent .answer .day) (orderCall d a book lent .book)
-unfolding entered
-order-kept d a book lent s =
-    order-cases d a book lent (λ o. Sound (o .answer .day) (o .book))
-    (λ z. entered-sound d a book s (allowed d a book lent z))
-    (λ _. s)
+  pub entered-before : Then (fired (d .time) ts next)
+  entered-before = fired-cases Then (d .time) ts next (λ _. not-fired) begun

@@ -1,28 +1,34 @@
 -- An empty book: it fits every day, and an accepted opening gives a sound day. Assumes nothing.
 use Prim.Native.Nat.{ℕ, _≤_}
-use mathlib.Core.Path.{_≡_, refl, ap, _∙_}
+use mathlib.Core.Path.{_≡_, refl, sym, ap, _∙_}
 use mathlib.Core.Logic.{inl}
 use mathlib.Core.Bool.{Bool, true, false, not, _&&_}
 use mathlib.Core.List.{List, [], _∷_}
 use native.Mathlib.Omega.{arith}
-use lib.ListN.{length-map}
+use lib.ListN.{length, length-map}
 use lib.Dec.{eqb}
 use Rattle.model.specs.declared.Order.{Order}
 use Rattle.model.specs.declared.Day.{Day}
 use Rattle.model.specs.declared.OpenReply as OpenReply
 use Rattle.model.specs.Choice.{if_then_else_}
-use Rattle.model.specs.Lists.{total}
+use Rattle.model.specs.Lists.{any, total, among, once}
 use Rattle.model.specs.Limits.{isPrice}
-use Rattle.model.specs.Book.{free}
-use Rattle.model.specs.Figures.{freshDay}
-use Rattle.model.specs.Sound.{isMark, hasPlaces}
+use Rattle.model.specs.Clock.{closed, laterRows, holding, rowAt, phaseAt, continuous}
+use Rattle.model.specs.Book.{free, inPriority, queue}
+use Rattle.model.specs.Matching.{fiveBest}
+use Rattle.model.specs.Figures.{noLevels, noScreen, freshDay}
+use Rattle.model.specs.Halts.{phaseNow}
+use Rattle.model.specs.Screen.{levelsOf, shownPrice, screenOf}
+use Rattle.model.specs.Sound.{isMark, hasPlaces, encloses, screenFits}
 use Rattle.model.specs.Refusals.{_when_, firstOf}
 use Rattle.model.specs.Calls.{OpenOutcome, cleared, openRules, openCall}
 use Rattle.model.proofs.Bools.{and-left, and-right}
+use Rattle.model.proofs.SameScreens.{counted-fits}
 use Rattle.model.specs.Words.{Apart, Sound}
 use Rattle.book.proofs.Lists.{each, total-zero}
 use Rattle.book.proofs.Kept.{free-left, free-number}
-use Rattle.book.proofs.Arranging.{cleared-ranked}
+use Rattle.book.proofs.Parts.{keep-frees}
+use Rattle.book.proofs.Arranging.{cleared-frees, cleared-ranked}
 use Rattle.soundness.specs.SoundDay.{Place, Empty, HaltDay}
 use Rattle.soundness.proofs.Says.{says-le}
 use Rattle.soundness.proofs.Clauses.{says-price}
@@ -62,6 +68,11 @@ whole-cleared d before book w e =
       shares = omega (arith, empty-total book e, w .shares);
       figures = w .figures;
     }
+
+-- and nobody stands on either side
+no-levels : (side : ℕ) (book : List Order) → levelsOf side (cleared book) ≡ noLevels
+unfolding levelsOf fiveBest once noLevels queue inPriority
+no-levels side book = rw (cleared-frees book, keep-frees side (length book))
 
 -- ---- an opening
 
@@ -105,6 +116,15 @@ module _ (close mark : ℕ) where
       }
 
   module _ (book : List Order) where
+    -- nothing is shown: midnight is in no phase, and the fresh count is all zero
+    fresh-screen : screenOf (freshDay close mark) (cleared book) 0 0 ≡ noScreen
+    unfolding freshDay screenOf shownPrice phaseNow phaseAt rowAt holding laterRows closed continuous noScreen among any
+    fresh-screen = rw (no-levels 0 book, no-levels 1 book)
+
+    fresh-fits : screenFits (freshDay close mark) (cleared book) ≡ true
+    unfolding freshDay noScreen encloses
+    fresh-fits = counted-fits (freshDay close mark) (cleared book) (sym fresh-screen) refl
+
     abbrev may : Bool
     may = isPrice close && isMark mark && hasPlaces book
 
@@ -122,6 +142,7 @@ module _ (close mark : ℕ) where
               (whole-cleared (freshDay close mark) [] (cleared book) (fresh-whole p m) n)
               (fresh-timely (cleared book) n))
               (cleared-ranked book (few-places book many) .ordered)
+              fresh-fits
               fresh-halt,
         )
 
@@ -153,6 +174,22 @@ module _ (close mark : ℕ) where
         go : (b : Bool) → may ≡ b → opened b .reply ≡ OpenReply.the-variants.Opened d → Sound d (opened b .book)
         go true m r = let k : freshDay close mark ≡ d = cc in rw (← k) (fresh-sound m)
         go false m r = let z : _≡_ {A = ℕ} 0 1 = cc in absurd (omega arith)
+
+    pub open-screen :
+        (d : Day)
+        → openCall close mark book .reply ≡ OpenReply.the-variants.Opened d
+        → (d .screen ≡ noScreen) × (screenOf d (openCall close mark book .book) 0 0 ≡ noScreen)
+    open-screen d e = rw open-by (go may (rw open-by at e))
+      where
+        go :
+            (b : Bool)
+            → opened b .reply ≡ OpenReply.the-variants.Opened d
+            → (d .screen ≡ noScreen) × (screenOf d (opened b .book) 0 0 ≡ noScreen)
+        go true r = let k : freshDay close mark ≡ d = cc in rw (← k) (blank, fresh-screen)
+          where
+            blank : freshDay close mark .screen ≡ noScreen
+            blank = unfold freshDay in refl
+        go false r = let z : _≡_ {A = ℕ} 0 1 = cc in absurd (omega arith)
 
     pub open-call : (d : Day) → openCall close mark book .reply ≡ OpenReply.the-variants.Opened d → d ≡ freshDay close mark
     open-call d e = go may (rw open-by at e)

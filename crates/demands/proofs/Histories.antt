@@ -9,6 +9,7 @@ use Rattle.model.specs.declared.Trade.{Trade}
 use Rattle.model.specs.declared.Event as Event
 use Rattle.model.specs.declared.ClockAnswer.{ClockAnswer}
 use Rattle.model.specs.declared.OrderAnswer.{OrderAnswer}
+use Rattle.model.specs.declared.CancelAnswer.{CancelAnswer}
 use Rattle.model.specs.Calls.{orderCall, cancelCall}
 use Rattle.model.specs.ClockCall.{clockCall}
 use Rattle.model.specs.AuctionCalls.{ListOutcome}
@@ -73,10 +74,10 @@ module _ (k : Keeping) where
       rw (m .day) (older-cancel (p .day) account number (m .book) (m .sound))
       in
       record {
-        seen-alike = ap Cancelled (r .reply);
+        seen-alike = ap (λ (x : CancelAnswer). Cancelled (x .reply)) (r .answer);
         again =
             record {
-              day = m .day;
+              day = ap (λ (x : CancelAnswer). x .day) (r .answer);
               book = r .book;
               sound = k .cancel-kept (p .day) account number (p .book) (m .sound);
             };

@@ -14,6 +14,7 @@ use Rattle.model.specs.Lists.{from}
 use Rattle.model.specs.Clock.{passed}
 use Rattle.model.specs.Figures.{at, nextNumber, issue, tally}
 use Rattle.model.specs.Entry.{entryTrades}
+use Rattle.model.specs.Screen.{update}
 use Rattle.model.specs.Calls.{entered}
 use Rattle.model.specs.ClockCall.{Held, auction, lapse, pass, start, moved}
 use Rattle.model.specs.Session.{Desk}
@@ -32,7 +33,7 @@ use Rattle.demands.specs.Running.{
   acceptedIn,
 }
 use Rattle.demands.proofs.SameFigures.{same-fired, same-resumed}
-use Rattle.demands.proofs.Cases.{order-cases, clock-cases}
+use Rattle.demands.proofs.Cases.{order-cases, cancel-cases, clock-cases}
 
 abbrev pub numbers : List Owner → List ℕ
 numbers ws = map (λ (w : Owner). w .number) ws
@@ -62,7 +63,7 @@ none n m e = record { order = refl; count = omega arith }
 event-counts :
     (e : Event.Event) → isOpening e ≡ false → (lent : List Trade) (s : Desk)
     → Counts (s .day .issued) (steppedBy e lent s .day .issued) (acceptedBy e lent s)
-unfolding isOpening steppedBy acceptedBy ownersBy entered from tally issue nextNumber at
+unfolding isOpening steppedBy acceptedBy ownersBy entered from tally issue nextNumber at update
 event-counts (Event.the-variants.Open close mark) o lent s = absurd (not-both refl o)
 event-counts (Event.the-variants.Clock t) o lent s =
     clock-cases (s .day) t (s .book) lent (λ o. Counts (s .day .issued) (o .answer .day .issued) [])
@@ -73,7 +74,10 @@ event-counts (Event.the-variants.Order a) o lent s =
     (λ _.
     record { order = refl; count = omega (arith, same-fired (s .day .time) (entryTrades (s .day) a (s .book)) (tally (entryTrades (s .day) a (s .book)) (issue (s .day))) .issued) })
     (λ _. none (s .day .issued) (s .day .issued) refl)
-event-counts (Event.the-variants.Cancel account number) o lent s = none (s .day .issued) (s .day .issued) refl
+event-counts (Event.the-variants.Cancel account number) o lent s =
+    cancel-cases (s .day) account number (s .book) (λ o. Counts (s .day .issued) (o .answer .day .issued) [])
+    (λ _. none (s .day .issued) (s .day .issued) refl)
+    (λ _. none (s .day .issued) (s .day .issued) refl)
 
 -- ---- a run
 

@@ -41,8 +41,9 @@ use Rattle.demands.proofs.Places.{stands-once, behind-equals}
 use Rattle.book.proofs.Arranging.{each-arranged}
 use Rattle.demands.proofs.Arranged.{stands-there}
 use Rattle.demands.proofs.Cases.{order-cases, clock-cases}
-use Rattle.demands.proofs.Pricings.{sound-stands, sound-ranked}
-use Rattle.demands.proofs.Entered.{Allowed, allowed, orders-stand, orders-fit, orders-highest, entered-sound}
+use Rattle.demands.proofs.Pricings.{sound-stands}
+use Rattle.demands.proofs.Entered.{Allowed, allowed, orders-stand, orders-fit, orders-highest, entered-before}
+use Rattle.demands.proofs.BeforeScreens.{before-ranked}
 use Rattle.demands.proofs.Moved.{in-time}
 use Rattle.demands.proofs.OneAuction.{moved-trades, up-to-close}
 use Rattle.demands.proofs.Staying.{settle-has}
@@ -270,7 +271,7 @@ module _ (d : Day) (a : Asked) (book : List Order) (s : Sound d book) where
           behind = λ n i l live e p.
               let x = own-stands .some n in
               let there : getD after (x .place) free .number ≡ nextNumber d = ap (λ (o : Order). o .number) (x .there) in
-              behind-equals after (sound-ranked _ after (entered-sound d a book s k)) i (x .place) l (x .inside) live
+              behind-equals after (before-ranked _ after (entered-before d a book s k)) i (x .place) l (x .inside) live
               (λ z. new .real (sym there ∙ z))
               (e ∙ sym (ap (λ (o : Order). o .side) (x .there)))
               (p ∙ sym (ap (λ (o : Order). o .price) (x .there)))

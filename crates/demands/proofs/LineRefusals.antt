@@ -162,7 +162,7 @@ module _ (n : ℕ) (above : 15 < n) (printed : n < 10 ^ 20) where
   cancel-text : (account number : ℕ) (s : Desk) → cancelAnswer account number s .text ≡ refusalLine n → ⊥
   unfolding cancelAnswer cancelLine tradeLines
   cancel-text account number s =
-      let r : CancelReply.CancelReply = cancelCall (s .day) account number (s .book) .reply in
+      let r : CancelReply.CancelReply = cancelCall (s .day) account number (s .book) .answer .reply in
       own-text 87 [] (withNumber number (cancelNumbers r)) (λ e. omega arith)
       (cancel-first number r (call-numbers .cancel (s .day) account number (s .book)))
 

@@ -13,6 +13,7 @@ use Rattle.model.specs.declared.Event as Event
 use Rattle.model.specs.Clock.{passed}
 use Rattle.model.specs.Figures.{at, issue, tally}
 use Rattle.model.specs.Halts.{reach, halting, fired, resumed}
+use Rattle.model.specs.Screen.{update}
 use Rattle.model.specs.Calls.{entered}
 use Rattle.model.specs.ClockCall.{Held, auction, lapse, pass, start, moved}
 use Rattle.model.specs.Session.{Desk}
@@ -24,7 +25,7 @@ use Rattle.soundness.specs.SoundDay.{HaltDay}
 use Rattle.soundness.proofs.SoundDays.{sound-halt}
 use Rattle.demands.specs.Running.{isOpening, Call, steppedBy, stepped, after}
 use Rattle.demands.specs.Halting.{firings}
-use Rattle.demands.proofs.Cases.{order-cases, clock-cases}
+use Rattle.demands.proofs.Cases.{order-cases, cancel-cases, clock-cases}
 use Rattle.demands.proofs.Answers.{event-sound}
 
 -- ---- a mark that is set stays set, and a limited day stays one
@@ -36,6 +37,10 @@ pub record Onward (d e : Day) : Type 0 where
 
 onward-itself : (d : Day) → Onward d d
 onward-itself d = record { thirty = λ u. u; sixty = λ u. u; limited = refl }
+
+onward-updated : (ts : List Trade) (book : List Order) (d e : Day) → Onward d e → Onward d (update ts book e)
+unfolding update
+onward-updated ts book d e k = record { thirty = k .thirty; sixty = k .sixty; limited = k .limited }
 
 -- the marks as a halt that begins leaves them
 set-onward : (end : ℕ) (b : Bool) (d e : Day) → Onward d e → Onward d (halting end 1 (cond b 1 (e .used60)) e)
@@ -74,10 +79,12 @@ pub event-onward : (e : Event.Event) → isOpening e ≡ false → (lent : List 
 unfolding isOpening steppedBy entered
 event-onward (Event.the-variants.Open close mark) o lent s = absurd (not-both refl o)
 event-onward (Event.the-variants.Clock t) o lent s =
-    clock-cases (s .day) t (s .book) lent (λ x. Onward (s .day) (x .answer .day)) (λ _. moved-onward (s .day) t (s .book)) (λ _. onward-itself (s .day))
+    clock-cases (s .day) t (s .book) lent (λ x. Onward (s .day) (x .answer .day)) (λ _. onward-updated _ _ _ _ (moved-onward (s .day) t (s .book))) (λ _. onward-itself (s .day))
 event-onward (Event.the-variants.Order a) o lent s =
-    order-cases (s .day) a (s .book) lent (λ x. Onward (s .day) (x .answer .day)) (λ _. entered-onward (s .day) _) (λ _. onward-itself (s .day))
-event-onward (Event.the-variants.Cancel account number) o lent s = onward-itself (s .day)
+    order-cases (s .day) a (s .book) lent (λ x. Onward (s .day) (x .answer .day)) (λ _. onward-updated _ _ _ _ (entered-onward (s .day) _)) (λ _. onward-itself (s .day))
+event-onward (Event.the-variants.Cancel account number) o lent s =
+    cancel-cases (s .day) account number (s .book) (λ x. Onward (s .day) (x .answer .day)) (λ _. onward-updated _ _ _ _ (onward-itself (s .day)))
+    (λ _. onward-itself (s .day))
 
 -- ---- so it counts
 

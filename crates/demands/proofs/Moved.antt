@@ -1,4 +1,4 @@
--- A move of the clock keeps a sound day sound, second by second: through its auctions, the end of a halt and the lapse. Assumes nothing.
+-- A move of the clock keeps all but the screen sound, second by second: through its auctions, the end of a halt and the lapse. Assumes nothing.
 use Prim.Native.Nat.{ℕ, suc, _≤_, _<_}
 use mathlib.Core.Path.{_≡_, refl, _∙_}
 use mathlib.Core.Logic.{⊎-elim}
@@ -18,7 +18,8 @@ use Rattle.model.specs.Figures.{at, tally}
 use Rattle.model.specs.Halts.{reach, haltEnd, halting, resumed}
 use Rattle.model.specs.Refusals.{_when_, firstOf}
 use Rattle.model.specs.Calls.{cleared}
-use Rattle.model.specs.ClockCall.{auctionPrice, auctionTrades, Held, auction, resume, lapse, pass, start, moved, clockRules, clockCall}
+use Rattle.model.specs.Auction.{auctionPrice}
+use Rattle.model.specs.ClockCall.{auctionTrades, Held, auction, resume, lapse, pass, start, moved, clockRules}
 use Rattle.model.proofs.Bools.{not-both}
 use Rattle.model.proofs.Seconds.{pass-cases, through-seconds}
 use Rattle.model.proofs.HaltEnds.{Continuous}
@@ -29,18 +30,18 @@ use Rattle.book.proofs.Kept.{standing-settle}
 use Rattle.book.proofs.Arranging.{cleared-ranked}
 use Rattle.halts.proofs.Kept.{resume-cases}
 use Rattle.soundness.specs.SoundDay.{SoundDay, HaltDay}
-use Rattle.soundness.proofs.SoundDays.{sound-day, sound-ordered, sound-halt, day-stands, day-sound, few-places}
+use Rattle.soundness.proofs.SoundDays.{day-stands, few-places}
 use Rattle.pairing.proofs.Auctions.{auction-priced, auction-shares, auction-cases, settled-fit, afterwards, afterwards-uncrossed}
 use Rattle.pairing.proofs.Moves.{pass-stands}
 use Rattle.demands.specs.Pricing.{EachAuction}
 use Rattle.demands.proofs.FirstRules.{gives-none}
 use Rattle.demands.proofs.Refusals.{clock-numbers}
-use Rattle.demands.proofs.Cases.{clock-cases}
 use Rattle.demands.proofs.Pricings.{sound-stands, trades-there}
 use Rattle.demands.proofs.Wholes.{Whole, whole-of, timely-of, sound-of}
+use Rattle.demands.proofs.BeforeScreens.{BeforeScreen, before-of}
 use Rattle.demands.proofs.Arranged.{arranged-whole, arranged-ordered, arranged-many}
 use Rattle.demands.proofs.Fresh.{cleared-empty, places-cleared, whole-cleared}
-use Rattle.demands.proofs.Tallied.{Proper, traded-tally}
+use Rattle.demands.proofs.Tallied.{Proper, proper-none, traded-tally}
 use Rattle.demands.proofs.Settled.{Later, settle-places}
 use Rattle.demands.proofs.SameFigures.{SameFigures, same-at, same-halting, same-back, same-then, same-whole}
 use Rattle.demands.proofs.HaltDays.{Runs, running, halt-over, halt-waits, halt-begins}
@@ -61,7 +62,7 @@ auction-proper h k =
           (auction-priced (h .book) k (h .day));
       some = λ z. absurd (omega (arith, x .some));
     })
-    (λ x. rw (x .1) (record { priced = tt; some = λ z. refl }))
+    (λ x. rw (x .1) proper-none)
     (auction-cases (h .book) k (h .day))
 
 -- each auction on the way trades as demand 3 says
@@ -74,9 +75,9 @@ each-auction (s ∷ ss) h k = (
 
 -- ---- one second
 
--- a day and its book in the middle of a move, at this second
+-- a day and its book in the middle of a move, at this second: the screen is counted at its end
 abbrev SoundAt : ℕ → Held → Type 0
-SoundAt s h = Sound (at s (h .day)) (h .book)
+SoundAt s h = BeforeScreen (at s (h .day)) (h .book)
 
 module _ (s : ℕ) (h : Held) (sound : SoundAt s h) (bound : suc s ≤ 86_399) where
   abbrev now : Day
@@ -86,16 +87,16 @@ module _ (s : ℕ) (h : Held) (sound : SoundAt s h) (bound : suc s ≤ 86_399) w
   ts = auctionTrades (h .day) (h .book)
 
   day : SoundDay now (h .book)
-  day = sound-day now (h .book) (sound .1)
+  day = sound .day
 
   halt : HaltDay now
-  halt = sound-halt now (h .book) (sound .1)
+  halt = sound .halt
 
   stands : Standing (h .book)
   stands = day-stands now (h .book) day
 
   few : length (h .book) ≤ 4_096
-  few = few-places (h .book) (sound .0)
+  few = few-places (h .book) (sound .places)
 
   runs : (h .day .halt ≡ 0 → ⊥) → Runs now
   unfolding at
@@ -133,21 +134,23 @@ module _ (s : ℕ) (h : Held) (sound : SoundAt s h) (bound : suc s ≤ 86_399) w
       → 33_300 ≤ suc s
       → suc s < 54_000
       → HaltDay e
-      → Sound e book
+      → BeforeScreen e book
   auctioned e f t early late k =
       let places = settled-fit (h .book) stands (h .day) in
-      let w = arranged-whole traded (length (h .book)) (settle ts (h .book)) settled-whole places in (
-        arranged-many (h .book) (settle ts (h .book)) (sound .0),
-        day-sound e book
-            (sound-of e book (same-whole traded e f book w)
+      let w = arranged-whole traded (length (h .book)) (settle ts (h .book)) settled-whole places in
+      record {
+        places = arranged-many (h .book) (settle ts (h .book)) (sound .places);
+        day =
+            sound-of e book (same-whole traded e f book w)
             (record {
               time = omega (arith, t);
               early = λ l. absurd (omega (arith, t, l));
               late = λ l. absurd (omega (arith, t, l));
               uncrossed = λ _ _ _. afterwards-uncrossed (h .book) stands (h .day);
-            }))
-            (arranged-ordered traded (length (h .book)) (settle ts (h .book)) settled-whole places few) k,
-      )
+            });
+        ordered = arranged-ordered traded (length (h .book)) (settle ts (h .book)) settled-whole places few;
+        halt = k;
+      }
 
   opening : suc s ≡ 33_900 → SoundAt (suc s) (auction h)
   unfolding auction at tally
@@ -163,7 +166,7 @@ module _ (s : ℕ) (h : Held) (sound : SoundAt s h) (bound : suc s ≤ 86_399) w
       let n : h .day .halt ≡ 0 → ⊥ = λ z. omega (arith, e, z) in
       let r = runs n in
       let x = resumed traded in
-      resume-cases (λ y. Sound (at (suc s) y) book) (suc s) h
+      resume-cases (λ y. BeforeScreen (at (suc s) y) book) (suc s) h
       (auctioned (at (suc s) x) (same-then traded x (at (suc s) x) (same-halting _ _ _ traded) (same-at (suc s) x)) refl
       (omega (arith, r .begun)) (omega (arith, e, r .latest))
       (halt-over now (at (suc s) x) halt (record { thirty = refl; sixty = refl; limited = refl; shares = omega arith }) refl))
@@ -182,26 +185,29 @@ module _ (s : ℕ) (h : Held) (sound : SoundAt s h) (bound : suc s ≤ 86_399) w
   unfolding lapse auction at tally
   closing e =
       let x = at (suc s) traded in
-      let many = arranged-many (h .book) (settle ts (h .book)) (sound .0) in
-      let n = cleared-empty book in (
-        places-cleared book many,
-        day-sound x (cleared book)
-            (sound-of x (cleared book)
+      let many = arranged-many (h .book) (settle ts (h .book)) (sound .places) in
+      let n = cleared-empty book in
+      record {
+        places = places-cleared book many;
+        day =
+            sound-of x (cleared book)
             (same-whole traded x (same-at (suc s) traded) (cleared book) (whole-cleared traded (settle ts (h .book)) (cleared book) settled-whole n))
-            (record { time = bound; early = λ _. n; late = λ _. n; uncrossed = λ _ l _. absurd (omega (arith, e, l)) }))
-            (cleared-ranked book (few-places book many) .ordered)
-            (halt-waits now x halt (record { thirty = refl; sixty = refl; limited = refl; shares = omega arith }) refl (omega arith)
-            (λ m. let r = runs m in absurd (omega (arith, e, r .ahead, r .latest)))),
-      )
+            (record { time = bound; early = λ _. n; late = λ _. n; uncrossed = λ _ l _. absurd (omega (arith, e, l)) });
+        ordered = cleared-ranked book (few-places book many) .ordered;
+        halt =
+            halt-waits now x halt (record { thirty = refl; sixty = refl; limited = refl; shares = omega arith }) refl (omega arith)
+            (λ m. let r = runs m in absurd (omega (arith, e, r .ahead, r .latest)));
+      }
 
   quiet : (suc s ≡ 33_900 → ⊥) → (suc s ≡ h .day .halt → ⊥) → (suc s ≡ 54_000 → ⊥) → SoundAt (suc s) h
   unfolding at
   quiet a b c =
       let x = at (suc s) (h .day) in
-      let t = timely-of now (h .book) day in (
-        sound .0,
-        day-sound x (h .book)
-            (sound-of x (h .book)
+      let t = timely-of now (h .book) day in
+      record {
+        places = sound .places;
+        day =
+            sound-of x (h .book)
             (same-whole now x (same-then now (h .day) x (same-back (h .day) now (same-at s (h .day))) (same-at (suc s) (h .day))) (h .book)
             (whole-of now (h .book) day))
             (record {
@@ -209,11 +215,12 @@ module _ (s : ℕ) (h : Held) (sound : SoundAt s h) (bound : suc s ≤ 86_399) w
               early = λ l. t .early (omega arith);
               late = λ l. t .late (omega (arith, c));
               uncrossed = λ k l z. t .uncrossed (omega (arith, a)) (omega arith) z;
-            }))
-            (sound-ordered now (h .book) (sound .1))
-            (halt-waits now x halt (record { thirty = refl; sixty = refl; limited = refl; shares = omega arith }) refl (omega arith)
-            (λ n. let r = runs n in omega (arith, b, r .ahead))),
-      )
+            });
+        ordered = sound .ordered;
+        halt =
+            halt-waits now x halt (record { thirty = refl; sixty = refl; limited = refl; shares = omega arith }) refl (omega arith)
+            (λ n. let r = runs n in omega (arith, b, r .ahead));
+      }
 
   pass-sound : SoundAt (suc s) (pass (suc s) h)
   pass-sound = pass-cases (SoundAt (suc s)) (suc s) h opening resuming closing quiet
@@ -235,13 +242,7 @@ module _ (d : Day) (book : List Order) (s : Sound d book) where
   unfolding start
   move-auctions t = each-auction (passed (d .time) t) (start d book) (sound-stands d book s)
 
-  moved-sound : (t : ℕ) → d .time ≤ t → t ≤ 86_399 → Sound (at t (moved d t book .day)) (moved d t book .book)
+  pub moved-before : (t : ℕ) → d .time ≤ t → t ≤ 86_399 → BeforeScreen (at t (moved d t book .day)) (moved d t book .book)
   unfolding moved start at
-  moved-sound t l m =
-      through-seconds SoundAt t (λ x h k sound. pass-sound x h sound (omega arith)) (d .time) (start d book) l s
-
-  pub clock-kept : (t : ℕ) (lent : List Trade) → Sound (clockCall d t book lent .answer .day) (clockCall d t book lent .book)
-  clock-kept t lent =
-      clock-cases d t book lent (λ o. Sound (o .answer .day) (o .book))
-      (λ z. let h = in-time d t book lent z in moved-sound t (h .0) (h .1))
-      (λ _. s)
+  moved-before t l m =
+      through-seconds SoundAt t (λ x h k sound. pass-sound x h sound (omega arith)) (d .time) (start d book) l (before-of d book s)

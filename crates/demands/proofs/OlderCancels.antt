@@ -20,6 +20,7 @@ use Rattle.book.proofs.Queues.{Stands, on-live, number-live, queue-stands}
 use Rattle.book.proofs.Kept.{Fresh, fair-free, free-number}
 use Rattle.book.proofs.Thinning.{free-nowhere, free-gone, queue-changed, queue-kept}
 use Rattle.demands.specs.Older.{olderRules, olderCancelCall}
+use Rattle.demands.proofs.SameQueues.{update-alike}
 use Rattle.demands.proofs.Twins.{either, Twin, twin-of, twin-stands, twin-length, twin-alike, twin-none, twin-total}
 use Rattle.demands.proofs.OlderSound.{older-sound, newer-sound}
 
@@ -111,7 +112,7 @@ free-foreign account number = rw free-gone
 
 -- the same answer, and the books are twins
 pub record Freed (n : ℕ) (x y : CancelOutcome) : Type 0 where
-  pub reply : x .reply ≡ y .reply
+  pub answer : x .answer ≡ y .answer
   pub book : Twin n (x .book) (y .book)
 
 module _ {n : ℕ} {o c : List Order} (d : Day) (account number : ℕ) (t : Twin n o c) (s : Sound d c) where
@@ -133,5 +134,8 @@ module _ {n : ℕ} {o c : List Order} (d : Day) (account number : ℕ) (t : Twin
   older-cancel =
       rw (same-refusal, same-left, twin-length t)
       (either (Freed n) (eqb (firstOf (cancelRules d account number c)) 0)
-      (λ e. record { reply = refl; book = freed-twin (isOwn account number) t })
-      (record { reply = refl; book = t }))
+      (λ e. record { answer = rw (update-alike _ _ (twin-alike left) [] d); book = left })
+      (record { answer = refl; book = t }))
+    where
+      left : Twin n (map (freed (isOwn account number)) o) (arranged n (keep (λ x. not (isOwn account number x)) c))
+      left = freed-twin (isOwn account number) t

@@ -8,11 +8,12 @@ use Rattle.model.specs.declared.Order.{Order}
 use Rattle.model.specs.declared.Trade.{Trade}
 use Rattle.model.specs.declared.Day.{Day}
 use Rattle.model.specs.Clock.{passed}
+use Rattle.model.specs.Figures.{at}
 use Rattle.model.specs.Refusals.{firstOf}
 use Rattle.model.specs.ClockCall.{Held, auctionTrades, auction, resume, lapse, pass, through, start, moved, clockRules, clockCall}
 use Rattle.model.specs.Words.{Sound}
 use Rattle.demands.specs.Older.{olderAuction, olderResume, olderPass, olderThrough, olderMoved, olderClockRules, olderClockCall}
-use Rattle.demands.proofs.SameQueues.{auctioned-alike}
+use Rattle.demands.proofs.SameQueues.{auctioned-alike, update-alike}
 use Rattle.demands.proofs.Twins.{either, Twin, Agree, twin-length, twin-alike, settled-twin, cleared-twin}
 use Rattle.demands.proofs.OlderSound.{older-sound, newer-sound}
 
@@ -76,7 +77,7 @@ module _ {n : ℕ} {o c : List Order} (d : Day) (time : ℕ) (t : Twin n o c) (s
       (either (Agree n) (eqb (firstOf (clockRules d time c (length lent))) 0)
       (λ e.
       record {
-        answer = rw (moved-alike .trades, moved-alike .day);
+        answer = rw (moved-alike .trades, moved-alike .day, update-alike _ _ (twin-alike (moved-alike .book)) (moved d time c .trades) (at time (moved d time c .day)));
         book = moved-alike .book;
         trades = rw (moved-alike .trades);
       })

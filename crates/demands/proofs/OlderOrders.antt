@@ -33,7 +33,7 @@ use Rattle.soundness.proofs.SoundDays.{sound-day, day-stands, next-new}
 use Rattle.demands.specs.Older.{rest, olderPlaced, olderRules, olderEntered, olderOrderCall}
 use Rattle.demands.proofs.Settled.{settle-length}
 use Rattle.demands.proofs.Entered.{Allowed, allowed}
-use Rattle.demands.proofs.SameQueues.{Alike, entry-alike, rest-alike, base-alike}
+use Rattle.demands.proofs.SameQueues.{Alike, entry-alike, rest-alike, base-alike, update-alike}
 use Rattle.demands.proofs.LowestPlace.{rest-length, rest-stands, rest-queue}
 use Rattle.demands.proofs.Twins.{either, Twin, Agree, twin-of, twin-stands, twin-length, twin-alike, twin-full, settled-alike, settled-twin}
 use Rattle.demands.proofs.OlderSound.{older-day, older-sound, newer-sound}
@@ -195,7 +195,7 @@ module _ {n : ℕ} {o c : List Order} (d : Day) (a : Asked) (lent : List Trade) 
     unfolding olderEntered entered
     entered-alike =
         rw (entry-alike o c (twin-alike t) d a, rest-alike o c (twin-alike t) a ts, twin-length t)
-        (record { answer = refl; book = placed-twin; trades = refl })
+        (record { answer = rw (update-alike _ _ (twin-alike placed-twin) ts _); book = placed-twin; trades = refl })
 
   pub older-order :
       Sound (orderCall d a c lent .answer .day) (orderCall d a c lent .book)

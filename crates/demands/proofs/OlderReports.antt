@@ -4,7 +4,7 @@ use mathlib.Core.Path.{_≡_}
 use mathlib.Core.List.{List}
 use Rattle.model.specs.declared.Order.{Order}
 use Rattle.model.specs.declared.Day.{Day}
-use Rattle.model.specs.ClockCall.{auctionPrice}
+use Rattle.model.specs.Auction.{auctionPrice}
 use Rattle.model.specs.AuctionCalls.{reportRules, reportCall, listRules, listCall}
 use Rattle.model.specs.Words.{Sound}
 use Rattle.demands.specs.Older.{olderRules, olderReportCall, olderListCall}

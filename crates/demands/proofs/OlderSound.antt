@@ -12,10 +12,10 @@ use Rattle.model.proofs.Bools.{and-both}
 use Rattle.book.proofs.Kept.{free-left}
 use Rattle.soundness.specs.SoundDay.{Place, SoundDay}
 use Rattle.soundness.proofs.HaltClauses.{says-halt}
-use Rattle.soundness.proofs.SoundDays.{says-anywhere, sound-day, sound-halt}
+use Rattle.soundness.proofs.SoundDays.{says-anywhere, sound-day, sound-screen, sound-halt}
 use Rattle.model.specs.Words.{Sound}
 use Rattle.demands.specs.Older.{olderUnsound}
-use Rattle.demands.proofs.SameQueues.{best-alike}
+use Rattle.demands.proofs.SameQueues.{best-alike, fits-alike}
 use Rattle.demands.proofs.Twins.{Twin, twin-alike, twin-places, twin-each, twin-total}
 
 module _ {n : ℕ} {o c : List Order} (d : Day) (t : Twin n o c) (s : Sound d c) where
@@ -42,7 +42,10 @@ module _ {n : ℕ} {o c : List Order} (d : Day) (t : Twin n o c) (s : Sound d c)
   pub older-sound : olderUnsound d o ≡ false
   unfolding olderUnsound
   older-sound =
-      ap not (and-both (and-both (twin-places t ∙ s .0) (says-anywhere d o .1 older-day)) (says-halt d .1 (sound-halt d c (s .1))))
+      ap not
+      (and-both
+      (and-both (and-both (twin-places t ∙ s .0) (says-anywhere d o .1 older-day)) (fits-alike o c (twin-alike t) d ∙ sound-screen d c (s .1)))
+      (says-halt d .1 (sound-halt d c (s .1))))
 
   pub newer-sound : unsound d c ≡ false
   unfolding unsound

@@ -95,10 +95,10 @@ module _ (d : Day) (account number : ℕ) (book : List Order) (s : Sound d book)
 
   pub cancel-own :
       (shares : ℕ)
-      → cancelCall d account number book .reply ≡ CancelReply.the-variants.Withdrawn shares
+      → cancelCall d account number book .answer .reply ≡ CancelReply.the-variants.Withdrawn shares
       → TakesOut account number shares book (cancelCall d account number book .book)
   cancel-own shares =
       cancel-cases d account number book
-      (λ o. o .reply ≡ CancelReply.the-variants.Withdrawn shares → TakesOut account number shares book (o .book))
+      (λ o. o .answer .reply ≡ CancelReply.the-variants.Withdrawn shares → TakesOut account number shares book (o .book))
       (λ z r. let e : total (λ o. o .left) (keep (isOwn account number) book) ≡ shares = cc in rw (← e) (takes-out z))
       (λ _ r. let z : _≡_ {A = ℕ} 0 1 = cc in absurd (omega arith))

@@ -14,9 +14,9 @@ use Rattle.model.specs.declared.Trade.{Trade}
 use Rattle.model.specs.declared.Day.{Day}
 use Rattle.model.specs.Book.{standsOn, queue}
 use Rattle.model.specs.Matching.{isIn}
-use Rattle.model.specs.Auction.{volume}
+use Rattle.model.specs.Auction.{volume, auctionPrice}
 use Rattle.model.specs.Pairing.{Share, cut, headLess, pair, tradesAt}
-use Rattle.model.specs.ClockCall.{auctionPrice, auctionTrades}
+use Rattle.model.specs.ClockCall.{auctionTrades}
 use Rattle.model.specs.Words.{Each}
 use Rattle.book.specs.Standing.{Fair, Standing}
 use Rattle.book.proofs.Lists.{both, each}

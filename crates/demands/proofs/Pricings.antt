@@ -12,10 +12,10 @@ use Rattle.model.specs.declared.Order.{Order}
 use Rattle.model.specs.declared.Day.{Day}
 use Rattle.model.specs.Lists.{any, from, among}
 use Rattle.model.specs.Figures.{reference}
-use Rattle.model.specs.Auction.{qualifying, leftBy}
+use Rattle.model.specs.Auction.{qualifying, leftBy, auctionPrice}
 use Rattle.model.specs.Sound.{hasPlaces, sound, crosses}
 use Rattle.model.specs.Refusals.{_when_, firstOf, unsound}
-use Rattle.model.specs.ClockCall.{auctionPrice, auctionTrades}
+use Rattle.model.specs.ClockCall.{auctionTrades}
 use Rattle.model.specs.AuctionCalls.{due, listRules, listCall}
 use Rattle.model.proofs.Bools.{and-left, and-right, not-both, true-or-false, and-both}
 use Rattle.book.specs.Standing.{Standing, Ranked}

@@ -18,6 +18,7 @@ use Rattle.model.specs.declared.Event as Event
 use Rattle.model.specs.Matching.{firstPrice}
 use Rattle.model.specs.Figures.{at, openPrice, issue, tally}
 use Rattle.model.specs.Halts.{reach, haltEnd, halting, fires}
+use Rattle.model.specs.Screen.{update}
 use Rattle.model.specs.Entry.{entryTrades}
 use Rattle.model.specs.Calls.{written, entered, orderCall}
 use Rattle.model.specs.ClockCall.{moved, clockCall}
@@ -30,7 +31,7 @@ use Rattle.soundness.proofs.SoundDays.{sound-halt}
 use Rattle.demands.specs.Running.{isOpening, Call, steppedBy, stepped, tradesOfEvent, after}
 use Rattle.demands.specs.Halting.{Away, Reached, Another, endsHalt, firingBy, firingIn}
 use Rattle.demands.proofs.Elements.{some-map, some-left, some-right, some-either}
-use Rattle.demands.proofs.Cases.{order-cases, clock-cases}
+use Rattle.demands.proofs.Cases.{order-cases, cancel-cases, clock-cases}
 use Rattle.demands.proofs.Answers.{event-sound}
 use Rattle.demands.proofs.Moved.{in-time}
 use Rattle.demands.proofs.Totals.{Prices}
@@ -56,6 +57,11 @@ pub record Reaches (d e : Day) (ts : List Trade) : Type 0 where
 -- without any
 none-reached : (d : Day) → Reaches d d []
 none-reached d = record { thirty-by = inl; sixty-by = inl; thirty = λ _ r. absurd r; sixty = λ _ r. absurd r }
+
+reaches-updated : (us : List Trade) (book : List Order) (d e : Day) (ts : List Trade) → Reaches d e ts → Reaches d (update us book e) ts
+unfolding update openPrice
+reaches-updated us book d e ts k =
+    record { thirty-by = k .thirty-by; sixty-by = k .sixty-by; thirty = k .thirty; sixty = k .sixty }
 
 -- ---- an order
 
@@ -101,7 +107,7 @@ module _ (d : Day) (a : Asked) (book : List Order) (s : Sound d book) (lent : Li
       order-cases d a book lent (λ o. Reaches d (o .answer .day) (take (o .answer .made) (o .trades)))
       (λ _.
       rw (take-at ts (drop (length ts) lent) (length ts) refl)
-      (fired-cases (λ e. Reaches d e ts) (d .time) ts next not-fired fired-now))
+      (reaches-updated ts _ d _ ts (fired-cases (λ e. Reaches d e ts) (d .time) ts next not-fired fired-now)))
       (λ _. none-reached d)
 
 -- ---- a move of the clock
@@ -171,7 +177,8 @@ module _ (d : Day) (book : List Order) (s : Sound d book) (t : ℕ) where
       clock-cases d t book lent (λ o. Reaches d (o .answer .day) (cond (endsHalt d t) (take (o .answer .made) (o .trades)) []))
       (λ z.
       rw (take-at (moved d t book .trades) (drop (length (moved d t book .trades)) lent) (length (moved d t book .trades)) refl)
-      (⊎-elim (λ k. unused k (endsHalt d t) refl) fired-again (move-either d book s t (in-time d t book lent z .0))))
+      (reaches-updated (moved d t book .trades) (moved d t book .book) d then (cond (endsHalt d t) (moved d t book .trades) [])
+      (⊎-elim (λ k. unused k (endsHalt d t) refl) fired-again (move-either d book s t (in-time d t book lent z .0)))))
       (λ _. nothing (endsHalt d t))
     where
       nothing : (b : Bool) → Reaches d d (cond b [] [])
@@ -188,7 +195,10 @@ unfolding isOpening steppedBy firingBy tradesOfEvent
 event-reaches (Event.the-variants.Open close mark) o lent s k = absurd (not-both refl o)
 event-reaches (Event.the-variants.Clock t) o lent s k = move-reaches (s .day) (s .book) k t lent
 event-reaches (Event.the-variants.Order a) o lent s k = order-reaches (s .day) a (s .book) k lent
-event-reaches (Event.the-variants.Cancel account number) o lent s k = none-reached (s .day)
+event-reaches (Event.the-variants.Cancel account number) o lent s k =
+    cancel-cases (s .day) account number (s .book) (λ o. Reaches (s .day) (o .answer .day) [])
+    (λ _. reaches-updated [] _ (s .day) (s .day) [] (none-reached (s .day)))
+    (λ _. none-reached (s .day))
 
 -- ---- once it has traded a day keeps its open
 

@@ -25,9 +25,9 @@ use Rattle.model.specs.Figures.{freshDay, at}
 use Rattle.model.specs.Refusals.{_when_, firstOf}
 use Rattle.model.specs.Lists.{keep, total}
 use Rattle.model.specs.Halts.{phaseNow}
-use Rattle.model.specs.Auction.{volume, surplus}
+use Rattle.model.specs.Auction.{volume, surplus, auctionPrice}
 use Rattle.model.specs.Calls.{Outcome, OpenOutcome, CancelOutcome, isOwn, openRules, openCall, orderRules, entered, orderCall, cancelRules, cancelCall}
-use Rattle.model.specs.ClockCall.{auctionPrice, moved, clockRules, clockCall}
+use Rattle.model.specs.ClockCall.{moved, clockRules, clockCall}
 use Rattle.model.specs.AuctionCalls.{ListOutcome, due, reportRules, reportAt, reportCall, listRules, listCall}
 use Rattle.demands.specs.Refusing.{Numbers, RefusesBy, EachRefusal, Untouched}
 use Rattle.demands.proofs.FirstRules.{refuses-by}
@@ -106,19 +106,22 @@ module _ (d : Day) (account number : ℕ) (book : List Order) where
   cancel-apart : (n : ℕ) → CancelReply.the-variants.Withdrawn (total (λ o. o .left) (keep (isOwn account number) book)) ≡ CancelReply.the-variants.Refused n → ⊥
   cancel-apart n e = let z : _≡_ {A = ℕ} 0 1 = cc in omega arith
 
-  pub cancel-refuses : RefusesBy CancelReply.the-variants.Refused (cancelRules d account number book) (cancelCall d account number book .reply)
+  pub cancel-refuses : RefusesBy CancelReply.the-variants.Refused (cancelRules d account number book) (cancelCall d account number book .answer .reply)
   unfolding cancelCall
   cancel-refuses =
-      refuses-by CancelReply.the-variants.Refused (cancelRules d account number book) (cancelCall d account number book .reply)
+      refuses-by CancelReply.the-variants.Refused (cancelRules d account number book) (cancelCall d account number book .answer .reply)
       (CancelReply.the-variants.Withdrawn (total (λ o. o .left) (keep (isOwn account number) book))) cancel-numbers (λ m n (e : CancelReply.the-variants.Refused m ≡ CancelReply.the-variants.Refused n). cc)
-      cancel-apart (part (λ (o : CancelOutcome). o .reply) (eqb (firstOf (cancelRules d account number book)) 0) _ _)
+      cancel-apart (part (λ (o : CancelOutcome). o .answer .reply) (eqb (firstOf (cancelRules d account number book)) 0) _ _)
 
   cancel-left :
       (n : ℕ)
-      → cancelCall d account number book .reply ≡ CancelReply.the-variants.Refused n
-      → cancelCall d account number book ≡ record { reply = CancelReply.the-variants.Refused (firstOf (cancelRules d account number book)); book = book }
+      → cancelCall d account number book .answer .reply ≡ CancelReply.the-variants.Refused n
+      → cancelCall d account number book ≡ record {
+        answer = record { reply = CancelReply.the-variants.Refused (firstOf (cancelRules d account number book)); day = d };
+        book = book;
+      }
   unfolding cancelCall
-  cancel-left n = second (λ (o : CancelOutcome). o .reply) (eqb (firstOf (cancelRules d account number book)) 0) _ _ (CancelReply.the-variants.Refused n) (cancel-apart n)
+  cancel-left n = second (λ (o : CancelOutcome). o .answer .reply) (eqb (firstOf (cancelRules d account number book)) 0) _ _ (CancelReply.the-variants.Refused n) (cancel-apart n)
 
 module _ (d : Day) (t : ℕ) (book : List Order) (lent : List Trade) where
   pub clock-numbers : Numbers (clockRules d t book (length lent))
@@ -217,7 +220,9 @@ untouched =
             ap (λ (o : Outcome OrderAnswer). o .book) e,
             ap (λ (o : Outcome OrderAnswer). o .trades) e,
           );
-      cancel = λ d account number n book r. ap (λ (o : CancelOutcome). o .book) (cancel-left d account number book n r);
+      cancel = λ d account number n book r.
+          let e = cancel-left d account number book n r in
+          (ap (λ (o : CancelOutcome). o .answer .day) e, ap (λ (o : CancelOutcome). o .book) e);
       clock = λ d t book lent n r.
           let e = clock-left d t book lent n r in (
             ap (λ (o : Outcome ClockAnswer). o .answer .day) e,

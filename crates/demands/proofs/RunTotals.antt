@@ -17,7 +17,7 @@ use Rattle.book.proofs.Lists.{each-append}
 use Rattle.model.proofs.Bools.{not-both}
 use Rattle.demands.specs.Totalling.{Totals}
 use Rattle.demands.specs.Running.{isOpening, Call, tradesOfEvent, tradedBy, steppedBy, stepped, after, tradesIn}
-use Rattle.demands.proofs.Totals.{Prices, totals-join, totals-none, order-totals, order-prices, clock-totals, clock-prices}
+use Rattle.demands.proofs.Totals.{Prices, totals-join, totals-none, order-totals, order-prices, cancel-totals, clock-totals, clock-prices}
 use Rattle.demands.proofs.Answers.{event-sound}
 
 pub event-prices :
@@ -38,7 +38,7 @@ unfolding isOpening tradesOfEvent steppedBy
 event-totals (Event.the-variants.Open close mark) o lent s k = absurd (not-both refl o)
 event-totals (Event.the-variants.Clock t) o lent s k = clock-totals (s .day) (s .book) k t lent
 event-totals (Event.the-variants.Order a) o lent s k = order-totals (s .day) a (s .book) lent
-event-totals (Event.the-variants.Cancel account number) o lent s k = totals-none (s .day)
+event-totals (Event.the-variants.Cancel account number) o lent s k = cancel-totals (s .day) account number (s .book)
 
 pub run-prices : (es : List Call) (s : Desk) → Sound (s .day) (s .book) → Prices (tradesIn es s)
 unfolding tradesIn

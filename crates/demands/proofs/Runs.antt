@@ -1,16 +1,18 @@
 -- Demand 2 for any run from an accepted opening. Assumes nothing.
 use Prim.Native.Nat.{ℕ, suc}
-use mathlib.Core.Path.{_≡_, sym, ap, _∙_}
+use mathlib.Core.Path.{_≡_, sym, ap, ap₂, subst, _∙_}
 use mathlib.Core.List.{List, [], _∷_}
 use native.Mathlib.Omega.{arith}
 use lib.ListN.{getD, length}
 use Rattle.model.specs.declared.Order.{Order}
+use Rattle.model.specs.declared.Screen.{Screen}
 use Rattle.model.specs.declared.Day.{Day}
 use Rattle.model.specs.declared.CancelReply as CancelReply
 use Rattle.model.specs.Lists.{from}
 use Rattle.model.specs.Book.{free}
-use Rattle.model.specs.Matching.{firstPrice, lastPrice}
-use Rattle.model.specs.Figures.{freshDay, openPrice, closePrice}
+use Rattle.model.specs.Matching.{filled, firstPrice, lastPrice, highest, lowest}
+use Rattle.model.specs.Figures.{noScreen, freshDay, money, openPrice, closePrice}
+use Rattle.model.specs.Screen.{screenOf, highWith, lowWith}
 use Rattle.model.specs.Calls.{cancelCall}
 use Rattle.model.specs.Session.{Desk}
 use Rattle.model.specs.Words.{Each, Some, Sound}
@@ -24,6 +26,8 @@ use Rattle.demands.proofs.Answers.{event-sound, event-not-15}
 use Rattle.demands.proofs.Issued.{run-counts}
 use Rattle.demands.proofs.Owned.{Known, Owned, run-owned}
 use Rattle.demands.proofs.RunTotals.{run-prices, run-totals, close-is}
+use Rattle.demands.proofs.Screened.{sound-counted}
+use Rattle.demands.proofs.ScreenRuns.{Goes, run-goes}
 use Rattle.demands.proofs.Owns.{cancel-own}
 use Rattle.demands.proofs.Elements.{some-map}
 
@@ -62,7 +66,7 @@ module _ (s : Desk) (f : Fresh s) where
 
   cancels-own :
       (es : List Call) (account number shares : ℕ)
-      → cancelCall (after es s .day) account number (after es s .book) .reply ≡ CancelReply.the-variants.Withdrawn shares
+      → cancelCall (after es s .day) account number (after es s .book) .answer .reply ≡ CancelReply.the-variants.Withdrawn shares
       → Some (λ (w : Owner). (w .number ≡ number) × (w .account ≡ account)) (acceptedIn es s)
   cancels-own es account number shares r =
       let t = cancel-own (after es s .day) account number (after es s .book) (run-sound es s fresh-sound) shares r in
@@ -91,10 +95,45 @@ module _ (s : Desk) (f : Fresh s) where
       close-is (after es s .day) (tradesIn es s) (run-prices es s fresh-sound)
       (totals es .last ∙ ap (λ (p : ℕ). lastPrice p (tradesIn es s)) (untraded .3))
 
+  blank : s .day .screen ≡ noScreen
+  unfolding freshDay
+  blank = ap (λ (d : Day). d .screen) is-fresh
+
+  -- from a screen of zeros
+  from-blank : (es : List Call) → Goes noScreen (after es s .day .screen) (tradesIn es s)
+  from-blank es = subst (λ (x : Screen). Goes x (after es s .day .screen) (tradesIn es s)) blank (run-goes es s fresh-sound)
+
+  counted-high : (es : List Call) → after es s .day .screen .high ≡ highest (firstPrice 0 (tradesIn es s)) (tradesIn es s)
+  unfolding highWith noScreen
+  counted-high es = from-blank es .high
+
+  counted-low : (es : List Call) → after es s .day .screen .low ≡ lowest (firstPrice 0 (tradesIn es s)) (tradesIn es s)
+  unfolding lowWith noScreen
+  counted-low es = from-blank es .low
+
+  counted-last : (es : List Call) → after es s .day .screen .last ≡ lastPrice 0 (tradesIn es s)
+  unfolding noScreen
+  counted-last es = from-blank es .last
+
+  counted :
+      (es : List Call)
+      → after es s .day .screen ≡ screenOf (after es s .day) (after es s .book) (after es s .day .screen .high) (after es s .day .screen .low)
+  counted es = sound-counted (after es s .day) (after es s .book) (run-sound es s fresh-sound)
+
+  screen-shares : (es : List Call) → after es s .day .screen .shares ≡ after es s .day .shares
+  unfolding screenOf
+  screen-shares es = ap (λ (x : Screen). x .shares) (counted es)
+
+  screen-turnover : (es : List Call) → after es s .day .screen .turnover ≡ after es s .day .turnover
+  unfolding screenOf
+  screen-turnover es = ap (λ (x : Screen). x .turnover) (counted es)
+
   pub running : (es : List Call) → Running es s
   running es =
       let k = run-sound es s fresh-sound in
       let c = run-counts es s in
+      let all-shares : after es s .day .shares ≡ filled (tradesIn es s) = omega (arith, totals es .shares, untraded .0) in
+      let all-turnover : after es s .day .turnover ≡ money (tradesIn es s) = omega (arith, totals es .turnover, untraded .1) in
       record {
         never-unsound = run-not-15 es s fresh-sound;
         kept = k;
@@ -102,9 +141,15 @@ module _ (s : Desk) (f : Fresh s) where
         counted = omega (arith, c .count, none-issued);
         theirs = theirs es;
         apart = sound-day (after es s .day) (after es s .book) (k .1) .apart;
-        shares = omega (arith, totals es .shares, untraded .0);
-        turnover = omega (arith, totals es .turnover, untraded .1);
+        shares = all-shares;
+        turnover = all-turnover;
         opens-at = first-traded es;
         closes-at = last-traded es;
+        screen =
+            counted es
+            ∙ ap₂ (screenOf (after es s .day) (after es s .book)) (counted-high es) (counted-low es);
+        screen-last = counted-last es;
+        screen-shares = screen-shares es ∙ all-shares;
+        screen-turnover = screen-turnover es ∙ all-turnover;
         cancels-own = cancels-own es;
       }

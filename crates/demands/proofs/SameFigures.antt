@@ -1,5 +1,5 @@
--- A day of which the time or the halt alone changes: its figures are the same, and it fits its book as before. What fires changes no figure
--- either. Assumes nothing.
+-- A day of which the time, the halt or the screen alone changes: its figures are the same, and it fits its book as before. What fires changes
+-- no figure either. Assumes nothing.
 use Prim.Native.Nat.{ℕ}
 use mathlib.Core.Path.{_≡_, refl, sym, _∙_}
 use mathlib.Core.List.{List}
@@ -7,9 +7,12 @@ use native.Mathlib.Omega.{arith}
 use Rattle.model.specs.declared.Order.{Order}
 use Rattle.model.specs.declared.Trade.{Trade}
 use Rattle.model.specs.declared.Day.{Day}
-use Rattle.model.specs.Figures.{at}
+use Rattle.model.specs.Clock.{passed}
+use Rattle.model.specs.Figures.{at, issue, tally}
 use Rattle.model.specs.Halts.{halting, fired, resumed}
-use Rattle.model.specs.ClockCall.{Held, auction, resume}
+use Rattle.model.specs.Screen.{update}
+use Rattle.model.specs.ClockCall.{Held, auction, resume, lapse, pass, start, moved}
+use Rattle.model.proofs.Seconds.{pass-cases, through-keeps}
 use Rattle.halts.proofs.Kept.{fired-cases, resume-cases}
 use Rattle.demands.proofs.Wholes.{Whole}
 use Rattle.demands.proofs.Settled.{places-later}
@@ -31,6 +34,11 @@ same-at t d =
 pub same-halting : (end used30 used60 : ℕ) (d : Day) → SameFigures d (halting end used30 used60 d)
 unfolding halting
 same-halting end used30 used60 d =
+    record { close = refl; limited = refl; issued = refl; shares = refl; turnover = refl; first = refl; last = refl }
+
+pub same-update : (ts : List Trade) (book : List Order) (d : Day) → SameFigures d (update ts book d)
+unfolding update
+same-update ts book d =
     record { close = refl; limited = refl; issued = refl; shares = refl; turnover = refl; first = refl; last = refl }
 
 same-itself : (d : Day) → SameFigures d d
@@ -59,10 +67,30 @@ same-resumed s h =
     let e = halting 0 (d .used30) (d .used60) d in
     resume-cases (SameFigures d) s h (same-halting _ _ _ d) (λ _ _. same-then d e _ (same-halting _ _ _ d) (same-halting _ _ _ e))
 
--- nor the time
+-- nor the time, nor the screen
 pub fired-time : (s : ℕ) (ts : List Trade) (d : Day) → fired s ts d .time ≡ d .time
 unfolding halting
 fired-time s ts d = fired-cases (λ e. e .time ≡ d .time) s ts d (λ _. refl) (λ _. refl)
+
+fired-screen : (s : ℕ) (ts : List Trade) (d : Day) → fired s ts d .screen ≡ d .screen
+unfolding halting
+fired-screen s ts d = fired-cases (λ e. e .screen ≡ d .screen) s ts d (λ _. refl) (λ _. refl)
+
+pub entered-screen : (d : Day) (ts : List Trade) → fired (d .time) ts (tally ts (issue d)) .screen ≡ d .screen
+unfolding tally issue
+entered-screen d ts = fired-screen (d .time) ts (tally ts (issue d))
+
+resumed-screen : (s : ℕ) (h : Held) → resume s h .day .screen ≡ auction h .day .screen
+unfolding resumed halting
+resumed-screen s h = resume-cases (λ e. e .screen ≡ auction h .day .screen) s h refl (λ _ _. refl)
+
+pub moved-screen : (d : Day) (t : ℕ) (book : List Order) → moved d t book .day .screen ≡ d .screen
+unfolding moved start
+moved-screen d t book = through-keeps (λ k. k .day .screen ≡ d .screen) passing (passed (d .time) t) (start d book) refl
+  where
+    passing : (s : ℕ) (h : Held) → h .day .screen ≡ d .screen → pass s h .day .screen ≡ d .screen
+    passing s h e = unfold auction lapse tally in
+        pass-cases (λ k. k .day .screen ≡ d .screen) s h (λ _. e) (λ _. resumed-screen s h ∙ e) (λ _. e) (λ _ _ _. e)
 
 pub same-back : (d e : Day) → SameFigures d e → SameFigures e d
 same-back d e f =

@@ -11,27 +11,11 @@ use Rattle.model.specs.declared.Day.{Day}
 use Rattle.model.specs.Lists.{keep, total}
 use Rattle.model.specs.Book.{standsOn, queue, other, headPrice, best}
 use Rattle.model.specs.Entry.{bestWithin, entryPrice, opposite, entryTrades, restPrice, base}
-use Rattle.model.specs.Auction.{
-  prices,
-  sharesOf,
-  demand,
-  supply,
-  volume,
-  buysAbove,
-  sellsBelow,
-  buysAt,
-  sellsAt,
-  mostTrades,
-  betterFill,
-  oneSideFills,
-  qualifies,
-  qualifying,
-  leastDifference,
-  leftBy,
-  surplus,
-}
+use Rattle.model.specs.Auction.{prices, sharesOf, demand, supply, volume, buysAbove, sellsBelow, buysAt, sellsAt, mostTrades, betterFill, oneSideFills, qualifies, qualifying, leastDifference, leftBy, surplus, auctionPrice}
+use Rattle.model.specs.Screen.{levelAt, levelsOf, shownPrice, screenOf, highWith, lowWith, update}
+use Rattle.model.specs.Sound.{screenFits}
 use Rattle.model.specs.Pairing.{tradesAt}
-use Rattle.model.specs.ClockCall.{auctionPrice, auctionTrades}
+use Rattle.model.specs.ClockCall.{auctionTrades}
 use Rattle.model.specs.AuctionCalls.{reportAt, due}
 use Rattle.book.proofs.Lists.{keep-keep, total-kept}
 use Rattle.book.proofs.Queues.{total-queue}
@@ -154,6 +138,31 @@ module _ (o c : List Order) (same : Alike o c) where
   pub auctioned-alike : (d : Day) → auctionTrades d o ≡ auctionTrades d c
   unfolding auctionTrades
   auctioned-alike d = rw (auction-alike d, trades-alike (auctionPrice d c))
+
+  -- ---- on the screen
+
+  levels-alike : (side : ℕ) → levelsOf side o ≡ levelsOf side c
+  unfolding levelsOf
+  levels-alike side =
+      let at : levelAt side o ≡ levelAt side c = unfold levelAt in fun-ext (λ p. rw (shares-alike side (λ x. eqb (x .price) p))) in
+      rw (at, same side)
+
+  shown-alike : (d : Day) → shownPrice d o ≡ shownPrice d c
+  unfolding shownPrice
+  shown-alike d = rw (auction-alike d)
+
+  screen-alike : (d : Day) (high low : ℕ) → screenOf d o high low ≡ screenOf d c high low
+  unfolding screenOf surplus
+  screen-alike d high low =
+      rw (levels-alike 0, levels-alike 1, shown-alike d, volume-alike, demand-alike, supply-alike)
+
+  pub update-alike : (ts : List Trade) (d : Day) → update ts o d ≡ update ts c d
+  unfolding update
+  update-alike ts d = rw (screen-alike d (highWith ts (d .screen)) (lowWith ts (d .screen)))
+
+  pub fits-alike : (d : Day) → screenFits d o ≡ screenFits d c
+  unfolding screenFits
+  fits-alike d = rw (screen-alike d (d .screen .high) (d .screen .low))
 
   -- ---- in a report and in the price list
 

@@ -25,6 +25,7 @@ use Rattle.soundness.specs.SoundDay.{HaltDay}
 use Rattle.soundness.proofs.Says.{Says, says-le, says-eq, says-and, says-or}
 use Rattle.soundness.proofs.SoundDays.{sound-halt}
 use Rattle.demands.specs.Halting.{Away, Reached, Fires, EndsAt, ByOrder}
+use Rattle.demands.proofs.HaltUpdates.{by-order-updated}
 use Rattle.demands.proofs.Cases.{order-cases}
 use Rattle.demands.proofs.Hours.{now-continuous, phase-halted}
 use Rattle.demands.proofs.Firing.{fires-some, traded-now}
@@ -112,7 +113,7 @@ module _ (d : Day) (a : Asked) (book : List Order) (s : Sound d book) where
   order-starts lent =
       order-cases d a book lent (λ o. ByOrder d (take (o .answer .made) (o .trades)) (o .answer .day))
       (λ _.
-      rw (take-at ts (drop (length ts) lent) (length ts) refl) (fired-cases (ByOrder d ts) (d .time) ts next not-fired fired-now))
+      rw (take-at ts (drop (length ts) lent) (length ts) refl) (by-order-updated ts _ d _ ts (fired-cases (ByOrder d ts) (d .time) ts next not-fired fired-now)))
       (λ _.
       record {
         begins = λ f. absurd (none (openPrice d) f);

@@ -2,7 +2,7 @@
 use Prim.Native.Nat.{ℕ, _+_, _*_, _≤_}
 use mathlib.Core.Path.{_≡_, refl}
 use mathlib.Core.Bool.{Bool, true, false, cond}
-use mathlib.Core.List.{List, [], _∷_}
+use mathlib.Core.List.{List, [], _∷_, _++_}
 use native.Mathlib.Nat.{mul-le-mul-right}
 use native.Mathlib.Omega.{arith}
 use lib.Dec.{eqb}
@@ -13,13 +13,34 @@ use Rattle.model.specs.Lists.{total}
 use Rattle.model.specs.Matching.{filled, firstPrice, lastPrice}
 use Rattle.model.specs.Figures.{money, tally}
 use Rattle.model.specs.Words.{Each, Price}
+use Rattle.book.proofs.Lists.{each-append}
 use Rattle.matching.proofs.EntryLaws.{last-has}
 use Rattle.demands.proofs.Wholes.{Traded}
+
+-- ---- trades
+
+pub total-append : (f : Trade → ℕ) (ts us : List Trade) → total f (ts ++ us) ≡ total f ts + total f us
+unfolding total
+total-append f [] us = omega arith
+total-append f (t ∷ ts) us = omega (arith, total-append f ts us)
 
 -- trades at prices; where nothing was filled there is none
 pub record Proper (ts : List Trade) : Type 0 where
   pub priced : Each (λ (t : Trade). Price (t .price)) ts
   pub some : filled ts ≡ 0 → ts ≡ []
+
+pub proper-none : Proper []
+proper-none = record { priced = tt; some = λ _. refl }
+
+pub proper-append : (ts us : List Trade) → Proper ts → Proper us → Proper (ts ++ us)
+unfolding filled
+proper-append ts us p q =
+    record {
+      priced = each-append (λ (t : Trade). Price (t .price)) ts us (p .priced) (q .priced);
+      some = λ z.
+          let n = total-append (λ (t : Trade). t .quantity) ts us in
+          rw (p .some (omega (arith, z, n)), q .some (omega (arith, z, n)));
+    }
 
 -- ---- money
 

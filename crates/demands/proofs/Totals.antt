@@ -1,4 +1,4 @@
--- The day's totals through the trades of an order, and through those of one auction after the other. Assumes nothing.
+-- The day's totals through a cancel, through the trades of an order, and through those of one auction after the other. Assumes nothing.
 use Prim.Native.Nat.{ℕ, _+_, _*_}
 use mathlib.Core.Path.{_≡_, refl, sym, _∙_}
 use mathlib.Core.Bool.{Bool, true, false, cond}
@@ -16,33 +16,30 @@ use Rattle.model.specs.Lists.{total}
 use Rattle.model.specs.Clock.{passed}
 use Rattle.model.specs.Matching.{filled, firstPrice, lastPrice}
 use Rattle.model.specs.Figures.{at, issue, money, tally}
+use Rattle.model.specs.Halts.{fired}
+use Rattle.model.specs.Screen.{update}
 use Rattle.model.specs.Entry.{entryTrades}
-use Rattle.model.specs.Calls.{written, entered, orderCall}
+use Rattle.model.specs.Calls.{written, entered, orderCall, cancelCall}
 use Rattle.model.specs.ClockCall.{auctionTrades, Held, auction, resume, lapse, pass, start, moved, clockCall}
 use Rattle.model.specs.Words.{Each, Price, Sound}
 use Rattle.model.proofs.Seconds.{pass-cases, through-keeps}
 use Rattle.book.specs.Standing.{Standing}
-use Rattle.book.proofs.Lists.{each-append}
 use Rattle.book.proofs.Kept.{standing-cleared}
 use Rattle.pairing.proofs.Auctions.{afterwards-stands}
 use Rattle.demands.specs.Totalling.{Totals}
-use Rattle.demands.proofs.Cases.{order-cases, clock-cases}
+use Rattle.demands.proofs.Cases.{order-cases, cancel-cases, clock-cases}
 use Rattle.demands.proofs.Entered.{allowed, entered-prices}
 use Rattle.demands.proofs.Moved.{auction-proper}
 use Rattle.demands.proofs.Pricings.{sound-stands}
-use Rattle.demands.proofs.SameFigures.{SameFigures, same-fired, same-resumed}
+use Rattle.demands.proofs.Tallied.{Proper, total-append, proper-none, proper-append}
+use Rattle.demands.proofs.SameFigures.{SameFigures, same-update, same-fired, same-resumed}
 
 abbrev pub Prices : List Trade → Type 0
 Prices ts = Each (λ (t : Trade). Price (t .price)) ts
 
 -- ---- trades behind others
 
-total-append : (f : Trade → ℕ) (ts us : List Trade) → total f (ts ++ us) ≡ total f ts + total f us
-unfolding total
-total-append f [] us = omega arith
-total-append f (t ∷ ts) us = omega (arith, total-append f ts us)
-
-last-append : (p : ℕ) (ts us : List Trade) → lastPrice p (ts ++ us) ≡ lastPrice (lastPrice p ts) us
+pub last-append : (p : ℕ) (ts us : List Trade) → lastPrice p (ts ++ us) ≡ lastPrice (lastPrice p ts) us
 unfolding lastPrice
 last-append p [] us = refl
 last-append p (t ∷ ts) us = last-append (t .price) ts us
@@ -92,7 +89,7 @@ totals-none d =
     go true e = eqb-true (d .first) 0 e
     go false e = refl
 
--- what fires changes none of them
+-- what fires changes none of them, nor does the screen
 totals-same : (d e f : Day) (ts : List Trade) → SameFigures e f → Totals d e ts → Totals d f ts
 totals-same d e f ts x k =
     record {
@@ -102,18 +99,33 @@ totals-same d e f ts x k =
       last = x .last ∙ k .last;
     }
 
--- ---- an order
+totals-updated :
+    (d e : Day) (book : List Order) (ts : List Trade) → Totals d e ts → Totals d (update ts book e) ts
+totals-updated d e book ts = totals-same d e (update ts book e) ts (same-update ts book e)
+
+-- ---- a cancel, and an order
+
+pub cancel-totals : (d : Day) (account number : ℕ) (book : List Order) → Totals d (cancelCall d account number book .answer .day) []
+cancel-totals d account number book =
+    cancel-cases d account number book (λ o. Totals d (o .answer .day) []) (λ _. totals-updated d d _ [] (totals-none d)) (λ _. totals-none d)
+
+pub entered-totals :
+    (d : Day) (a : Asked) (book : List Order)
+    → let ts : List Trade = entryTrades d a book in Totals d (fired (d .time) ts (tally ts (issue d))) ts
+unfolding tally issue
+entered-totals d a book =
+    totals-same d _ _ _ (same-fired (d .time) (entryTrades d a book) (tally (entryTrades d a book) (issue d)))
+    (record { shares = refl; turnover = refl; first = refl; last = refl })
 
 pub order-totals :
     (d : Day) (a : Asked) (book : List Order) (lent : List Trade)
     → Totals d (orderCall d a book lent .answer .day) (take (orderCall d a book lent .answer .made) (orderCall d a book lent .trades))
-unfolding entered written tally issue
+unfolding entered written
 order-totals d a book lent =
     order-cases d a book lent (λ o. Totals d (o .answer .day) (take (o .answer .made) (o .trades)))
     (λ _.
     rw (take-at (entryTrades d a book) (drop (length (entryTrades d a book)) lent) (length (entryTrades d a book)) refl)
-    (totals-same d _ _ _ (same-fired (d .time) (entryTrades d a book) (tally (entryTrades d a book) (issue d)))
-    (record { shares = refl; turnover = refl; first = refl; last = refl })))
+    (totals-updated d _ _ _ (entered-totals d a book)))
     (λ _. totals-none d)
 
 pub order-prices :
@@ -133,7 +145,7 @@ order-prices d a book lent s =
 -- the figures so far, in the middle of a move
 record SoFar (d : Day) (h : Held) : Type 0 where
   stands : Standing (h .book)
-  prices : Prices (h .trades)
+  proper : Proper (h .trades)
   totals : Totals d (h .day) (h .trades)
 
 module _ (d : Day) where
@@ -143,8 +155,8 @@ module _ (d : Day) where
       let ts = auctionTrades (h .day) (h .book) in
       record {
         stands = afterwards-stands (h .book) (k .stands) (h .day);
-        prices = each-append (λ (t : Trade). Price (t .price)) (h .trades) ts (k .prices) (auction-proper h (k .stands) .priced);
-        totals = totals-join d (h .day) (tally ts (h .day)) (h .trades) ts (k .prices) (k .totals) (totals-tally (h .day) ts);
+        proper = proper-append (h .trades) ts (k .proper) (auction-proper h (k .stands));
+        totals = totals-join d (h .day) (tally ts (h .day)) (h .trades) ts (k .proper .priced) (k .totals) (totals-tally (h .day) ts);
       }
 
   pass-totals : (s : ℕ) (h : Held) → SoFar d h → SoFar d (pass s h)
@@ -155,10 +167,10 @@ module _ (d : Day) where
       (λ _.
       record {
         stands = a .stands;
-        prices = a .prices;
+        proper = a .proper;
         totals = totals-same d (auction h .day) (resume s h .day) (auction h .trades) (same-resumed s h) (a .totals);
       })
-      (λ _. record { stands = standing-cleared (auction h .book); prices = a .prices; totals = a .totals })
+      (λ _. record { stands = standing-cleared (auction h .book); proper = a .proper; totals = a .totals })
       (λ _ _ _. k)
 
   module _ (book : List Order) (s : Sound d book) where
@@ -167,7 +179,10 @@ module _ (d : Day) where
     so-far t = through-keeps (SoFar d) pass-totals (passed (d .time) t) (start d book) begun
       where
         begun : SoFar d (start d book)
-        begun = unfold start in record { stands = sound-stands d book s; prices = tt; totals = totals-none d }
+        begun = unfold start in record { stands = sound-stands d book s; proper = proper-none; totals = totals-none d }
+
+    pub moved-proper : (t : ℕ) → Proper (moved d t book .trades)
+    moved-proper t = so-far t .proper
 
     pub moved-totals : (t : ℕ) → Totals d (at t (moved d t book .day)) (moved d t book .trades)
     unfolding at
@@ -182,7 +197,7 @@ module _ (d : Day) where
         clock-cases d t book lent (λ o. Prices (take (o .answer .made) (o .trades)))
         (λ _.
         rw (take-at (moved d t book .trades) (drop (length (moved d t book .trades)) lent) (length (moved d t book .trades)) refl)
-        (so-far t .prices))
+        (moved-proper t .priced))
         (λ _. tt)
 
     pub clock-totals :
@@ -193,5 +208,5 @@ module _ (d : Day) where
         clock-cases d t book lent (λ o. Totals d (o .answer .day) (take (o .answer .made) (o .trades)))
         (λ _.
         rw (take-at (moved d t book .trades) (drop (length (moved d t book .trades)) lent) (length (moved d t book .trades)) refl)
-        (moved-totals t))
+        (totals-updated d (at t (moved d t book .day)) (moved d t book .book) (moved d t book .trades) (moved-totals t)))
         (λ _. totals-none d)

@@ -22,7 +22,7 @@ use Rattle.model.specs.Clock.{phaseAt, takesOrders, takesCancels}
 use Rattle.model.specs.Figures.{reference, openPrice}
 use Rattle.model.specs.Halts.{phaseNow}
 use Rattle.model.specs.Auction.{qualifying}
-use Rattle.model.specs.Calls.{Outcome, orderCall}
+use Rattle.model.specs.Calls.{Outcome, orderCall, cancelCall}
 use Rattle.model.specs.ClockCall.{clockCall}
 use Rattle.model.specs.Session.{Desk}
 use Rattle.model.specs.Words.{Some, Sound}
@@ -186,6 +186,8 @@ pub record Halting : Type 0 where
       → Sound d book
       → let o : Outcome ClockAnswer = clockCall d t book lent in
       o .answer .reply ≡ ClockReply.the-variants.Moved phase made → ByMove d t (take made (o .trades)) (o .answer .day)
+  -- nor does a cancel start or end one
+  pub cancel : (d : Day) (account number : ℕ) (book : List Order) → Unchanged d (cancelCall d account number book .answer .day)
   -- the auction at its end: the price list, the one price left, and the trades there
   pub auction :
       (d : Day) (t : ℕ) (book : List Order) (lent : List Trade) (phase made : ℕ)

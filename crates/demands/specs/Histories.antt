@@ -73,7 +73,7 @@ module _ (e : Engine) where
   eventSeen (Event.the-variants.Order a) lent s =
       let o : Outcome OrderAnswer = e .order (s .day) a (s .book) lent in Entered (o .answer .reply) (o .answer .made) (o .trades)
   eventSeen (Event.the-variants.Cancel account number) lent s =
-      Cancelled (e .cancel (s .day) account number (s .book) .reply)
+      Cancelled (e .cancel (s .day) account number (s .book) .answer .reply)
 
   unfoldable pub seen : AnyCall → Desk → Seen
   seen (Happens c) s = eventSeen (c .event) (c .lent) s
@@ -89,7 +89,8 @@ module _ (e : Engine) where
   eventDesk (Event.the-variants.Order a) lent s =
       let o : Outcome OrderAnswer = e .order (s .day) a (s .book) lent in record { day = o .answer .day; book = o .book }
   eventDesk (Event.the-variants.Cancel account number) lent s =
-      record { day = s .day; book = e .cancel (s .day) account number (s .book) .book }
+      let o : CancelOutcome = e .cancel (s .day) account number (s .book) in
+      record { day = o .answer .day; book = o .book }
 
   unfoldable pub stepped : AnyCall → Desk → Desk
   stepped (Happens c) s = eventDesk (c .event) (c .lent) s

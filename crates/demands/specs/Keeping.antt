@@ -21,7 +21,9 @@ pub record Keeping : Type 0 where
       → Sound d book
       → Sound (orderCall d a book lent .answer .day) (orderCall d a book lent .book)
   pub cancel-kept :
-      (d : Day) (account number : ℕ) (book : List Order) → Sound d book → Sound d (cancelCall d account number book .book)
+      (d : Day) (account number : ℕ) (book : List Order)
+      → Sound d book
+      → Sound (cancelCall d account number book .answer .day) (cancelCall d account number book .book)
   pub clock-kept :
       (d : Day) (t : ℕ) (book : List Order) (lent : List Trade)
       → Sound d book

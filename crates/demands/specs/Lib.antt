@@ -4,6 +4,7 @@ pub mod Reading
 pub mod Pricing
 pub mod Conditions
 pub mod Keeping
+pub mod Screening
 pub mod Running
 pub mod Entering
 pub mod Totalling

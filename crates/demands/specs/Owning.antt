@@ -51,7 +51,7 @@ pub record OwnOnly : Type 0 where
   pub cancel :
       (d : Day) (account number shares : ℕ) (book : List Order)
       → Sound d book
-      → cancelCall d account number book .reply ≡ CancelReply.the-variants.Withdrawn shares
+      → cancelCall d account number book .answer .reply ≡ CancelReply.the-variants.Withdrawn shares
       → TakesOut account number shares book (cancelCall d account number book .book)
   pub order :
       (d : Day) (a : Asked) (book : List Order) (lent : List Trade)

@@ -16,9 +16,9 @@ use Rattle.model.specs.Clock.{passed}
 use Rattle.model.specs.Book.{standsOn, queue, arranged}
 use Rattle.model.specs.Matching.{filled, filledOf, settle}
 use Rattle.model.specs.Figures.{reference}
-use Rattle.model.specs.Auction.{volume, qualifying, leftBy}
+use Rattle.model.specs.Auction.{volume, qualifying, leftBy, auctionPrice}
 use Rattle.model.specs.Pairing.{cut}
-use Rattle.model.specs.ClockCall.{auctionPrice, auctionTrades, Held, pass, start, clockCall}
+use Rattle.model.specs.ClockCall.{auctionTrades, Held, pass, start, clockCall}
 use Rattle.model.specs.AuctionCalls.{due, listCall}
 use Rattle.model.specs.Words.{Each, Some, Rising, Sound, Qualifies, granted}
 

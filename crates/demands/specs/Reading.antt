@@ -69,7 +69,7 @@ pub record CallNumbers : Type 0 where
       → UpTo15 OrderReply.the-variants.Refused (orderCall d a book lent .answer .reply)
   pub cancel :
       (d : Day) (account number : ℕ) (book : List Order)
-      → UpTo15 CancelReply.the-variants.Refused (cancelCall d account number book .reply)
+      → UpTo15 CancelReply.the-variants.Refused (cancelCall d account number book .answer .reply)
   pub clock :
       (d : Day) (t : ℕ) (book : List Order) (lent : List Trade)
       → UpTo15 ClockReply.the-variants.Refused (clockCall d t book lent .answer .reply)

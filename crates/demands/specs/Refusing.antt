@@ -61,7 +61,7 @@ pub record EachRefusal : Type 0 where
   pub cancel :
       (d : Day) (account number : ℕ) (book : List Order)
       → RefusesBy CancelReply.the-variants.Refused (cancelRules d account number book)
-      (cancelCall d account number book .reply)
+      (cancelCall d account number book .answer .reply)
   pub clock :
       (d : Day) (t : ℕ) (book : List Order) (lent : List Trade)
       → RefusesBy ClockReply.the-variants.Refused (clockRules d t book (length lent)) (clockCall d t book lent .answer .reply)
@@ -71,7 +71,7 @@ pub record EachRefusal : Type 0 where
       (d : Day) (asked : ℕ) (book : List Order) (lent : List ℕ)
       → RefusesBy ListReply.the-variants.Refused (listRules d book) (listCall d asked book lent .reply)
 
--- a refused call leaves the book, the day that is handed back and the lent list as they were. A cancel and the two auction
+-- a refused call leaves the book, the day that is handed back, its screen with it, and the lent list as they were. The two auction
 -- calls hand no day back, the report is lent no list, and the auction calls cannot change the book.
 pub record Untouched : Type 0 where
   pub opening :
@@ -87,8 +87,8 @@ pub record Untouched : Type 0 where
       × (orderCall d a book lent .trades ≡ lent)
   pub cancel :
       (d : Day) (account number n : ℕ) (book : List Order)
-      → cancelCall d account number book .reply ≡ CancelReply.the-variants.Refused n
-      → cancelCall d account number book .book ≡ book
+      → cancelCall d account number book .answer .reply ≡ CancelReply.the-variants.Refused n
+      → (cancelCall d account number book .answer .day ≡ d) × (cancelCall d account number book .book ≡ book)
   pub clock :
       (d : Day) (t : ℕ) (book : List Order) (lent : List Trade) (n : ℕ)
       → clockCall d t book lent .answer .reply ≡ ClockReply.the-variants.Refused n

@@ -12,8 +12,9 @@ use Rattle.model.specs.declared.OpenReply as OpenReply
 use Rattle.model.specs.declared.OrderReply as OrderReply
 use Rattle.model.specs.declared.CancelReply as CancelReply
 use Rattle.model.specs.Lists.{from}
-use Rattle.model.specs.Matching.{filled, firstPrice, lastPrice}
+use Rattle.model.specs.Matching.{filled, firstPrice, lastPrice, highest, lowest}
 use Rattle.model.specs.Figures.{money, openPrice, closePrice}
+use Rattle.model.specs.Screen.{screenOf}
 use Rattle.model.specs.Calls.{OpenOutcome, openCall, orderCall, cancelCall}
 use Rattle.model.specs.ClockCall.{clockCall}
 use Rattle.model.specs.Replies.{openNumbers, orderNumbers, cancelNumbers, clockNumbers}
@@ -52,7 +53,7 @@ answeredBy (Event.the-variants.Open close mark) lent s = openNumbers (openCall c
 answeredBy (Event.the-variants.Clock t) lent s = clockNumbers (clockCall (s .day) t (s .book) lent .answer .reply)
 answeredBy (Event.the-variants.Order a) lent s = orderNumbers (orderCall (s .day) a (s .book) lent .answer .reply)
 answeredBy (Event.the-variants.Cancel account number) lent s =
-    cancelNumbers (cancelCall (s .day) account number (s .book) .reply)
+    cancelNumbers (cancelCall (s .day) account number (s .book) .answer .reply)
 
 abbrev pub answered : Call → Desk → List ℕ
 answered c s = answeredBy (c .event) (c .lent) s
@@ -79,7 +80,10 @@ steppedBy (Event.the-variants.Order a) lent s =
       book = orderCall (s .day) a (s .book) lent .book;
     }
 steppedBy (Event.the-variants.Cancel account number) lent s =
-    record { day = s .day; book = cancelCall (s .day) account number (s .book) .book }
+    record {
+      day = cancelCall (s .day) account number (s .book) .answer .day;
+      book = cancelCall (s .day) account number (s .book) .book;
+    }
 
 abbrev pub stepped : Call → Desk → Desk
 stepped c s = steppedBy (c .event) (c .lent) s
@@ -164,8 +168,16 @@ pub record Running (cs : List Call) (s : Desk) : Type 0 where
   pub turnover : after cs s .day .turnover ≡ money (tradesIn cs s)
   pub opens-at : openPrice (after cs s .day) ≡ firstPrice 0 (tradesIn cs s)
   pub closes-at : closePrice (after cs s .day) ≡ lastPrice (after cs s .day .close) (tradesIn cs s)
+  -- the screen is a fresh count over the book and all trades of the run
+  pub screen :
+      after cs s .day .screen
+      ≡ screenOf (after cs s .day) (after cs s .book) (highest (firstPrice 0 (tradesIn cs s)) (tradesIn cs s))
+      (lowest (firstPrice 0 (tradesIn cs s)) (tradesIn cs s))
+  pub screen-last : after cs s .day .screen .last ≡ lastPrice 0 (tradesIn cs s)
+  pub screen-shares : after cs s .day .screen .shares ≡ filled (tradesIn cs s)
+  pub screen-turnover : after cs s .day .screen .turnover ≡ money (tradesIn cs s)
   -- a cancel that is taken after it takes out an order that was accepted for that account
   pub cancels-own :
       (account number shares : ℕ)
-      → cancelCall (after cs s .day) account number (after cs s .book) .reply ≡ CancelReply.the-variants.Withdrawn shares
+      → cancelCall (after cs s .day) account number (after cs s .book) .answer .reply ≡ CancelReply.the-variants.Withdrawn shares
       → Some (λ (w : Owner). (w .number ≡ number) × (w .account ≡ account)) (acceptedIn cs s)

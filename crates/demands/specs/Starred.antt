@@ -12,7 +12,8 @@ use Rattle.model.specs.declared.Day.{Day}
 use Rattle.model.specs.declared.OrderAnswer.{OrderAnswer}
 use Rattle.model.specs.Lists.{keep, from}
 use Rattle.model.specs.Book.{free, headPrice}
-use Rattle.model.specs.Figures.{nextNumber}
+use Rattle.model.specs.Figures.{noScreen, nextNumber}
+use Rattle.model.specs.Screen.{update}
 use Rattle.model.specs.Auction.{surplus}
 use Rattle.model.specs.Calls.{Outcome, orderCall}
 use Rattle.model.specs.AuctionCalls.{ListOutcome, reportCall, listCall}
@@ -30,7 +31,7 @@ pub data Ask : Type 0 where
   -- an order
   Enter : Asked → Ask
 
-abbrev noTrade : Trade
+abbrev pub noTrade : Trade
 noTrade = record { price = 0; quantity = 0; buyer = 0; seller = 0; buyerleft = 0; sellerleft = 0 }
 
 -- in the paper's numbers: the call's own, then the prices as they stand in the lent places; behind an order's own the price at which
@@ -63,12 +64,15 @@ buy number left price = record { side = 0; account = 7; left = left; price = pri
 abbrev sell : ℕ → ℕ → ℕ → Order
 sell number left price = record { side = 1; account = 8; left = left; price = price; number = number }
 
--- these orders rest at this time of a day with price limits; nothing has traded, so the reference price is the close
+-- these orders rest at this time of a day with price limits, and its screen is counted; nothing has traded, so the reference price is the
+-- close
 abbrev on : ℕ → ℕ → List Order → Ask → List ℤ → Situation
 on time close orders asked answered =
+    let book : List Order = orders ++ (free ∷ free ∷ []) in
     record {
       day =
-          record {
+          update [] book
+          (record {
             close = close;
             limited = 1;
             time = time;
@@ -77,11 +81,12 @@ on time close orders asked answered =
             turnover = 0;
             first = 0;
             last = 0;
+            screen = noScreen;
             halt = 0;
             used30 = 0;
             used60 = 0;
-          };
-      book = orders ++ (free ∷ free ∷ []);
+          });
+      book = book;
       asked = asked;
       answered = answered;
     }

@@ -1,7 +1,7 @@
 -- Demand 2, the day's totals after an event: those before with the event's trades added.
 use Prim.Native.Nat.{ℕ, _+_}
 use mathlib.Core.Path.{_≡_}
-use mathlib.Core.List.{List}
+use mathlib.Core.List.{List, []}
 use lib.ListN.{take}
 use lib.Dec.{eqb}
 use Rattle.model.specs.declared.Order.{Order}
@@ -13,7 +13,7 @@ use Rattle.model.specs.declared.ClockAnswer.{ClockAnswer}
 use Rattle.model.specs.Choice.{if_then_else_}
 use Rattle.model.specs.Matching.{filled, firstPrice, lastPrice}
 use Rattle.model.specs.Figures.{money}
-use Rattle.model.specs.Calls.{Outcome, orderCall}
+use Rattle.model.specs.Calls.{Outcome, orderCall, cancelCall}
 use Rattle.model.specs.ClockCall.{clockCall}
 use Rattle.model.specs.Words.{Sound}
 
@@ -29,6 +29,8 @@ pub record Totalling : Type 0 where
   pub order :
       (d : Day) (a : Asked) (book : List Order) (lent : List Trade)
       → let o : Outcome OrderAnswer = orderCall d a book lent in Totals d (o .answer .day) (take (o .answer .made) (o .trades))
+  pub cancel :
+      (d : Day) (account number : ℕ) (book : List Order) → Totals d (cancelCall d account number book .answer .day) []
   pub clock :
       (d : Day) (t : ℕ) (book : List Order) (lent : List Trade)
       → Sound d book

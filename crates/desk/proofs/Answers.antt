@@ -17,7 +17,7 @@ use Rattle.model.specs.declared.Event as Event
 use Rattle.model.specs.declared.OpenReply as OpenReply
 use Rattle.model.specs.declared.OrderAnswer.{OrderAnswer}
 use Rattle.model.specs.declared.ClockAnswer.{ClockAnswer}
-use Rattle.model.specs.declared.CancelReply.{CancelReply}
+use Rattle.model.specs.declared.CancelAnswer.{CancelAnswer}
 use Rattle.model.specs.Figures.{freshDay}
 use Rattle.model.specs.Refusals.{unsound, firstOf}
 use Rattle.model.specs.Calls.{Outcome, OpenOutcome, written, openRules, cleared, openCall, entered, orderRules, orderCall, cancelCall}
@@ -207,14 +207,14 @@ module _ {before after : List ℕ} {at : ℕ} where
 
       module _ {d : Day} (o : k ≡ Desk.the-variants.Open d) where
         pub cancel-answered :
-            (account number : ℕ) (reply : CancelReply)
+            (account number : ℕ) (r : CancelAnswer)
             → at + 110 ≤ length before
-            → cancelLeft reply rows′ ≡ cancelCall d account number (bookOf rows)
-            → Wrote before at (cancelLine number reply) after next
-            → Leaves (onDesk (cancelAnswer account number) (deskOf k rows)) rows before at rows′ after (record { desk = Desk.the-variants.Open d; next = next })
+            → cancelLeft r rows′ ≡ cancelCall d account number (bookOf rows)
+            → Wrote before at (cancelLine number (r .reply)) after next
+            → Leaves (onDesk (cancelAnswer account number) (deskOf k rows)) rows before at rows′ after (record { desk = Desk.the-variants.Open (r .day); next = next })
         unfolding onDesk cancelAnswer
-        cancel-answered account number reply h e w =
-            leaves (rw (o, ← e)) w (line-within w (cancel-fits number reply) h) refl (is-open refl)
+        cancel-answered account number r h e w =
+            leaves (rw (o, ← e)) w (line-within w (cancel-fits number (r .reply)) h) refl (is-open refl)
 
         module _
             (trades trades′ : List (List ℕ)) (n : length trades ≡ 2_048)

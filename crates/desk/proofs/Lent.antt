@@ -23,6 +23,7 @@ use Rattle.model.specs.Halts.{phaseNow}
 use Rattle.model.specs.Figures.{at, freshDay}
 use Rattle.model.specs.Entry.{entryTrades}
 use Rattle.model.specs.Sound.{hasPlaces}
+use Rattle.model.specs.Screen.{update}
 use Rattle.model.specs.Refusals.{Rule, firstOf}
 use Rattle.model.specs.Calls.{Outcome, OpenOutcome, written, openRules, cleared, openCall, orderRules, entered, orderCall}
 use Rattle.model.specs.ClockCall.{moved, clockRules, clockCall}
@@ -64,7 +65,7 @@ clockBy d t book n lent =
           record {
             reply = ClockReply.the-variants.Moved (phaseNow (at t (moved d t book .day))) (length (moved d t book .trades));
             made = length (moved d t book .trades);
-            day = at t (moved d t book .day);
+            day = update (moved d t book .trades) (moved d t book .book) (at t (moved d t book .day));
           };
       book = moved d t book .book;
       trades = written (moved d t book .trades) lent;

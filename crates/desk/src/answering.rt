@@ -124,9 +124,14 @@ fn answer_cancel(
     let Desk::Open(d) = desk else {
         return refuse(desk, 17, out, at);
     };
-    let reply = cancel_sound(d, &mut *rows, account, number);
+    let answer = cancel_sound(d, &mut *rows, account, number);
+    let reply = answer.reply;
     let next = put_cancel(number, reply, out, at);
-    Answered { desk, next }
+    let day = answer.day;
+    Answered {
+        desk: Desk::Open(day),
+        next,
+    }
 }
 
 fn answer_event(

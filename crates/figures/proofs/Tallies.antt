@@ -108,6 +108,7 @@ with d shares turnover first last =
       turnover = turnover;
       first = first;
       last = last;
+      screen = d .screen;
       halt = d .halt;
       used30 = d .used30;
       used60 = d .used60;
@@ -129,7 +130,7 @@ pub tally-zero : (d : Day) (rows : List (List ℕ)) (n : ℕ) → n ≡ 0 → d 
 tally-zero d rows n e = rw e (tally-none d)
 
 -- the first and the last of n trades
-first-of : (rows : List (List ℕ)) (m : ℕ) → m < length rows → firstPrice 0 (tradesOf (take (suc m) rows)) ≡ tradeOf (getD rows 0 []) .price
+pub first-of : (rows : List (List ℕ)) (m : ℕ) → m < length rows → firstPrice 0 (tradesOf (take (suc m) rows)) ≡ tradeOf (getD rows 0 []) .price
 unfolding firstPrice
 first-of [] m h = absurd (not-suc-le-zero h)
 first-of (r ∷ rs) m h = refl

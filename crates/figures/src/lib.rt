@@ -1,11 +1,14 @@
 // The day's own figures: what trades add to them, and what is read off them.
 use book::trade_at;
 use model::Day;
+use model::Level;
+use model::Levels;
+use model::Screen;
 ghost use mathlib.Core.Path.{_≡_};
 ghost use Prim.Native.Nat.{_+_, _^_, _≤_, _<_};
 ghost use lib.ListN.{length, take};
 ghost use Rattle.model.specs.Matching.{filled};
-ghost use Rattle.model.specs.Figures.{freshDay, at, issue, money, tally, reference};
+ghost use Rattle.model.specs.Figures.{noLevels, noScreen, freshDay, at, issue, money, tally, reference};
 ghost use Rattle.book.specs.Rows.{tradesOf};
 ghost use Rattle.figures.specs.Figures.{totals};
 
@@ -13,6 +16,42 @@ ghost use Rattle.figures.specs.Figures.{totals};
 pub struct Totals {
     pub shares: u64,
     pub money: u64,
+}
+
+// No price stands.
+pub fn no_levels() -> Levels
+    ensures { λ r. ⌜ r ≡ noLevels ⌝ }
+{
+    let none = Level {
+        price: 0,
+        shares: 0,
+    };
+    Levels {
+        first: none,
+        second: none,
+        third: none,
+        fourth: none,
+        fifth: none,
+    }
+}
+
+// A screen on which nothing stands.
+fn no_screen() -> Screen
+    ensures { λ r. ⌜ r ≡ noScreen ⌝ }
+{
+    let none = no_levels();
+    Screen {
+        last: 0,
+        high: 0,
+        low: 0,
+        shares: 0,
+        turnover: 0,
+        buys: none,
+        sells: none,
+        price: 0,
+        volume: 0,
+        surplus: 0,
+    }
 }
 
 pub fn fresh_day(close: u64, mark: u64) -> Day
@@ -27,6 +66,7 @@ pub fn fresh_day(close: u64, mark: u64) -> Day
         turnover: 0,
         first: 0,
         last: 0,
+        screen: no_screen(),
         halt: 0,
         used30: 0,
         used60: 0,

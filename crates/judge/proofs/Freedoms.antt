@@ -11,7 +11,7 @@ use Rattle.model.specs.declared.Day.{Day}
 use Rattle.model.specs.Choice.{if_then_else_}
 use Rattle.model.specs.Lists.{all}
 use Rattle.model.specs.Book.{isLive}
-use Rattle.model.specs.ClockCall.{auctionPrice}
+use Rattle.model.specs.Auction.{auctionPrice}
 use Rattle.judge.specs.declared.Claim.{Claim}
 use Rattle.judge.specs.Judging.{hasOrder, joins, party, claimedFor, grantedTo, fillsRight, claimsRight, agrees, judgeCall}
 use Rattle.judge.proofs.Own.{claimed-more}

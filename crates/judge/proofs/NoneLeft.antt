@@ -12,8 +12,7 @@ use Rattle.model.specs.declared.Day.{Day}
 use Rattle.model.specs.Choice.{if_then_else_}
 use Rattle.model.specs.Lists.{any, atLeast}
 use Rattle.model.specs.Book.{isLive, standsOn, queue}
-use Rattle.model.specs.Auction.{volume, qualifying, leastDifference, leftBy}
-use Rattle.model.specs.ClockCall.{auctionPrice}
+use Rattle.model.specs.Auction.{volume, qualifying, leastDifference, leftBy, auctionPrice}
 use Rattle.model.specs.Words.{Each, Sound}
 use Rattle.model.proofs.Bools.{and-left, and-right, not-both}
 use Rattle.book.specs.Standing.{Fair, Standing}

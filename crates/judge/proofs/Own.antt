@@ -13,9 +13,9 @@ use Rattle.model.specs.declared.Day.{Day}
 use Rattle.model.specs.Choice.{if_then_else_}
 use Rattle.model.specs.Lists.{keep, any, total}
 use Rattle.model.specs.Book.{isLive, standsOn, queue}
-use Rattle.model.specs.Auction.{volume}
+use Rattle.model.specs.Auction.{volume, auctionPrice}
 use Rattle.model.specs.Pairing.{Share, cut, headLess, pair, tradesAt}
-use Rattle.model.specs.ClockCall.{auctionPrice, auctionTrades}
+use Rattle.model.specs.ClockCall.{auctionTrades}
 use Rattle.model.specs.Words.{Each, Sound, granted}
 use Rattle.book.specs.Standing.{Fair, Standing}
 use Rattle.book.proofs.Lists.{each, both, kept-next}

@@ -12,7 +12,7 @@ use Rattle.model.specs.declared.Day.{Day}
 use Rattle.model.specs.Choice.{if_then_else_}
 use Rattle.model.specs.Book.{isLive}
 use Rattle.model.specs.Refusals.{_when_, firstOf, unsound}
-use Rattle.model.specs.ClockCall.{auctionPrice}
+use Rattle.model.specs.Auction.{auctionPrice}
 use Rattle.model.specs.Words.{Each, Sound}
 use Rattle.model.proofs.Bools.{not-both}
 use Rattle.soundness.proofs.Says.{Says, says-and, says-all, says-le, says-eq, says-itself, says-too}

@@ -9,10 +9,9 @@ use Rattle.model.specs.declared.Day.{Day}
 use Rattle.model.specs.Choice.{if_then_else_}
 use Rattle.model.specs.Lists.{keep, all, any, total}
 use Rattle.model.specs.Book.{isLive, standsOn, queue}
-use Rattle.model.specs.Auction.{volume}
+use Rattle.model.specs.Auction.{volume, auctionPrice}
 use Rattle.model.specs.Pairing.{cut}
 use Rattle.model.specs.Refusals.{Rule, _when_, firstOf, unsound}
-use Rattle.model.specs.ClockCall.{auctionPrice}
 use Rattle.model.specs.Words.{granted}
 use Rattle.judge.specs.declared.Claim.{Claim}
 use Rattle.judge.specs.declared.Verdict.{Verdict}

@@ -8,9 +8,9 @@ use Rattle.model.specs.declared.Order.{Order}
 use Rattle.model.specs.declared.Trade.{Trade}
 use Rattle.model.specs.declared.Day.{Day}
 use Rattle.model.specs.Book.{isLive}
-use Rattle.model.specs.Auction.{qualifying}
+use Rattle.model.specs.Auction.{qualifying, auctionPrice}
 use Rattle.model.specs.Refusals.{unsound}
-use Rattle.model.specs.ClockCall.{auctionPrice, auctionTrades}
+use Rattle.model.specs.ClockCall.{auctionTrades}
 use Rattle.model.specs.Words.{Each, Sound}
 use Rattle.book.specs.Rows.{bookOf}
 use Rattle.judge.specs.declared.Claim.{Claim}

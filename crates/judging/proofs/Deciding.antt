@@ -10,7 +10,7 @@ use Rattle.model.specs.declared.Order.{Order}
 use Rattle.model.specs.declared.Day.{Day}
 use Rattle.model.specs.Choice.{if_then_else_}
 use Rattle.model.specs.Refusals.{_when_, firstOf, unsound}
-use Rattle.model.specs.ClockCall.{auctionPrice}
+use Rattle.model.specs.Auction.{auctionPrice}
 use Rattle.book.specs.Standing.{Ranked}
 use Rattle.soundness.proofs.Readiness.{ready-if}
 use Rattle.judge.specs.declared.Claim.{Claim}

@@ -7,7 +7,7 @@ use Rattle.model.specs.declared.Day.{Day}
 use Rattle.model.specs.declared.OpenReply.{OpenReply}
 use Rattle.model.specs.declared.OrderAnswer.{OrderAnswer}
 use Rattle.model.specs.declared.ClockAnswer.{ClockAnswer}
-use Rattle.model.specs.declared.CancelReply.{CancelReply}
+use Rattle.model.specs.declared.CancelAnswer.{CancelAnswer}
 use Rattle.model.specs.declared.ReportReply.{ReportReply}
 use Rattle.model.specs.declared.ListReply.{ListReply}
 use Rattle.model.specs.Calls.{OpenOutcome, CancelOutcome, openCall, orderCall, cancelCall}
@@ -34,13 +34,13 @@ module _ (asked : OnDay) (rows rows′ trades : List (List ℕ)) where
       ∙ ap (λ (v : Event.Event). callOf v (asked .day) (bookOf rows) (tradesOf trades)) (sym e)
 
   pub cancelled :
-      {account number : ℕ} {r : CancelReply}
+      {account number : ℕ} {r : CancelAnswer}
       → asked .event ≡ Event.the-variants.Cancel account number
       → cancelLeft r rows′ ≡ cancelCall (asked .day) account number (bookOf rows)
       → callLeft (Answer.the-variants.Cancel r) rows′ trades ≡ eventCall asked (bookOf rows) (tradesOf trades)
   unfolding callOf
   cancelled e p =
-      ap (λ (o : CancelOutcome). record { answer = Answer.the-variants.Cancel (o .reply); book = o .book; trades = tradesOf trades }) p
+      ap (λ (o : CancelOutcome). record { answer = Answer.the-variants.Cancel (o .answer); book = o .book; trades = tradesOf trades }) p
       ∙ ap (λ (v : Event.Event). callOf v (asked .day) (bookOf rows) (tradesOf trades)) (sym e)
 
   module _ (trades′ : List (List ℕ)) where

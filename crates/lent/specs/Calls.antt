@@ -35,7 +35,7 @@ callOf (Event.the-variants.Order asked) day book lent =
     answered Answer.the-variants.Order (orderCall day asked book lent)
 callOf (Event.the-variants.Cancel account number) day book lent =
     record {
-      answer = Answer.the-variants.Cancel (cancelCall day account number book .reply);
+      answer = Answer.the-variants.Cancel (cancelCall day account number book .answer);
       book = cancelCall day account number book .book;
       trades = lent;
     }

@@ -27,8 +27,8 @@ fn answer_event(rows: &mut [[u64; 5]], trades: &mut [[u64; 6]], asked: OnDay) ->
         Event::Clock(time) => Answer::Clock(clock_call(day, rows, trades, time)),
         Event::Order(a) => Answer::Order(order_call(day, rows, trades, a)),
         Event::Cancel { account, number } => {
-            let reply = cancel_call(day, rows, account, number);
-            Answer::Cancel(reply)
+            let answer = cancel_call(day, rows, account, number);
+            Answer::Cancel(answer)
         }
     }
 }

@@ -9,7 +9,7 @@ ghost use mathlib.Core.Path.{_≡_};
 ghost use Prim.Native.Nat.{_<_};
 ghost use lib.ListN.{length, getD, set};
 ghost use Rattle.model.specs.Book.{free};
-use model::CancelReply;
+use model::CancelAnswer;
 use model::ClockAnswer;
 use model::Day;
 use model::Event;
@@ -29,7 +29,7 @@ pub enum Answer {
     Open(OpenReply),
     Clock(ClockAnswer),
     Order(OrderAnswer),
-    Cancel(CancelReply),
+    Cancel(CancelAnswer),
 }
 
 // What is asked of an auction held now: its report, or its prices from one on. Neither changes anything but the lent price list.

@@ -14,7 +14,6 @@ use Rattle.model.specs.declared.Command.{Command}
 use Rattle.model.specs.declared.Command.the-variants.{Malformed, Asks}
 use Rattle.model.specs.declared.Event.the-variants.{Open, Clock, Order, Cancel}
 use Rattle.model.specs.declared.OrderReply as OrderReply
-use Rattle.model.specs.declared.CancelReply as CancelReply
 use Rattle.model.specs.declared.ClockReply as ClockReply
 use Rattle.model.specs.Sound.{hasPlaces, sound}
 use Rattle.model.specs.Refusals.{unsound}
@@ -29,6 +28,7 @@ use Rattle.model.specs.Session.{Desk, clockAnswer, orderAnswer, cancelAnswer, o
 use Rattle.model.proofs.Bools.{not-both, and-left, and-right, and-no, and-yes}
 use Rattle.model.proofs.Rules.{hit}
 use Rattle.book.specs.Rows.{bookOf, tradesOf}
+use Rattle.book.specs.Promises.{cancelRefused}
 use Rattle.printing.specs.Printing.{Wrote}
 use Rattle.desk.proofs.Lent.{answered}
 use Rattle.printing.proofs.Printed.{line-within}
@@ -102,7 +102,7 @@ module _ (s : Desk) (u : unsound (s .day) (s .book) ≡ true) where
 
   cancel-15 :
       (account number : ℕ)
-      → cancelCall (s .day) account number (s .book) ≡ record { reply = CancelReply.the-variants.Refused 15; book = s .book }
+      → cancelCall (s .day) account number (s .book) ≡ record { answer = cancelRefused (s .day) 15; book = s .book }
   unfolding cancelCall cancelRules
   cancel-15 account number = rw (hit 15 _ u)
 

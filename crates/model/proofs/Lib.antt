@@ -3,8 +3,10 @@ pub mod Bools
 pub mod Rules
 pub mod Seconds
 pub mod HaltEnds
+pub mod SameScreens
 pub mod Examples
 pub mod TriedLines
 pub mod TriedSound
 pub mod TriedCalls
+pub mod TriedScreen
 pub mod TriedHalts

@@ -18,20 +18,21 @@ use Rattle.model.specs.Choice.{if_then_else_}
 use Rattle.model.specs.Lists.{keep, all, any, total, least, atLeast, from, among, once, different}
 use Rattle.model.specs.Clock.{isTime, closed, laterRows, holding, rowAt, phaseAt, takesOrders, takesCancels, continuous, passed}
 use Rattle.model.specs.Book.{free, isLive, standsOn, better, ahead, insert, inPriority, queue, other, headPrice, best, arranged, mayFollow, inOrder}
-use Rattle.model.specs.Matching.{meets, within, fiveBest, atFiveBest, tradeWith, sweep, filled, levels, lastPrice, firstPrice, isIn, filledOf, lessBy, settle}
+use Rattle.model.specs.Matching.{meets, within, fiveBest, atFiveBest, tradeWith, sweep, filled, levels, lastPrice, firstPrice, isIn, filledOf, lessBy, settle, highest, lowest}
 use Rattle.model.specs.Limits.{isPrice, isQuantity, inBand, buyInRange, sellInRange, inRange}
-use Rattle.model.specs.Figures.{freshDay, at, nextNumber, issue, money, tally, reference, openPrice, closePrice}
+use Rattle.model.specs.Figures.{freshDay, at, nextNumber, issue, money, tally, reference, openPrice, closePrice, noLevel, noLevels, noScreen}
 use Rattle.model.specs.Halts.{runs, phaseNow, away, reach, haltEnd, halting, fires, fired, resumed}
 use Rattle.model.specs.Entry.{bestWithin, entryPrice, opposite, entryTrades, restPrice, base}
 use Rattle.model.specs.Auction.{distance, sharesOf, demand, supply, volume, buysAbove, sellsBelow, buysAt, sellsAt, betterFill, oneSideFills, surplus}
-use Rattle.model.specs.Sound.{hasPlaces, isMark, mayStand, soundFigures, isFree, isOrder, ownNumbers, isEmpty, crosses, between, sharesFit, pricesFit, turnoverFits, isLedTo, isUsed, haltFits, soundAnywhere, sound}
+use Rattle.model.specs.Screen.{levelAt, levelsOf, shownPrice, screenOf, highWith, lowWith, update, sameLevel, sameLevels, sameSurplus, sameScreen}
+use Rattle.model.specs.Sound.{hasPlaces, isMark, mayStand, soundFigures, isFree, isOrder, ownNumbers, isEmpty, crosses, between, sharesFit, pricesFit, turnoverFits, isLedTo, isUsed, haltFits, soundAnywhere, sound, encloses, screenFits}
 use Rattle.model.specs.Refusals.{_when_, firstOf, unsound}
 use Rattle.model.specs.Calls.{Outcome, written, openRules, cleared, openCall, orderRules, ended, joined, entered, orderCall, isOwn, cancelRules, cancelCall}
 use Rattle.model.specs.ClockCall.{auctionTrades, Held, auction, resume, lapse, pass, through, start, moved, clockRules, clockCall}
 use Rattle.model.specs.Replies.{restingOf, withdrawnOf, entryNumbers, openNumbers, orderNumbers, cancelNumbers, clockNumbers, reportNumbers, listNumbers}
 use Rattle.model.specs.Lines.{reply}
 use Rattle.model.specs.Session.{opened, answer}
-use Rattle.model.proofs.Examples.{order, trade, dayOf, untraded}
+use Rattle.model.proofs.Examples.{order, trade, dayOf, untraded, fitting}
 use Rattle.model.proofs.HaltEnds.{ledBy, led-is}
 
 -- ---- the thresholds, compared exactly
@@ -94,7 +95,7 @@ pub fired-tried :
     × (firing 0 1 0 (4 ∷ []) ≡ 34_800 ∷ 1 ∷ 1 ∷ [])
     × (firing 0 1 1 (13 ∷ 16 ∷ 4 ∷ []) ≡ 0 ∷ 1 ∷ 1 ∷ [])
     × (firing 1 0 0 (13 ∷ 16 ∷ []) ≡ 0 ∷ 0 ∷ 0 ∷ [])
-unfolding keep all any total least atLeast from among once different isTime closed laterRows holding rowAt phaseAt takesOrders takesCancels continuous passed freshDay at nextNumber issue money tally reference openPrice closePrice runs phaseNow away reach haltEnd halting fires fired resumed
+unfolding keep all any total least atLeast from among once different isTime closed laterRows holding rowAt phaseAt takesOrders takesCancels continuous passed noLevel noLevels noScreen freshDay at nextNumber issue money tally reference openPrice closePrice runs phaseNow away reach haltEnd halting fires fired resumed
 fired-tried = (refl, refl, refl, refl, refl, refl, refl, refl, refl, refl, refl, refl)
 
 -- ---- an order in continuous trading: it finishes first, then phase 7 begins in the same second
@@ -110,7 +111,7 @@ buying quantity price = record { side = 0; kind = 0; account = 9; quantity = qua
 abbrev entering : ℕ → ℕ → ℕ → List ℕ
 entering time quantity price =
     let o : Outcome OrderAnswer =
-    orderCall (dayOf 10 0 time 4 100 1_000 10 10) (buying quantity price) sells (replicate 6 (made 1))
+    orderCall (fitting sells (dayOf 10 0 time 4 100 1_000 10 10)) (buying quantity price) sells (replicate 6 (made 1))
     in
     drop 2 (orderNumbers (o .answer .reply)) ++ (phaseNow (o .answer .day) ∷ o .answer .day .halt ∷ o .answer .day .used30 ∷ o .answer .day .used60 ∷ [])
 
@@ -122,16 +123,16 @@ pub orders-tried :
     × (entering 40_799 200 13 ≡ 200 ∷ 0 ∷ 0 ∷ 2 ∷ 7 ∷ 41_399 ∷ 1 ∷ 0 ∷ [])
     × (entering 40_800 200 13 ≡ 200 ∷ 0 ∷ 0 ∷ 2 ∷ 7 ∷ 46_800 ∷ 1 ∷ 0 ∷ [])
     × (entering 53_819 200 13 ≡ 200 ∷ 0 ∷ 0 ∷ 2 ∷ 7 ∷ 53_820 ∷ 1 ∷ 0 ∷ [])
-unfolding keep all any total least atLeast from among once different isTime closed laterRows holding rowAt phaseAt takesOrders takesCancels continuous passed free isLive standsOn better ahead insert inPriority queue other headPrice best arranged mayFollow inOrder meets within fiveBest atFiveBest tradeWith sweep filled levels lastPrice firstPrice isIn filledOf lessBy settle isPrice isQuantity inBand buyInRange sellInRange inRange freshDay at nextNumber issue money tally reference openPrice closePrice runs phaseNow away reach haltEnd halting fires fired resumed bestWithin entryPrice opposite entryTrades restPrice base distance sharesOf demand supply volume buysAbove sellsBelow buysAt sellsAt betterFill oneSideFills surplus hasPlaces isMark mayStand soundFigures isFree isOrder ownNumbers isEmpty crosses between sharesFit pricesFit turnoverFits isLedTo isUsed haltFits soundAnywhere sound _when_ firstOf unsound written openRules cleared openCall orderRules ended joined entered orderCall isOwn cancelRules cancelCall restingOf withdrawnOf entryNumbers openNumbers orderNumbers cancelNumbers clockNumbers reportNumbers listNumbers
+unfolding keep all any total least atLeast from among once different isTime closed laterRows holding rowAt phaseAt takesOrders takesCancels continuous passed free isLive standsOn better ahead insert inPriority queue other headPrice best arranged mayFollow inOrder meets within fiveBest atFiveBest tradeWith sweep filled levels lastPrice firstPrice highest lowest isIn filledOf lessBy settle isPrice isQuantity inBand buyInRange sellInRange inRange noLevel noLevels noScreen freshDay at nextNumber issue money tally reference openPrice closePrice runs phaseNow away reach haltEnd halting fires fired resumed bestWithin entryPrice opposite entryTrades restPrice base distance sharesOf demand supply volume buysAbove sellsBelow buysAt sellsAt betterFill oneSideFills surplus levelAt levelsOf shownPrice screenOf highWith lowWith update sameLevel sameLevels sameSurplus sameScreen hasPlaces isMark mayStand soundFigures isFree isOrder ownNumbers isEmpty crosses between sharesFit pricesFit turnoverFits encloses screenFits isLedTo isUsed haltFits soundAnywhere sound _when_ firstOf unsound written openRules cleared openCall orderRules ended joined entered orderCall isOwn cancelRules cancelCall restingOf withdrawnOf entryNumbers openNumbers orderNumbers cancelNumbers clockNumbers reportNumbers listNumbers
 orders-tried = (refl, refl, refl, refl, refl, refl)
 
 -- the first trade of the day is the open, and the same order may go on to what fires
 pub first-tried :
     let o : Outcome OrderAnswer =
-    orderCall (untraded 10 0 34_200 4) (buying 400 17) sells (replicate 6 (made 1))
+    orderCall (fitting sells (untraded 10 0 34_200 4)) (buying 400 17) sells (replicate 6 (made 1))
     in
     (o .answer .day .first ≡ 12) × (o .answer .day .halt ≡ 34_800) × (o .answer .day .used30 ≡ 1) × (o .answer .day .used60 ≡ 0)
-unfolding keep all any total least atLeast from among once different isTime closed laterRows holding rowAt phaseAt takesOrders takesCancels continuous passed free isLive standsOn better ahead insert inPriority queue other headPrice best arranged mayFollow inOrder meets within fiveBest atFiveBest tradeWith sweep filled levels lastPrice firstPrice isIn filledOf lessBy settle isPrice isQuantity inBand buyInRange sellInRange inRange freshDay at nextNumber issue money tally reference openPrice closePrice runs phaseNow away reach haltEnd halting fires fired resumed bestWithin entryPrice opposite entryTrades restPrice base distance sharesOf demand supply volume buysAbove sellsBelow buysAt sellsAt betterFill oneSideFills surplus hasPlaces isMark mayStand soundFigures isFree isOrder ownNumbers isEmpty crosses between sharesFit pricesFit turnoverFits isLedTo isUsed haltFits soundAnywhere sound _when_ firstOf unsound written openRules cleared openCall orderRules ended joined entered orderCall isOwn cancelRules cancelCall
+unfolding keep all any total least atLeast from among once different isTime closed laterRows holding rowAt phaseAt takesOrders takesCancels continuous passed free isLive standsOn better ahead insert inPriority queue other headPrice best arranged mayFollow inOrder meets within fiveBest atFiveBest tradeWith sweep filled levels lastPrice firstPrice highest lowest isIn filledOf lessBy settle isPrice isQuantity inBand buyInRange sellInRange inRange noLevel noLevels noScreen freshDay at nextNumber issue money tally reference openPrice closePrice runs phaseNow away reach haltEnd halting fires fired resumed bestWithin entryPrice opposite entryTrades restPrice base distance sharesOf demand supply volume buysAbove sellsBelow buysAt sellsAt betterFill oneSideFills surplus levelAt levelsOf shownPrice screenOf highWith lowWith update sameLevel sameLevels sameSurplus sameScreen hasPlaces isMark mayStand soundFigures isFree isOrder ownNumbers isEmpty crosses between sharesFit pricesFit turnoverFits encloses screenFits isLedTo isUsed haltFits soundAnywhere sound _when_ firstOf unsound written openRules cleared openCall orderRules ended joined entered orderCall isOwn cancelRules cancelCall
 first-tried = (refl, refl, refl, refl)
 
 -- ---- what phase 7 takes, behind 15: limit orders, whatever their range, and cancels; at noon nothing
@@ -152,8 +153,9 @@ pub taken-tried :
     × (map (λ t. firstOf (drop 1 (cancelRules (stopped t) 6 1 sells))) (41_399 ∷ 41_400 ∷ 46_799 ∷ []) ≡ 0 ∷ 4 ∷ 4 ∷ [])
     × (entered (stopped 40_800) (buying 100 12) sells [] .answer .reply
     ≡ OrderReply.the-variants.Accepted (record { number = 5; filled = 0; levels = 0; remainder = Rests 100 }))
-unfolding keep all any total least atLeast from among once different isTime closed laterRows holding rowAt phaseAt takesOrders takesCancels continuous passed free isLive standsOn better ahead insert inPriority queue other headPrice best arranged mayFollow inOrder meets within fiveBest atFiveBest tradeWith sweep filled levels lastPrice firstPrice isIn filledOf lessBy settle isPrice isQuantity inBand buyInRange sellInRange inRange freshDay at nextNumber issue money tally reference openPrice closePrice runs phaseNow away reach haltEnd halting fires fired resumed bestWithin entryPrice opposite entryTrades restPrice base _when_ firstOf unsound written openRules cleared openCall orderRules ended joined entered orderCall isOwn cancelRules cancelCall
-taken-tried = (refl, refl, refl, refl, refl)
+    × (shownPrice (stopped 40_800) sells ≡ 0)
+unfolding keep all any total least atLeast from among once different isTime closed laterRows holding rowAt phaseAt takesOrders takesCancels continuous passed free isLive standsOn better ahead insert inPriority queue other headPrice best arranged mayFollow inOrder meets within fiveBest atFiveBest tradeWith sweep filled levels lastPrice firstPrice highest lowest isIn filledOf lessBy settle isPrice isQuantity inBand buyInRange sellInRange inRange noLevel noLevels noScreen freshDay at nextNumber issue money tally reference openPrice closePrice runs phaseNow away reach haltEnd halting fires fired resumed bestWithin entryPrice opposite entryTrades restPrice base levelAt levelsOf shownPrice screenOf highWith lowWith update sameLevel sameLevels sameSurplus sameScreen _when_ firstOf unsound written openRules cleared openCall orderRules ended joined entered orderCall isOwn cancelRules cancelCall distance sharesOf demand supply volume buysAbove sellsBelow buysAt sellsAt betterFill oneSideFills surplus encloses screenFits
+taken-tried = (refl, refl, refl, refl, refl, refl)
 
 -- ---- the end of a halt, for auctions that trade at a price, or not at all
 
@@ -177,7 +179,7 @@ pub ends-with :
     × (Makes 46_800 0 (made 16 ∷ []) → left (pass 46_800 (running 46_800 0)) ≡ 47_400 ∷ 1 ∷ 1 ∷ 16 ∷ [])
     × (Makes 53_820 0 (made 16 ∷ []) → left (pass 53_820 (running 53_820 0)) ≡ 0 ∷ 1 ∷ 0 ∷ 16 ∷ [])
     × (Makes 40_900 0 (made 16 ∷ []) → left (pass 40_900 (running 40_900 0)) ≡ 46_800 ∷ 1 ∷ 1 ∷ 16 ∷ [])
-unfolding keep all any total least atLeast from among once different isTime closed laterRows holding rowAt phaseAt takesOrders takesCancels continuous passed meets within fiveBest atFiveBest tradeWith sweep filled levels lastPrice firstPrice isIn filledOf lessBy settle freshDay at nextNumber issue money tally reference openPrice closePrice runs phaseNow away reach haltEnd halting fires fired resumed auction resume lapse pass through start moved clockRules clockCall
+unfolding keep all any total least atLeast from among once different isTime closed laterRows holding rowAt phaseAt takesOrders takesCancels continuous passed meets within fiveBest atFiveBest tradeWith sweep filled levels lastPrice firstPrice highest lowest isIn filledOf lessBy settle noLevel noLevels noScreen freshDay at nextNumber issue money tally reference openPrice closePrice runs phaseNow away reach haltEnd halting fires fired resumed auction resume lapse pass through start moved clockRules clockCall
 ends-with = (
   (λ e. rw e),
   (λ e. rw e),
@@ -195,7 +197,7 @@ pub moves-tried :
     (moved (running 34_900 0 .day) 34_899 sells ≡ running 34_900 0)
     × (through (passed 34_900 35_499) (running 35_500 1) ≡ running 35_500 1)
     × (through (passed 34_900 40_000) (running 0 1) ≡ running 0 1)
-unfolding keep all any total least atLeast from among once different isTime closed laterRows holding rowAt phaseAt takesOrders takesCancels continuous passed meets within fiveBest atFiveBest tradeWith sweep filled levels lastPrice firstPrice isIn filledOf lessBy settle freshDay at nextNumber issue money tally reference openPrice closePrice runs phaseNow away reach haltEnd halting fires fired resumed auction resume lapse pass through start moved clockRules clockCall
+unfolding keep all any total least atLeast from among once different isTime closed laterRows holding rowAt phaseAt takesOrders takesCancels continuous passed meets within fiveBest atFiveBest tradeWith sweep filled levels lastPrice firstPrice highest lowest isIn filledOf lessBy settle noLevel noLevels noScreen freshDay at nextNumber issue money tally reference openPrice closePrice runs phaseNow away reach haltEnd halting fires fired resumed auction resume lapse pass through start moved clockRules clockCall
 moves-tried = (refl, refl, refl)
 
 -- ---- soundness: prices may cross until the end, and each clause on both sides of its bound
@@ -212,7 +214,7 @@ pub crossing-tried :
     map (λ (d : Day). soundAnywhere d crossing)
     (haltDay 34_300 34_900 1 0 0 100 ∷ haltDay 41_400 46_800 1 0 0 100 ∷ haltDay 34_300 0 1 0 0 100 ∷ haltDay 34_300 0 0 0 0 100 ∷ [])
     ≡ true ∷ true ∷ false ∷ false ∷ []
-unfolding keep all any total least atLeast from among once different isTime closed laterRows holding rowAt phaseAt takesOrders takesCancels continuous passed free isLive standsOn better ahead insert inPriority queue other headPrice best arranged mayFollow inOrder isPrice isQuantity inBand buyInRange sellInRange inRange runs phaseNow away reach haltEnd halting fires fired resumed hasPlaces isMark mayStand soundFigures isFree isOrder ownNumbers isEmpty crosses between sharesFit pricesFit turnoverFits isLedTo isUsed haltFits soundAnywhere sound
+unfolding keep all any total least atLeast from among once different isTime closed laterRows holding rowAt phaseAt takesOrders takesCancels continuous passed free isLive standsOn better ahead insert inPriority queue other headPrice best arranged mayFollow inOrder isPrice isQuantity inBand buyInRange sellInRange inRange runs phaseNow away reach haltEnd halting fires fired resumed hasPlaces isMark mayStand soundFigures isFree isOrder ownNumbers isEmpty crosses between sharesFit pricesFit turnoverFits encloses screenFits isLedTo isUsed haltFits soundAnywhere sound highest lowest noLevel noLevels noScreen distance sharesOf demand supply volume buysAbove sellsBelow buysAt sellsAt betterFill oneSideFills surplus levelAt levelsOf shownPrice screenOf highWith lowWith update sameLevel sameLevels sameSurplus sameScreen
 crossing-tried = refl
 
 -- with no end: which marks
@@ -228,7 +230,7 @@ pub marks-tried :
     ∷ haltDay 0 0 1 0 0 0
     ∷ [])
     ≡ true ∷ true ∷ true ∷ false ∷ false ∷ false ∷ false ∷ false ∷ []
-unfolding keep all any total least atLeast from among once different isTime closed laterRows holding rowAt phaseAt takesOrders takesCancels continuous passed free isLive standsOn better ahead insert inPriority queue other headPrice best arranged mayFollow inOrder isPrice isQuantity inBand buyInRange sellInRange inRange runs phaseNow away reach haltEnd halting fires fired resumed hasPlaces isMark mayStand soundFigures isFree isOrder ownNumbers isEmpty crosses between sharesFit pricesFit turnoverFits isLedTo isUsed haltFits soundAnywhere sound
+unfolding keep all any total least atLeast from among once different isTime closed laterRows holding rowAt phaseAt takesOrders takesCancels continuous passed free isLive standsOn better ahead insert inPriority queue other headPrice best arranged mayFollow inOrder isPrice isQuantity inBand buyInRange sellInRange inRange runs phaseNow away reach haltEnd halting fires fired resumed hasPlaces isMark mayStand soundFigures isFree isOrder ownNumbers isEmpty crosses between sharesFit pricesFit turnoverFits isLedTo isUsed haltFits soundAnywhere sound highest lowest noLevel noLevels noScreen distance sharesOf demand supply volume buysAbove sellsBelow buysAt sellsAt betterFill oneSideFills surplus levelAt levelsOf shownPrice screenOf highWith lowWith update sameLevel sameLevels sameSurplus sameScreen encloses screenFits
 marks-tried = refl
 
 -- ends that a continuous second so far leads to: by search from 9:30 on, and else by the hours that stand for it (HaltEnds); noon's end

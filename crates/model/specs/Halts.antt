@@ -42,6 +42,7 @@ halting end used30 used60 d =
       turnover = d .turnover;
       first = d .first;
       last = d .last;
+      screen = d .screen;
       halt = end;
       used30 = used30;
       used60 = used60;

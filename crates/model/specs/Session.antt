@@ -78,7 +78,10 @@ orderAnswer a s =
 unfoldable pub cancelAnswer : ℕ → ℕ → Desk → Answered
 cancelAnswer account number s =
     let o : CancelOutcome = cancelCall (s .day) account number (s .book) in
-    record { text = cancelLine number (o .reply); desk = some (record { day = s .day; book = o .book }) }
+    record {
+      text = cancelLine number (o .answer .reply);
+      desk = some (record { day = o .answer .day; book = o .book });
+    }
 
 -- 17: no day opened yet
 unfoldable pub onDesk : (Desk → Answered) → Option Desk → Answered

@@ -1,5 +1,5 @@
-// The words of the day: what stands at a place of the book, an order as it comes in, a trade, the day's own figures,
-// the rows of the clock, and the answers of the calls. What they mean is defined in specs/.
+// The words of the day: what stands at a place of the book, an order as it comes in, a trade, the public screen, the day's own
+// figures, the rows of the clock, and the answers of the calls. What they mean is defined in specs/.
 
 // The bounds of document 01: places of a book, fen of a price, shares of an order, numbers of a day, and its last second.
 pub const MOST_PLACES: usize = 4_096;
@@ -54,8 +54,38 @@ pub struct Taker {
     pub limit: u64,
 }
 
-// The day's own figures. First and last are the prices of the first and the last trade, 0 while nothing has traded. Halt is the
-// end of the halt that runs, 0 when none does; used30 and used60 are 1 once that threshold is used.
+// A price of a side and the total shares that stand there, zeros where there is none.
+pub struct Level {
+    pub price: u64,
+    pub shares: u64,
+}
+
+// The five best prices of a side.
+pub struct Levels {
+    pub first: Level,
+    pub second: Level,
+    pub third: Level,
+    pub fourth: Level,
+    pub fifth: Level,
+}
+
+// The public screen. Price, volume and surplus are those of the auction that a call would end with, zeros outside the calls and
+// where no price stands. High and low stand here alone.
+pub struct Screen {
+    pub last: u64,
+    pub high: u64,
+    pub low: u64,
+    pub shares: u64,
+    pub turnover: u64,
+    pub buys: Levels,
+    pub sells: Levels,
+    pub price: u64,
+    pub volume: u64,
+    pub surplus: i64,
+}
+
+// The day's own figures, and its screen. First and last are the prices of the first and the last trade, 0 while nothing has
+// traded. Halt is the end of the halt that runs, 0 when none does; used30 and used60 are 1 once that threshold is used.
 pub struct Day {
     pub close: u64,
     pub limited: u64,
@@ -65,6 +95,7 @@ pub struct Day {
     pub turnover: u64,
     pub first: u64,
     pub last: u64,
+    pub screen: Screen,
     pub halt: u64,
     pub used30: u64,
     pub used60: u64,
@@ -127,8 +158,8 @@ pub enum ListReply {
     Listed { count: usize, next: u64 },
 }
 
-// What a call that may trade hands back beside the lent lists: its reply, how many trades it wrote at the front of the
-// trade list, and the day as it is now.
+// What a call hands back beside the lent lists: its reply, the day as it is now, and, where it may trade, how many trades it
+// wrote at the front of the trade list.
 pub struct OrderAnswer {
     pub reply: OrderReply,
     pub made: usize,
@@ -138,6 +169,12 @@ pub struct OrderAnswer {
 pub struct ClockAnswer {
     pub reply: ClockReply,
     pub made: usize,
+    pub day: Day,
+}
+
+// A cancel trades nothing, but its screen changes.
+pub struct CancelAnswer {
+    pub reply: CancelReply,
     pub day: Day,
 }
 

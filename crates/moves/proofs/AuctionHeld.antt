@@ -19,11 +19,11 @@ use Rattle.model.specs.Book.{free, arranged}
 use Rattle.model.specs.Matching.{filled, firstPrice, settle}
 use Rattle.model.specs.Figures.{money, tally, reference, openPrice}
 use Rattle.model.specs.Halts.{halting, fired, resumed}
-use Rattle.model.specs.Auction.{volume, leftBy}
+use Rattle.model.specs.Auction.{volume, leftBy, auctionPrice}
 use Rattle.model.specs.Sound.{crosses}
 use Rattle.model.specs.Pairing.{tradesAt}
 use Rattle.model.specs.Calls.{cleared}
-use Rattle.model.specs.ClockCall.{auctionPrice, auctionTrades, Held, auction, resume, lapse, pass, start}
+use Rattle.model.specs.ClockCall.{auctionTrades, Held, auction, resume, lapse, pass, start}
 use Rattle.book.specs.Rows.{orderOf, bookOf, rowsOf, tradeOf, tradeRow, tradesOf, tradeRows}
 use Rattle.model.proofs.Bools.{not-false-true}
 use Rattle.model.specs.Words.{Each}

@@ -17,6 +17,7 @@ use Rattle.model.specs.declared.ClockReply.the-variants.{Refused, Moved}
 use Rattle.model.specs.Clock.{isTime, rowAt, passed}
 use Rattle.model.specs.Figures.{at}
 use Rattle.model.specs.Halts.{phaseNow}
+use Rattle.model.specs.Screen.{update}
 use Rattle.model.specs.Refusals.{_when_, firstOf, unsound}
 use Rattle.model.specs.Calls.{written}
 use Rattle.model.specs.ClockCall.{auctionTrades, Held, pass, through, start, moved, clockRules, clockCall}
@@ -224,6 +225,18 @@ at-start d rows lent =
 
 -- ---- what the call comes to
 
+-- the book that is left stands in order
+pub left-ranked :
+    (d : Day) (t : ℕ) (rows lent : List (List ℕ)) {p : Passage} {rows₁ after : List (List ℕ)}
+    → Ready d (bookOf rows)
+    → Reached (moved d t (bookOf rows)) lent p rows₁ after
+    → Ranked (bookOf rows₁)
+left-ranked d t rows lent {p} {rows₁} {after} s r =
+    let u : Underway (moved d t (bookOf rows)) =
+    unfold moved in through-underway (passed (d .time) t) (start d (bookOf rows)) (start-underway d (bookOf rows) s) in
+    let b : bookOf rows₁ ≡ moved d t (bookOf rows) .book = ap (λ (h : Held). h .book) (r .state) in
+    rw b (u .ranked)
+
 -- the row of the new time
 pub row-then : (d : Day) (t : ℕ) {day : Day} {row : Row} → day ≡ at t d → row ≡ rowAt t → row ≡ rowAt (day .time)
 unfolding at
@@ -240,17 +253,21 @@ module _ (d : Day) (t : ℕ) (rows lent : List (List ℕ)) {n : ℕ} (e : n ≡ 
   clock-refused z = rw (first, ne-eqb n 0 z)
 
   pub clock-accepted :
-      (p : Passage) (rows₁ after : List (List ℕ)) {phase : ℕ} {day : Day}
+      (p : Passage) (rows₁ after : List (List ℕ)) {phase : ℕ} {then day : Day}
       → n ≡ 0
       → Reached (moved d t (bookOf rows)) lent p rows₁ after
-      → phase ≡ phaseNow day
-      → day ≡ at t (p .day)
+      → phase ≡ phaseNow then
+      → then ≡ at t (p .day)
+      → day ≡ update (tradesOf (take (p .made) after)) (bookOf rows₁) then
       → callLeft (record { reply = Moved phase (p .made); made = p .made; day = day }) rows₁ after
       ≡ clockCall d t (bookOf rows) (tradesOf lent)
   unfolding clockCall
-  clock-accepted p rows₁ after {phase} {day} z r f g =
+  clock-accepted p rows₁ after {phase} {then} {day} z r f g u =
       let m : p .made ≡ length (moved d t (bookOf rows) .trades) = reached-made r in
       let b : bookOf rows₁ ≡ moved d t (bookOf rows) .book = ap (λ (h : Held). h .book) (r .state) in
       let w : tradesOf after ≡ written (moved d t (bookOf rows) .trades) (tradesOf lent) = reached-written r in
-      let e : day ≡ at t (moved d t (bookOf rows) .day) = g ∙ ap (λ (h : Held). at t (h .day)) (r .state) in
-      rw (first, eq-eqb n 0 z, f ∙ ap phaseNow e, m, b, w, e)
+      let e : then ≡ at t (moved d t (bookOf rows) .day) = g ∙ ap (λ (h : Held). at t (h .day)) (r .state) in
+      let s : day ≡ update (moved d t (bookOf rows) .trades) (moved d t (bookOf rows) .book) (at t (moved d t (bookOf rows) .day)) =
+      u ∙ ap (λ (x : Day). update (tradesOf (take (p .made) after)) (bookOf rows₁) x) g ∙ ap (λ (h : Held). update (h .trades) (h .book) (at t (h .day))) (r .state)
+      in
+      rw (first, eq-eqb n 0 z, f ∙ ap phaseNow e, m, b, w, s)

@@ -10,6 +10,7 @@ use model::ClockAnswer;
 use model::ClockReply;
 use model::Day;
 use model::LAST_SECOND;
+use screens::update_screen;
 ghost use mathlib.Core.Path.{_≡_};
 ghost use mathlib.Core.Bool.{true, false};
 ghost use Prim.Native.Nat.{_≤_};
@@ -105,13 +106,13 @@ pub fn clock_sound(d: Day, rows: &mut [[u64; 5]], trades: &mut [[u64; 6]], time:
     }
     let passage = pass_stops(d, &mut *rows, &mut *trades, time);
     let made = passage.made;
-    let day = day_at(passage.day, time);
+    let then = day_at(passage.day, time);
     ClockAnswer {
         reply: ClockReply::Moved {
-            phase: phase_now(day, row_at(time)),
+            phase: phase_now(then, row_at(time)),
             trades: made,
         },
         made,
-        day,
+        day: update_screen(then, rows, trades, made),
     }
 }

@@ -1,5 +1,5 @@
 -- A number as bytes, and the way back from either. Assumes nothing.
-use Prim.Native.Nat.{ℕ, zero, suc, _+_, _*_, _/_, _%_, _^_, _<_}
+use Prim.Native.Nat.{ℕ, zero, suc, _+_, _*_, _/_, _%_, _^_, _≤_, _<_}
 use mathlib.Core.Path.{_≡_, refl, ap, _∙_}
 use mathlib.Core.List.{List, [], _∷_}
 use native.Mathlib.Omega.{arith}
@@ -35,6 +35,21 @@ digits-worth (x ∷ b) h =
     rw (m, d, digits-worth b (λ i. h (suc i)))
 
 -- ---- parts of bytes
+
+-- what a few bytes are worth is small
+
+power : (n : ℕ) → 1 ≤ 256 ^ n
+power zero = omega arith
+power (suc n) = let p = power n in omega (arith, p)
+
+pub few-bytes : (n : ℕ) (b : List ℕ) → length b ≤ n → AllBytes b → worth b < 256 ^ n
+unfolding worth
+few-bytes n [] h s = power n
+few-bytes zero (x ∷ b) h s = absurd (omega (arith, h))
+few-bytes (suc n) (x ∷ b) h s =
+    let w : worth b < 256 ^ n = few-bytes n b (omega (arith, h)) (λ i. s (suc i)) in
+    let x-byte : x < 256 = s 0 in
+    omega (arith, w, x-byte)
 
 pub bytes-take : (n : ℕ) (b : List ℕ) → AllBytes b → AllBytes (take n b)
 bytes-take zero b h i = omega arith

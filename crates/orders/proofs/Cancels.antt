@@ -8,20 +8,25 @@ use lib.ListN.{length, length-map, getD, take, drop}
 use borrow.Author.Tests.{lt-ltb, le-ltb, ltb-true, eqb-false, eq-eqb, ne-eqb, not-false}
 use Rattle.model.specs.declared.Order.{Order}
 use Rattle.model.specs.declared.Day.{Day}
-use Rattle.model.specs.declared.CancelReply.the-variants.{Refused, Withdrawn}
+use Rattle.model.specs.declared.CancelReply.the-variants.{Withdrawn}
 use Rattle.model.specs.Lists.{any, keep, total}
 use Rattle.model.specs.Clock.{takesCancels}
 use Rattle.model.specs.Book.{free, queue, arranged}
+use Rattle.model.specs.Screen.{update}
 use Rattle.model.specs.Refusals.{_when_, firstOf, unsound}
 use Rattle.model.specs.Calls.{isOwn, cancelRules, cancelCall}
 use Rattle.model.proofs.Rules.{Numbered, NoneHolds, none-holds}
 use Rattle.book.specs.Rows.{orderOf, bookOf}
 use Rattle.book.specs.Places.{placeOf}
-use Rattle.book.specs.Standing.{Ranked}
+use Rattle.book.specs.Standing.{Standing, Ranked}
 use Rattle.book.proofs.Finding.{own-any, own-live, cancel-left}
+use Rattle.book.proofs.Lists.{length-keep}
+use Rattle.book.proofs.Kept.{standing-keep}
+use Rattle.book.proofs.Counting.{queues-fit}
+use Rattle.book.proofs.Arranging.{arranged-ranked}
 use Rattle.book.proofs.Memory.{book-at}
 use Rattle.book.proofs.TakenOut.{live-before, cancel-arranged}
-use Rattle.book.specs.Promises.{cancelLeft}
+use Rattle.book.specs.Promises.{cancelLeft, cancelRefused}
 
 module _ (d : Day) (account number : ℕ) (rows : List (List ℕ)) where
   abbrev book : List Order
@@ -58,7 +63,7 @@ module _ (d : Day) (account number : ℕ) (rows : List (List ℕ)) where
   numbered = (eqb-false 15 0 refl, (eqb-false 4 0 refl, (eqb-false 12 0 refl, tt)))
 
   module _ {n : ℕ} (r : n ≡ rules) where
-    pub cancel-refused : (n ≡ 0 → ⊥) → cancelLeft (Refused n) rows ≡ cancelCall d account number book
+    pub cancel-refused : (n ≡ 0 → ⊥) → cancelLeft (cancelRefused d n) rows ≡ cancelCall d account number book
     unfolding cancelCall
     cancel-refused z = rw (ne-eqb rules 0 (λ y. z (r ∙ y)), r)
 
@@ -83,18 +88,28 @@ module _ (d : Day) (account number : ℕ) (rows : List (List ℕ)) where
             own-live account number book (omega (arith, e, cancel-place, length-map rows orderOf))
             (ap (λ (i : ℕ). getD book i free .number) (sym e) ∙ n))
 
-        pub cancel-accepted :
-            {own : Order} (after : List (List ℕ))
-            → Ranked book
-            → own ≡ orderOf (getD rows place [])
-            → bookOf after ≡ take place book ++ (drop (place + 1) book ++ (free ∷ []))
-            → cancelLeft (Withdrawn (own .left)) after ≡ cancelCall d account number book
-        unfolding cancelCall
-        cancel-accepted {own} after r₁ f g =
-            let l : own .left ≡ total (λ o. o .left) (keep (isOwn account number) book) =
-            ap (λ (o : Order). o .left) (f ∙ ap (λ (k : ℕ). orderOf (getD rows k [])) e ∙ book-at rows _)
-            ∙ sym (cancel-left account number book (r₁ .stands .apart)) in
-            let b : bookOf after ≡ arranged (length book) (keep (λ o. not (isOwn account number o)) book) =
-            g ∙ cancel-arranged book r₁ account number e (omega (arith, cancel-place, length-map rows orderOf))
-            in
-            rw (eq-eqb rules 0 (sym r ∙ z), l, b)
+        module _ (after : List (List ℕ)) (r₁ : Ranked book) (g : bookOf after ≡ take place book ++ (drop (place + 1) book ++ (free ∷ []))) where
+          left-book : bookOf after ≡ arranged (length book) (keep (λ o. not (isOwn account number o)) book)
+          left-book = g ∙ cancel-arranged book r₁ account number e (omega (arith, cancel-place, length-map rows orderOf))
+
+          pub cancel-ranked : Ranked (bookOf after)
+          cancel-ranked =
+              let others : List Order = keep (λ o. not (isOwn account number o)) book in
+              let s : Standing others = standing-keep (λ o. not (isOwn account number o)) book (r₁ .stands) in
+              rw left-book
+              (arranged-ranked (length book) others s
+              (omega (arith, queues-fit others (s .fair), length-keep (λ o. not (isOwn account number o)) book))
+              (r₁ .few))
+
+          pub cancel-accepted :
+              {own : Order} {day : Day}
+              → own ≡ orderOf (getD rows place [])
+              → day ≡ update [] (bookOf after) d
+              → cancelLeft (record { reply = Withdrawn (own .left); day = day }) after ≡ cancelCall d account number book
+          unfolding cancelCall
+          cancel-accepted {own} {day} f u =
+              let l : own .left ≡ total (λ o. o .left) (keep (isOwn account number) book) =
+              ap (λ (o : Order). o .left) (f ∙ ap (λ (k : ℕ). orderOf (getD rows k [])) e ∙ book-at rows _)
+              ∙ sym (cancel-left account number book (r₁ .stands .apart))
+              in
+              rw (eq-eqb rules 0 (sym r ∙ z), l, u, left-book)

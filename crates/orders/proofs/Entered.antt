@@ -18,12 +18,13 @@ use Rattle.model.specs.declared.Day.{Day}
 use Rattle.model.specs.declared.Remainder.{Remainder}
 use Rattle.model.specs.declared.OrderReply.the-variants.{Accepted}
 use Rattle.model.specs.Choice.{if_then_else_}
-use Rattle.model.specs.Lists.{total}
-use Rattle.model.specs.Book.{queue, best, other, arranged}
+use Rattle.model.specs.Lists.{all, total}
+use Rattle.model.specs.Book.{isLive, queue, best, other, arranged}
 use Rattle.model.specs.Matching.{filled, levels, lastPrice, settle}
 use Rattle.model.specs.Figures.{nextNumber, issue, money, tally}
 use Rattle.model.specs.Halts.{fired}
 use Rattle.model.specs.Entry.{entryTrades, restPrice}
+use Rattle.model.specs.Screen.{update}
 use Rattle.model.specs.Calls.{written, ended, joined, entered}
 use Rattle.model.proofs.Bools.{true-or-false}
 use Rattle.book.specs.Rows.{orderOf, bookOf, tradesOf, tradeRows}
@@ -32,7 +33,7 @@ use Rattle.book.specs.Standing.{Standing, Ranked}
 use Rattle.book.specs.Writing.{fitted}
 use Rattle.book.proofs.Written.{fitted-trades, fitted-written}
 use Rattle.book.proofs.Kept.{New, standing-settle}
-use Rattle.book.proofs.Counting.{queues-orders, fewer-orders}
+use Rattle.book.proofs.Counting.{queues-orders, fewer-orders, not-full}
 use Rattle.book.proofs.Arranging.{arranged-buys, arranged-sells, arranged-length, arranged-ranked, arranged-again, arranged-with}
 use Rattle.soundness.proofs.SoundDays.{next-new}
 use Rattle.matching.specs.declared.Swept.{Swept}
@@ -40,8 +41,8 @@ use Rattle.matching.specs.Sweeping.{comesTo}
 use Rattle.matching.specs.Entering.{restAt}
 use Rattle.matching.specs.Settling.{SweptBy}
 use Rattle.matching.proofs.Entries.{rest-price}
-use Rattle.matching.proofs.EntryLaws.{entry-filled, entry-swept}
-use Rattle.matching.proofs.EntryKept.{traded-bound, fair-rest}
+use Rattle.matching.proofs.EntryLaws.{entry-filled, entry-swept, ordersThen}
+use Rattle.matching.proofs.EntryKept.{traded-bound, fair-rest, entered-standing, entered-fits}
 use Rattle.book.specs.Promises.{callLeft}
 use Rattle.orders.specs.Taken.{Taken, Joins, RoomFor}
 
@@ -253,35 +254,60 @@ module _ (d : Day) (a : Asked) (rows lent : List (List ℕ)) where
 
         -- ---- and what it all comes to
 
-        pub entered-is :
-            (rows₂ : List (List ℕ)) {p : ℕ} {rem : Remainder} {day : Day}
-            → p ≡ restAt a (best (a .side) book) (best (other (a .side)) book) (s .filled) (s .last)
-            → bookOf rows₂ ≡ arranged (length rows₁) (joined a (d .issued + 1) (a .quantity - s .filled) p (bookOf rows₁))
-            → rem ≡ ended (a .quantity - s .filled) p
-            → day ≡ fired (d .time) (tradesOf (take (s .trades) trades)) (tally (tradesOf (take (s .trades) trades)) (issue d))
-            → callLeft
-            (record {
-              reply =
-                  Accepted (record { number = d .issued + 1; filled = s .filled; levels = s .levels; remainder = rem });
-              made = s .trades;
-              day = day;
-            })
-            rows₂
-            trades
-            ≡ entered d a book (tradesOf lent)
-        unfolding entered nextNumber
-        entered-is rows₂ {p} {rem} {day} ep eb em ed =
-            let n = add-one (d .issued) in
-            let p' : p ≡ restPrice a ts book = rests-at ep in
-            let b' : bookOf rows₂ ≡ arranged (length book) (joined a (d .issued + 1) (a .quantity - s .filled) p (settle ts book)) =
-            eb
-            ∙ ap (λ (k : ℕ). arranged k (joined a (d .issued + 1) (a .quantity - s .filled) p (bookOf rows₁))) then-long
-            ∙ ap (λ (b : List Order). arranged (length rows) (joined a (d .issued + 1) (a .quantity - s .filled) p b)) settled
-            ∙ joined-arranged a (d .issued + 1) (a .quantity - s .filled) p (settle ts book) (length rows) settled-stands within
-            ∙ ap (λ (k : ℕ). arranged k (joined a (d .issued + 1) (a .quantity - s .filled) p (settle ts book))) (sym (length-map rows orderOf))
-            in
-            let t' : tradesOf trades ≡ written ts (tradesOf lent) = ap tradesOf w ∙ fitted-written ts lent fits in
-            let d' : day ≡ fired (d .time) ts (tally ts (issue d)) =
-            ed ∙ ap (λ (l : List Trade). fired (d .time) l (tally l (issue d))) back
-            in
-            cc (made, sold, at-prices)
+        module _
+            (rows₂ : List (List ℕ)) {p : ℕ}
+            (ep : p ≡ restAt a (best (a .side) book) (best (other (a .side)) book) (s .filled) (s .last))
+            (eb : bookOf rows₂ ≡ arranged (length rows₁) (joined a (d .issued + 1) (a .quantity - s .filled) p (bookOf rows₁)))
+          where
+            -- the book then
+            left-book : bookOf rows₂ ≡ arranged (length book) (joined a (nextNumber d) (a .quantity - filled ts) (restPrice a ts book) (settle ts book))
+            unfolding nextNumber
+            left-book =
+                let n = add-one (d .issued) in
+                let p' : p ≡ restPrice a ts book = rests-at ep in
+                let b' : bookOf rows₂ ≡ arranged (length book) (joined a (d .issued + 1) (a .quantity - s .filled) p (settle ts book)) =
+                eb
+                ∙ ap (λ (k : ℕ). arranged k (joined a (d .issued + 1) (a .quantity - s .filled) p (bookOf rows₁))) then-long
+                ∙ ap (λ (b : List Order). arranged (length rows) (joined a (d .issued + 1) (a .quantity - s .filled) p b)) settled
+                ∙ joined-arranged a (d .issued + 1) (a .quantity - s .filled) p (settle ts book) (length rows) settled-stands within
+                ∙ ap (λ (k : ℕ). arranged k (joined a (d .issued + 1) (a .quantity - s .filled) p (settle ts book))) (sym (length-map rows orderOf))
+                in
+                cc sold
+
+            pub left-ranked : Ranked (bookOf rows₂)
+            left-ranked =
+                let few : nextNumber d ≤ 999_999 = unfold nextNumber in omega (arith, t .number) in
+                let free : all isLive book ≡ false = not-full book (omega (arith, queues-orders book (stands .fair), t .room)) in
+                rw left-book
+                (arranged-ranked (length book) (ordersThen d a book (nextNumber d))
+                (entered-standing d a book stands (t .price) (nextNumber d) (t .side) (t .quantity) few new)
+                (entered-fits d a book stands (t .price) (nextNumber d) (t .side) (t .quantity) few new free)
+                (t .ready .ranked .few))
+
+            pub entered-is :
+                {rem : Remainder} {counted day : Day}
+                → rem ≡ ended (a .quantity - s .filled) p
+                → counted ≡ fired (d .time) (tradesOf (take (s .trades) trades)) (tally (tradesOf (take (s .trades) trades)) (issue d))
+                → day ≡ update (tradesOf (take (s .trades) trades)) (bookOf rows₂) counted
+                → callLeft
+                (record {
+                  reply =
+                      Accepted (record { number = d .issued + 1; filled = s .filled; levels = s .levels; remainder = rem });
+                  made = s .trades;
+                  day = day;
+                })
+                rows₂
+                trades
+                ≡ entered d a book (tradesOf lent)
+            unfolding entered nextNumber
+            entered-is {rem} {counted} {day} em ec ed =
+                let n = add-one (d .issued) in
+                let p' : p ≡ restPrice a ts book = rests-at ep in
+                let b' = left-book in
+                let t' : tradesOf trades ≡ written ts (tradesOf lent) = ap tradesOf w ∙ fitted-written ts lent fits in
+                let c' : counted ≡ fired (d .time) ts (tally ts (issue d)) =
+                ec ∙ ap (λ (l : List Trade). fired (d .time) l (tally l (issue d))) back in
+                let d' : day ≡ update ts (bookOf rows₂) counted =
+                ed ∙ ap (λ (l : List Trade). update l (bookOf rows₂) counted) back
+                in
+                cc (made, sold, at-prices)

@@ -20,6 +20,7 @@ use model::Order;
 use model::OrderAnswer;
 use model::OrderReply;
 use model::Remainder;
+use screens::update_screen;
 ghost use mathlib.Core.Path.{_≡_};
 ghost use mathlib.Core.Bool.{false};
 ghost use Prim.Native.Nat.{_≤_};
@@ -68,8 +69,8 @@ fn join_rest(rows: &mut [[u64; 5]], a: Asked, number: u64, q: u64, p: u64)
     take_in(&mut *rows, o);
 }
 
-// The day after an order whose trades are the first n of the list: one number more is issued, they are added to its figures, and they
-// may start a halt.
+// The day's figures after an order whose trades are the first n of the list: one number more is issued, they are added, and they may
+// start a halt. Its screen is still the one before.
 fn day_after(d: Day, trades: &[[u64; 6]], n: usize) -> Day
     requires { ⌜ n ≤ length (now trades) ⌝ }
     requires { ⌜ RoomFor d (tradesOf (take n (now trades))) ⌝ }
@@ -100,7 +101,8 @@ fn enter(
     let p = price_of_rest(a, own, other, s);
     settle_entry(&mut *rows, a.side, s.filled);
     join_rest(&mut *rows, a, d.issued + 1, q, p);
-    let next = day_after(d, trades, s.trades);
+    let counted = day_after(d, trades, s.trades);
+    let next = update_screen(counted, rows, trades, s.trades);
     let entry = Entry {
         number: d.issued + 1,
         filled: s.filled,

@@ -17,10 +17,10 @@ use Rattle.model.specs.Lists.{keep, total}
 use Rattle.model.specs.Book.{isLive, queue, best, arranged}
 use Rattle.model.specs.Matching.{filled, firstPrice, lastPrice, settle}
 use Rattle.model.specs.Figures.{money, reference}
-use Rattle.model.specs.Auction.{volume}
+use Rattle.model.specs.Auction.{volume, auctionPrice}
 use Rattle.model.specs.Pairing.{cut, tradesAt}
 use Rattle.model.specs.Sound.{crosses}
-use Rattle.model.specs.ClockCall.{auctionPrice, auctionTrades}
+use Rattle.model.specs.ClockCall.{auctionTrades}
 use Rattle.model.specs.Words.{Each, Qualifies}
 use Rattle.book.specs.Standing.{Standing}
 use Rattle.book.proofs.Lists.{length-keep}

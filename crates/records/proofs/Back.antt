@@ -4,7 +4,7 @@ use mathlib.Core.Path.{_≡_, refl, sym, ap, _∙_}
 use mathlib.Core.List.{List, [], _∷_, _++_, append-assoc}
 use native.Mathlib.Omega.{arith}
 use native.Mathlib.Nat.{mul-suc, mul-zero, add-comm, mul-le-mul-left}
-use lib.ListN.{length, take, drop, length-append, length-drop, take-append-drop}
+use lib.ListN.{length, getD, take, drop, length-append, length-take, length-drop, take-append-drop}
 use lib.Seq.{take-at, drop-at, drop-append-le, take-add, length-take-le}
 use Rattle.model.specs.declared.Order.{Order}
 use Rattle.model.specs.declared.Trade.{Trade}
@@ -12,9 +12,10 @@ use Rattle.model.specs.declared.Day.{Day}
 use Rattle.book.specs.Rows.{orderOf, rowOf}
 use Rattle.model.specs.Words.{Each}
 use Rattle.octets.specs.Numbers.{AllBytes, digits, parts, flat}
-use Rattle.octets.proofs.Digits.{length-digits, worth-digits, digits-worth, bytes-take, bytes-drop}
+use Rattle.octets.proofs.Digits.{length-digits, worth-digits, digits-worth, few-bytes, bytes-take, bytes-drop}
 use Rattle.octets.proofs.Parts.{length-flat, length-parts, flat-append, flat-drop}
-use Rattle.records.specs.Layout.{Word, Fits, numberIn, numbers, orderIn, dayOf, dayIn, bookIn, pricesIn, bytes, orderBytes, tradeIn, tradeBytes, tradesIn, tradesBytes, bookBytes, dayRow, dayBytes, over}
+use Rattle.replies.proofs.Signs.{word-signed, signed-word}
+use Rattle.records.specs.Layout.{Word, Fits, DayFits, numberIn, numbers, orderIn, dayOf, dayIn, bookIn, pricesIn, bytes, orderBytes, tradeIn, tradeBytes, tradesIn, tradesBytes, bookBytes, dayRow, dayBytes, over}
 use Rattle.records.proofs.Sizes.{length-order, length-trade, length-book}
 
 pub length-book-in : (b : List ℕ) → length (bookIn b) ≡ length b / 40
@@ -108,12 +109,21 @@ pub trades-front :
 unfolding tradesBytes tradesIn
 trades-front new b s k = over-front tradeIn tradeBytes 48 trade-again length-trade new (length b / 48) b (omega arith) s k
 
-day-again : (b : List ℕ) → 88 ≤ length b → AllBytes b → dayBytes (dayIn b) ≡ take 88 b
-unfolding dayBytes dayIn numbers parts
-day-again b h s = numbers-again 11 b h s
+-- each number that is read is one of 64 bits
+numbers-fit : (n i : ℕ) (b : List ℕ) → AllBytes b → Word (getD (parts numberIn 8 n b) i 0)
+unfolding parts
+numbers-fit zero i b s = omega arith
+numbers-fit (suc n) zero b s = few-bytes 8 (take 8 b) (rw length-take (omega arith)) (bytes-take 8 b s)
+numbers-fit (suc n) (suc i) b s = numbers-fit n i (drop 8 b) (bytes-drop 8 b s)
 
-pub day-kept : (b : List ℕ) → length b ≡ 88 → AllBytes b → over (dayBytes (dayIn b)) b ≡ b
-day-kept b h s = kept _ b 88 (day-again b (omega arith) s) (omega arith)
+day-again : (b : List ℕ) → 312 ≤ length b → AllBytes b → dayBytes (dayIn b) ≡ take 312 b
+unfolding dayBytes dayIn numbers parts
+day-again b h s =
+    let surplus : Word (getD (numbers 39 b) 35 0) = numbers-fit 39 35 b s in
+    rw (word-signed (getD (numbers 39 b) 35 0) surplus) (numbers-again 39 b h s)
+
+pub day-kept : (b : List ℕ) → length b ≡ 312 → AllBytes b → over (dayBytes (dayIn b)) b ≡ b
+day-kept b h s = kept _ b 312 (day-again b (omega arith) s) (omega arith)
 
 pub prices-kept : (b : List ℕ) → AllBytes b → over (bytes (pricesIn b)) b ≡ b
 unfolding pricesIn
@@ -155,9 +165,9 @@ numbers-back ns rest h = parts-flat numberIn (digits 8) 8 (length-digits 8) ns r
 order-back : (o : Order) → Fits o → (rest : List ℕ) → orderIn (orderBytes o ++ rest) ≡ o
 order-back o h rest = ap orderOf (numbers-back (rowOf o) rest h)
 
-pub day-back : (d : Day) (rest : List ℕ) → Each Word (dayRow d) → dayIn (dayBytes d ++ rest) ≡ d
+pub day-back : (d : Day) (rest : List ℕ) → DayFits d → dayIn (dayBytes d ++ rest) ≡ d
 unfolding dayIn dayBytes
-day-back d rest h = ap dayOf (numbers-back (dayRow d) rest h)
+day-back d rest h = ap dayOf (numbers-back (dayRow d) rest (h .words)) ∙ rw (signed-word (d .screen .surplus) (h .surplus))
 
 pub book-back : (book : List Order) (b : List ℕ) → Each Fits book → length book ≡ length b / 40 → bookIn (over (bookBytes book) b) ≡ book
 unfolding bookIn bookBytes over

@@ -6,3 +6,4 @@ pub mod Rows
 pub mod Counted
 pub mod Stored
 pub mod Back
+pub mod Held

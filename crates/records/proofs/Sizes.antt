@@ -22,7 +22,7 @@ length-order o = length-bytes (rowOf o)
 pub length-trade : (t : Trade) → length (tradeBytes t) ≡ 48
 length-trade t = length-bytes (tradeRow t)
 
-pub length-day : (d : Day) → length (dayBytes d) ≡ 88
+pub length-day : (d : Day) → length (dayBytes d) ≡ 312
 unfolding dayBytes
 length-day d = length-bytes (dayRow d)
 

@@ -1,20 +1,63 @@
 -- A day, a book, trades and a reply as a call reads and stores them. Assumes nothing.
 use Prim.Native.Nat.{ℕ, _+_, _*_, _/_, _≤_, _<_}
-use mathlib.Core.Path.{_≡_, _∙_}
-use mathlib.Core.List.{List}
+use mathlib.Core.Path.{_≡_, refl, sym, ap, _∙_}
+use mathlib.Core.List.{List, [], _∷_, _++_}
 use native.Mathlib.Omega.{arith}
 use lib.ListN.{length, take, length-map}
 use lib.Seq.{sets, take-all, length-take-le}
+use Rattle.model.specs.declared.Screen.{Screen}
 use Rattle.model.specs.declared.Day.{Day}
 use Rattle.book.specs.Rows.{orderOf, bookOf, tradeOf, tradesOf}
-use Rattle.octets.specs.Numbers.{parts, flat}
-use Rattle.records.specs.Layout.{bytes, dayRow, dayBytes, orderIn, orderBytes, bookIn, bookBytes, tradeBytes, tradesBytes, over, replied}
-use Rattle.records.proofs.Runs.{sets-over}
+use Rattle.octets.specs.Numbers.{digits, parts, flat}
+use Rattle.octets.proofs.Parts.{flat-append}
+use Rattle.replies.specs.Words.{word}
+use Rattle.records.specs.Layout.{bytes, levelsRow, screenRow, dayBytes, orderIn, orderBytes, bookIn, bookBytes, tradeBytes, tradesBytes, over, replied}
+use Rattle.records.proofs.Runs.{sets-on, sets-over}
 use Rattle.records.proofs.Sizes.{length-bytes, length-day, length-book, length-trades}
 
-pub day-put : (b : List ℕ) (d : Day) (b' : List ℕ) → 88 ≤ length b → b' ≡ sets b 0 (bytes (dayRow d)) → b' ≡ over (dayBytes d) b
+-- one row of numbers behind another
+then-put :
+    (b xs ys : List ℕ) (at n : ℕ) {b₁ b₂ : List ℕ}
+    → 8 * length xs ≡ n
+    → b₁ ≡ sets b at (bytes xs)
+    → b₂ ≡ sets b₁ (at + n) (bytes ys)
+    → b₂ ≡ sets b at (bytes (xs ++ ys))
+unfolding bytes
+then-put b xs ys at n {b₁} {b₂} e f g =
+    g
+    ∙ ap (λ (l : List ℕ). sets l (at + n) (bytes ys)) f
+    ∙ sets-on b (bytes xs) (bytes ys) at n (length-bytes xs ∙ e)
+    ∙ ap (sets b at) (sym (flat-append (digits 8) xs ys))
+
+pub screen-put :
+    (b : List ℕ) (at : ℕ) (s : Screen) {w : ℕ} {b₁ b₂ b₃ b₄ : List ℕ}
+    → w ≡ word (s .surplus)
+    → b₁ ≡ sets b at (bytes (s .last ∷ s .high ∷ s .low ∷ s .shares ∷ s .turnover ∷ []))
+    → b₂ ≡ sets b₁ (at + 40) (bytes (levelsRow (s .buys)))
+    → b₃ ≡ sets b₂ (at + 120) (bytes (levelsRow (s .sells)))
+    → b₄ ≡ sets b₃ (at + 200) (bytes (s .price ∷ s .volume ∷ w ∷ []))
+    → b₄ ≡ sets b at (bytes (screenRow s))
+screen-put b at s {w} {b₁} {b₂} {b₃} {b₄} e f g h k =
+    let traded : List ℕ = s .last ∷ s .high ∷ s .low ∷ s .shares ∷ s .turnover ∷ [] in
+    let two : b₂ ≡ sets b at (bytes (traded ++ levelsRow (s .buys))) = then-put b traded (levelsRow (s .buys)) at 40 refl f g in
+    let three : b₃ ≡ sets b at (bytes (traded ++ levelsRow (s .buys) ++ levelsRow (s .sells))) =
+    then-put b (traded ++ levelsRow (s .buys)) (levelsRow (s .sells)) at 120 refl two h in
+    then-put b (traded ++ levelsRow (s .buys) ++ levelsRow (s .sells)) (s .price ∷ s .volume ∷ w ∷ []) at 200 refl three k
+    ∙ ap (λ (x : ℕ). sets b at (bytes (traded ++ levelsRow (s .buys) ++ levelsRow (s .sells) ++ (s .price ∷ s .volume ∷ x ∷ [])))) e
+
+pub day-put :
+    (b : List ℕ) (d : Day) {b₁ b₂ b₃ : List ℕ}
+    → 312 ≤ length b
+    → b₁ ≡ sets b 0 (bytes (d .close ∷ d .limited ∷ d .time ∷ d .issued ∷ d .shares ∷ d .turnover ∷ d .first ∷ d .last ∷ []))
+    → b₂ ≡ sets b₁ 64 (bytes (screenRow (d .screen)))
+    → b₃ ≡ sets b₂ 288 (bytes (d .halt ∷ d .used30 ∷ d .used60 ∷ []))
+    → b₃ ≡ over (dayBytes d) b
 unfolding dayBytes
-day-put b d b' h e = e ∙ sets-over (dayBytes d) b (omega (arith, length-day d))
+day-put b d {b₁} {b₂} {b₃} h e f g =
+    let figures : List ℕ = d .close ∷ d .limited ∷ d .time ∷ d .issued ∷ d .shares ∷ d .turnover ∷ d .first ∷ d .last ∷ [] in
+    let two : b₂ ≡ sets b 0 (bytes (figures ++ screenRow (d .screen))) = then-put b figures (screenRow (d .screen)) 0 64 refl e f in
+    then-put b (figures ++ screenRow (d .screen)) (d .halt ∷ d .used30 ∷ d .used60 ∷ []) 0 288 refl two g
+    ∙ sets-over (dayBytes d) b (omega (arith, length-day d))
 
 -- the rows of as many places as the bytes hold
 pub book-read :

@@ -1,14 +1,19 @@
 -- Numbers, records and lists as bytes, both ways. A number is 8 bytes, least byte first; a record is its numbers in a row, and
 -- a list its records. What follows the last whole record belongs to nothing and stays.
-use Prim.Native.Nat.{ℕ, _/_, _^_, _<_}
+use Prim.Native.Nat.{ℕ, _+_, _/_, _^_, _<_}
 use mathlib.Core.List.{List, [], _∷_, _++_}
 use lib.ListN.{length, getD, take, drop}
+use lib.Signed.{mag}
 use Rattle.model.specs.declared.Order.{Order}
 use Rattle.model.specs.declared.Trade.{Trade}
+use Rattle.model.specs.declared.Level.{Level}
+use Rattle.model.specs.declared.Levels.{Levels}
+use Rattle.model.specs.declared.Screen.{Screen}
 use Rattle.model.specs.declared.Day.{Day}
 use Rattle.model.specs.Words.{Each}
 use Rattle.octets.specs.Numbers.{worth, digits, parts, flat}
 pub use Rattle.octets.specs.Numbers.{AllBytes}
+use Rattle.replies.specs.Words.{word, signed}
 use Rattle.book.specs.Rows.{orderOf, rowOf, tradeOf, tradeRow}
 
 -- ---- what memory can hold
@@ -35,7 +40,38 @@ orderIn b = orderOf (numbers 5 b)
 abbrev pub tradeIn : List ℕ → Trade
 tradeIn b = tradeOf (numbers 6 b)
 
--- close, mark, time, numbers issued, shares, turnover, first, last, the halt's end, 30% used, 60% used
+-- what a row of numbers holds from its place i on: a price and its shares
+abbrev pub heldLevel : List ℕ → ℕ → Level
+heldLevel n i = record { price = getD n i 0; shares = getD n (i + 1) 0 }
+
+-- five of them
+abbrev pub heldLevels : List ℕ → ℕ → Levels
+heldLevels n i =
+    record {
+      first = heldLevel n i;
+      second = heldLevel n (i + 2);
+      third = heldLevel n (i + 4);
+      fourth = heldLevel n (i + 6);
+      fifth = heldLevel n (i + 8);
+    }
+
+-- the screen: last, high, low, shares, turnover, five buy levels, five sell levels, price, volume, surplus
+abbrev pub heldScreen : List ℕ → ℕ → Screen
+heldScreen n i =
+    record {
+      last = getD n i 0;
+      high = getD n (i + 1) 0;
+      low = getD n (i + 2) 0;
+      shares = getD n (i + 3) 0;
+      turnover = getD n (i + 4) 0;
+      buys = heldLevels n (i + 5);
+      sells = heldLevels n (i + 15);
+      price = getD n (i + 25) 0;
+      volume = getD n (i + 26) 0;
+      surplus = signed (getD n (i + 27) 0);
+    }
+
+-- close, mark, time, numbers issued, shares, turnover, first, last, the screen, the halt's end, 30% used, 60% used
 abbrev pub dayOf : List ℕ → Day
 dayOf n =
     record {
@@ -47,13 +83,14 @@ dayOf n =
       turnover = getD n 5 0;
       first = getD n 6 0;
       last = getD n 7 0;
-      halt = getD n 8 0;
-      used30 = getD n 9 0;
-      used60 = getD n 10 0;
+      screen = heldScreen n 8;
+      halt = getD n 36 0;
+      used30 = getD n 37 0;
+      used60 = getD n 38 0;
     }
 
 unfoldable pub dayIn : List ℕ → Day
-dayIn b = dayOf (numbers 11 b)
+dayIn b = dayOf (numbers 39 b)
 
 -- a book, a trade list and a price list: the whole records that the bytes hold
 unfoldable pub bookIn : List ℕ → List Order
@@ -82,9 +119,30 @@ bookBytes book = flat orderBytes book
 unfoldable pub tradesBytes : List Trade → List ℕ
 tradesBytes ts = flat tradeBytes ts
 
+abbrev pub levelRow : Level → List ℕ
+levelRow l = l .price ∷ l .shares ∷ []
+
+abbrev pub levelsRow : Levels → List ℕ
+levelsRow ls = levelRow (ls .first) ++ levelRow (ls .second) ++ levelRow (ls .third) ++ levelRow (ls .fourth) ++ levelRow (ls .fifth)
+
+-- its surplus in two's complement
+abbrev pub screenRow : Screen → List ℕ
+screenRow s =
+    (s .last ∷ s .high ∷ s .low ∷ s .shares ∷ s .turnover ∷ [])
+    ++ levelsRow (s .buys)
+    ++ levelsRow (s .sells)
+    ++ (s .price ∷ s .volume ∷ word (s .surplus) ∷ [])
+
 abbrev pub dayRow : Day → List ℕ
 dayRow d =
-    d .close ∷ d .limited ∷ d .time ∷ d .issued ∷ d .shares ∷ d .turnover ∷ d .first ∷ d .last ∷ d .halt ∷ d .used30 ∷ d .used60 ∷ []
+    (d .close ∷ d .limited ∷ d .time ∷ d .issued ∷ d .shares ∷ d .turnover ∷ d .first ∷ d .last ∷ [])
+    ++ screenRow (d .screen)
+    ++ (d .halt ∷ d .used30 ∷ d .used60 ∷ [])
+
+-- a day of numbers of 64 bits, its surplus with a sign
+pub record DayFits (d : Day) : Type 0 where
+  pub words : Each Word (dayRow d)
+  pub surplus : mag (d .screen .surplus) < 2 ^ 63
 
 unfoldable pub dayBytes : Day → List ℕ
 dayBytes d = bytes (dayRow d)

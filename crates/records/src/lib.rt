@@ -1,14 +1,14 @@
 // Numbers, days, orders and trades as bytes, books and trade lists of them, and replies.
+pub mod buffers;
 pub mod days;
 pub mod lists;
 pub mod numbers;
-pub mod replies;
 pub mod rooms;
 
 // How many bytes each of them has.
 pub const NUMBER_BYTES: usize = 8;
 
-pub const DAY_BYTES: usize = 88;
+pub const DAY_BYTES: usize = 312;
 
 pub const ORDER_BYTES: usize = 40;
 

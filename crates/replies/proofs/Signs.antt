@@ -1,11 +1,11 @@
--- A number with a sign as 64 bits: below zero it is counted down from the top. Assumes nothing.
-use Prim.Native.Nat.{ℕ, suc, _-_, _^_, _≤_, _<_}
+-- A number with a sign as 64 bits, and back: below zero it is counted down from the top. Assumes nothing.
+use Prim.Native.Nat.{ℕ, zero, suc, _-_, _^_, _≤_, _<_}
 use mathlib.Core.Path.{_≡_, refl, ap, _∙_}
-use mathlib.Core.Bool.{true, false}
+use mathlib.Core.Bool.{Bool, true, false, cond}
 use mathlib.Core.List.{[], _∷_}
 use native.Mathlib.Omega.{arith}
-use borrow.Author.Tests.{ltb-true, le-ltb}
-use lib.Dec.{T}
+use borrow.Author.Tests.{ltb-true, ltb-false, lt-ltb, le-ltb}
+use lib.Dec.{T, ltb}
 use lib.IntN.{ℤ, pos, negsuc, natAbs, _-ℤ_}
 use lib.Signed.{mag, ltZ, nonNeg}
 use mir.Syntax.{w64}
@@ -14,7 +14,7 @@ use mir.ValLaws.{toZ-ofZ}
 use Rattle.model.specs.declared.ReportReply.{ReportReply}
 use Rattle.model.specs.declared.ReportReply.the-variants.{Priced}
 use Rattle.model.specs.Replies.{reportNumbers}
-use Rattle.replies.specs.Words.{word, reportWords}
+use Rattle.replies.specs.Words.{word, signed, reportWords}
 
 -- below zero: how far below -1
 counted : (n : ℕ) → negsuc 0 -ℤ negsuc n ≡ pos n
@@ -77,6 +77,52 @@ module _ (z : ℤ) (f : SFits w64 z) where
 
     pub above-word : natAbs bits ≡ word z
     above-word = rw bits-are (up-word z (rw (toZ-ofZ w64 z f) at e))
+
+-- ---- and back
+
+minus-one : (m : ℕ) → negsuc 0 -ℤ pos m ≡ negsuc m
+minus-one zero = refl
+minus-one (suc m) = ap negsuc (omega arith)
+
+pub low-signed : (x : ℕ) → x < 2 ^ 63 → toZ w64 x ≡ signed x
+unfolding signed
+low-signed x h = rw (lt-ltb x (2 ^ 63) h)
+
+module _ (x : ℕ) (f : x < 2 ^ 64) (h : 2 ^ 63 ≤ x) where
+  -- how far below -1
+  abbrev below : ℕ
+  below = 18446744073709551615 - x
+
+  below-low : below < 2 ^ 63
+  below-low = omega arith
+
+  high-is : negsuc 0 -ℤ toZ w64 below ≡ negsuc below
+  high-is = ap (λ (z : ℤ). negsuc 0 -ℤ z) (toZ-ofZ w64 (pos below) (record { sfits = below-low })) ∙ minus-one below
+
+  pub high-fits : SFits w64 (negsuc 0 -ℤ toZ w64 below)
+  high-fits = rw high-is (record { sfits = below-low })
+
+  pub high-signed : toZ w64 (ofZ w64 (negsuc 0 -ℤ toZ w64 below)) ≡ signed x
+  unfolding signed
+  high-signed =
+      let e : below ≡ 2 ^ 64 - suc x = omega arith in
+      rw (le-ltb x (2 ^ 63) h) (toZ-ofZ w64 (negsuc 0 -ℤ toZ w64 below) high-fits ∙ high-is ∙ ap negsuc e)
+
+pub word-signed : (x : ℕ) → x < 2 ^ 64 → word (signed x) ≡ x
+unfolding word signed
+word-signed x f = go (ltb x (2 ^ 63)) refl
+  where
+    go : (b : Bool) → ltb x (2 ^ 63) ≡ b → word (cond b (pos x) (negsuc (2 ^ 64 - suc x))) ≡ x
+    go true e = refl
+    go false e = let h : 2 ^ 63 ≤ x = ltb-false x (2 ^ 63) e in omega arith
+
+pub signed-word : (z : ℤ) → mag z < 2 ^ 63 → signed (word z) ≡ z
+unfolding word signed
+signed-word (pos n) h = rw (lt-ltb n (2 ^ 63) h)
+signed-word (negsuc n) h =
+    let k : 2 ^ 63 ≤ 2 ^ 64 - suc n = omega arith in
+    let e : 2 ^ 64 - suc (2 ^ 64 - suc n) ≡ n = omega arith in
+    rw (le-ltb (2 ^ 64 - suc n) (2 ^ 63) k) (ap negsuc e)
 
 -- the words of a report with a price
 pub priced :

@@ -9,7 +9,7 @@ use model::Remainder;
 use model::ReportReply;
 ghost use mathlib.Core.Path.{_≡_};
 ghost use Rattle.model.specs.Replies.{restingOf, withdrawnOf, openNumbers, clockNumbers, orderNumbers, cancelNumbers, listNumbers};
-ghost use Rattle.replies.specs.Words.{word, reportWords};
+ghost use Rattle.replies.specs.Words.{word, signed, reportWords};
 
 pub fn open_numbers(told: OpenReply) -> [u64; 1]
     ensures { λ r. ⌜ r ≡ openNumbers told ⌝ }
@@ -88,7 +88,7 @@ pub fn list_numbers(told: ListReply) -> [u64; 3]
 }
 
 // A number with a sign as 64 bits, in two's complement.
-fn word_of(z: i64) -> u64
+pub fn word_of(z: i64) -> u64
     ensures { λ r. ⌜ r ≡ word z ⌝ }
 {
     if z < 0 {
@@ -96,6 +96,17 @@ fn word_of(z: i64) -> u64
         return 18446744073709551615 - (below as u64);
     }
     z as u64
+}
+
+// And back: the upper half is below zero.
+pub fn signed_of(x: u64) -> i64
+    ensures { λ r. ⌜ r ≡ signed x ⌝ }
+{
+    if x < 9223372036854775808 {
+        return x as i64;
+    }
+    let below = (18446744073709551615 - x) as i64;
+    (-1) - below
 }
 
 // The report's surplus has a sign, so its numbers are words.

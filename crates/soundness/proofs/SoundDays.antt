@@ -13,14 +13,14 @@ use Rattle.model.specs.declared.Order.{Order}
 use Rattle.model.specs.declared.Day.{Day}
 use Rattle.model.specs.Book.{free, inOrder}
 use Rattle.model.specs.Figures.{nextNumber}
-use Rattle.model.specs.Sound.{hasPlaces, isFree, isOrder, haltFits, soundAnywhere, sound}
+use Rattle.model.specs.Sound.{hasPlaces, isFree, isOrder, screenFits, haltFits, soundAnywhere, sound}
 use Rattle.model.proofs.Bools.{and-left, and-right, and-both}
 use Rattle.model.specs.Words.{Each, Apart, Ordered}
 use Rattle.book.specs.Standing.{Fair, Standing, Ranked}
 use Rattle.book.proofs.Lists.{each, both}
 use Rattle.book.proofs.Kept.{New, fair-free, free-number}
 use Rattle.book.proofs.Orderly.{told-ordered, ordered-told}
-use Rattle.soundness.specs.SoundDay.{Rests, Place, Empty, SoundDay, HaltDay}
+use Rattle.soundness.specs.SoundDay.{Rests, Place, Empty, SoundDay, HaltDay, standsSound}
 use Rattle.soundness.proofs.Numbers.{issued-number}
 use Rattle.soundness.proofs.Says.{Says, says-and, says-unless, says-too, says-not, says-all}
 use Rattle.soundness.proofs.Clauses.{says-place, says-between, says-empty, says-apart, says-crosses, says-figures, says-fit, says-traded, says-turnover}
@@ -139,42 +139,61 @@ standing d book l p a = record { fair = each (Place d) Fair book (λ o h. fair-p
 pub day-stands : (d : Day) (book : List Order) → SoundDay d book → Standing book
 day-stands d book s = standing d book (s .issued) (s .places) (s .apart)
 
--- ---- the whole test: the facts, the order of the places, and the halt
+-- ---- the whole test: the facts, the order of the places, the screen and the halt
 
 module _ (d : Day) (book : List Order) where
   abbrev orderly : Bool
   orderly = soundAnywhere d book && inOrder book
 
-  pub sound-day : sound d book ≡ true → SoundDay d book
+  stands-of : sound d book ≡ true → standsSound d book ≡ true
   unfolding sound
-  sound-day e = says-anywhere d book .0 (and-left (soundAnywhere d book) (inOrder book) (and-left orderly (haltFits d) e))
+  stands-of e =
+      let h : (orderly && screenFits d book) ≡ true = and-left (orderly && screenFits d book) (haltFits d) e in
+      and-both (and-left orderly (screenFits d book) h) (and-right (orderly && screenFits d book) (haltFits d) e)
+
+  stands-day : standsSound d book ≡ true → SoundDay d book
+  stands-day e = says-anywhere d book .0 (and-left (soundAnywhere d book) (inOrder book) (and-left orderly (haltFits d) e))
+
+  stands-ordered : standsSound d book ≡ true → Ordered book
+  stands-ordered e =
+      told-ordered book (day-stands d book (stands-day e)) (and-right (soundAnywhere d book) (inOrder book) (and-left orderly (haltFits d) e))
+
+  pub sound-day : sound d book ≡ true → SoundDay d book
+  sound-day e = stands-day (stands-of e)
 
   pub sound-ordered : sound d book ≡ true → Ordered book
+  sound-ordered e = stands-ordered (stands-of e)
+
+  pub sound-screen : sound d book ≡ true → screenFits d book ≡ true
   unfolding sound
-  sound-ordered e =
-      told-ordered book (day-stands d book (sound-day e)) (and-right (soundAnywhere d book) (inOrder book) (and-left orderly (haltFits d) e))
+  sound-screen e = and-right orderly (screenFits d book) (and-left (orderly && screenFits d book) (haltFits d) e)
 
   pub sound-halt : sound d book ≡ true → HaltDay d
   unfolding sound
-  sound-halt e = says-halt d .0 (and-right orderly (haltFits d) e)
+  sound-halt e = says-halt d .0 (and-right (orderly && screenFits d book) (haltFits d) e)
 
-  pub day-sound : SoundDay d book → Ordered book → HaltDay d → sound d book ≡ true
+  pub day-sound : SoundDay d book → Ordered book → screenFits d book ≡ true → HaltDay d → sound d book ≡ true
   unfolding sound
-  day-sound s o h =
-      and-both (and-both (says-anywhere d book .1 s) (ordered-told book (day-stands d book s) o)) (says-halt d .1 h)
+  day-sound s o f h =
+      and-both
+      (and-both (and-both (says-anywhere d book .1 s) (ordered-told book (day-stands d book s) o)) f)
+      (says-halt d .1 h)
 
 pub few-places : (book : List Order) → hasPlaces book ≡ true → length book ≤ 4_096
 unfolding hasPlaces
 few-places book e = leb-true (length book) 4_096 (and-right (leb 1 (length book)) (leb (length book) 4_096) e)
 
+pub standing-ranked : (d : Day) (book : List Order) → hasPlaces book ≡ true → standsSound d book ≡ true → Ranked book
+standing-ranked d book p e =
+    record {
+      stands = day-stands d book (stands-day d book e);
+      few = few-places book p;
+      ordered = stands-ordered d book e;
+    }
+
 pub ranked : (d : Day) (book : List Order) → (hasPlaces book && sound d book) ≡ true → Ranked book
 ranked d book e =
-    let h : sound d book ≡ true = and-right (hasPlaces book) (sound d book) e in
-    record {
-      stands = day-stands d book (sound-day d book h);
-      few = few-places book (and-left (hasPlaces book) (sound d book) e);
-      ordered = sound-ordered d book h;
-    }
+    standing-ranked d book (and-left (hasPlaces book) (sound d book) e) (stands-of d book (and-right (hasPlaces book) (sound d book) e))
 
 -- ---- the next number is new
 

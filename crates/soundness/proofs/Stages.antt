@@ -1,7 +1,7 @@
 -- The test of a day in its stages: once its places are sound and in order the book stands so, and the sum of its shares serves for
 -- the tests behind. Assumes nothing.
 use Prim.Native.Nat.{ℕ, _+_, _*_, _≤_}
-use mathlib.Core.Path.{_≡_, sym, ap, _∙_}
+use mathlib.Core.Path.{_≡_, refl, sym, ap, _∙_}
 use mathlib.Core.Bool.{Bool, true, false, not, _&&_, _||_, and-true, and-false}
 use mathlib.Core.List.{List}
 use native.Mathlib.Omega.{arith}
@@ -10,27 +10,27 @@ use borrow.Author.Tests.{eq-eqb, ne-eqb}
 use Rattle.model.specs.declared.Order.{Order}
 use Rattle.model.specs.declared.Day.{Day}
 use Rattle.model.specs.Lists.{total}
-use Rattle.model.specs.Sound.{hasPlaces, soundFigures, isEmpty, crosses, between, sharesFit, pricesFit, turnoverFits, haltFits, soundAnywhere, sound}
+use Rattle.model.specs.Sound.{hasPlaces, soundFigures, isEmpty, crosses, between, sharesFit, pricesFit, turnoverFits, screenFits, haltFits, soundAnywhere, sound}
 use Rattle.model.specs.Book.{inOrder}
 use Rattle.model.specs.Halts.{runs}
+use Rattle.model.proofs.Bools.{and-left, and-right}
 use Rattle.book.specs.Standing.{Standing, Ranked}
 use Rattle.book.proofs.Orderly.{told-ordered}
+use Rattle.soundness.specs.SoundDay.{standsSound}
 use Rattle.soundness.proofs.Clauses.{whole, says-whole, says-figures, says-fit}
-use Rattle.soundness.proofs.SoundDays.{standing, few-places}
+use Rattle.soundness.proofs.SoundDays.{standing, few-places, standing-ranked}
 use Rattle.soundness.proofs.Totals.{empty-is, shares-within}
 
 -- a book out of order is not sound, nor is a day whose halt does not fit
 module _ (d : Day) (book : List Order) where
-  pub disordered : inOrder book ≡ false → false ≡ (hasPlaces book && sound d book)
-  unfolding sound
+  pub disordered : inOrder book ≡ false → false ≡ (hasPlaces book && standsSound d book)
   disordered e =
       sym
       (ap (λ (b : Bool). hasPlaces book && (soundAnywhere d book && b && haltFits d)) e
       ∙ ap (λ (b : Bool). hasPlaces book && (b && haltFits d)) (and-false (soundAnywhere d book))
       ∙ and-false (hasPlaces book))
 
-  pub unfitting : haltFits d ≡ false → false ≡ (hasPlaces book && sound d book)
-  unfolding sound
+  pub unfitting : haltFits d ≡ false → false ≡ (hasPlaces book && standsSound d book)
   unfitting e =
       sym
       (ap (λ (b : Bool). hasPlaces book && (soundAnywhere d book && inOrder book && b)) e
@@ -82,13 +82,13 @@ module _ (d : Day) (book : List Order) (s : Seated d book) where
 
   -- what is left of the test
   pub still-to-pass :
-      (hasPlaces book && sound d book)
+      (hasPlaces book && standsSound d book)
       ≡ ((between 33_300 53_999 (d .time) || isEmpty book)
       && not (between 33_900 53_819 (d .time) && not (runs d) && crosses book)
       && sharesFit d book
       && pricesFit d
       && turnoverFits d)
-  unfolding sound soundAnywhere
+  unfolding soundAnywhere
   still-to-pass = rw (s .counted, s .figures, s .places, s .order, s .halt) (and-true _ ∙ and-true _)
 
   -- half the bound is all that can have traded
@@ -108,3 +108,24 @@ module _ (d : Day) (book : List Order) (s : Seated d book) where
     pub fit-by : (t : Bool) → t ≡ leb (2 * d .shares + resting) (1_000_000 * d .issued) → sharesFit d book ≡ t
     unfolding sharesFit
     fit-by t e = rw (← r, e)
+
+-- ---- the screen, last
+
+screen-last : (p a o s h : Bool) → (p && (a && o && s && h)) ≡ ((p && (a && o && h)) && s)
+screen-last true true true true true = refl
+screen-last true true true true false = refl
+screen-last true true true false true = refl
+screen-last true true true false false = refl
+screen-last true true false s h = refl
+screen-last true false o s h = refl
+screen-last false a o s h = refl
+
+module _ (d : Day) (book : List Order) where
+  pub then-screen : (hasPlaces book && sound d book) ≡ ((hasPlaces book && standsSound d book) && screenFits d book)
+  unfolding sound
+  then-screen = screen-last (hasPlaces book) (soundAnywhere d book) (inOrder book) (screenFits d book) (haltFits d)
+
+  pub stands-ranked : (hasPlaces book && standsSound d book) ≡ true → Ranked book
+  stands-ranked e =
+      let h : standsSound d book ≡ true = and-right (hasPlaces book) (standsSound d book) e in
+      standing-ranked d book (and-left (hasPlaces book) (standsSound d book) e) h

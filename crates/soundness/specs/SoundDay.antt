@@ -2,13 +2,13 @@
 use Prim.Native.Nat.{ℕ, _+_, _*_, _≤_, _<_}
 use mathlib.Core.Path.{_≡_}
 use mathlib.Core.Logic.{_⊎_}
-use mathlib.Core.Bool.{true}
+use mathlib.Core.Bool.{Bool, true, _&&_}
 use mathlib.Core.List.{List}
 use Rattle.model.specs.declared.Order.{Order}
 use Rattle.model.specs.declared.Day.{Day}
 use Rattle.model.specs.Lists.{total}
-use Rattle.model.specs.Book.{free, best}
-use Rattle.model.specs.Sound.{isLedTo}
+use Rattle.model.specs.Book.{free, best, inOrder}
+use Rattle.model.specs.Sound.{isLedTo, haltFits, soundAnywhere}
 use Rattle.model.specs.Words.{Each, Price, Apart}
 
 pub record InBand (close p : ℕ) : Type 0 where
@@ -66,3 +66,7 @@ pub record HaltDay (d : Day) : Type 0 where
   pub thirty-first : d .used60 ≡ 1 → d .used30 ≡ 1
   pub uses : (d .halt ≡ 0 → ⊥) → d .used30 ≡ 1
   pub unlimited : d .used30 ≡ 1 → (d .limited ≡ 1 → ⊥) × (d .shares ≡ 0 → ⊥)
+
+-- all of the test but the screen, which is counted from a book that stands in order
+abbrev pub standsSound : Day → List Order → Bool
+standsSound d book = soundAnywhere d book && inOrder book && haltFits d

@@ -1,5 +1,6 @@
 // When a day is sound: what every call tests first, on any memory that it is lent. Nothing is assumed of the numbers, and
-// each test keeps the products of the later ones small. The order of the places is tested before the best prices are looked for.
+// each test keeps the products of the later ones small. The order of the places is tested before the best prices are looked for,
+// and the screen last, since it is counted from a book in order.
 pub mod figures;
 pub mod order;
 pub mod places;
@@ -8,6 +9,7 @@ ghost use mathlib.Core.Path.{_≡_};
 ghost use mathlib.Core.Bool.{_&&_};
 ghost use Rattle.model.specs.Sound.{hasPlaces, sound};
 ghost use Rattle.book.specs.Rows.{bookOf};
+ghost use Rattle.soundness.specs.SoundDay.{standsSound};
 use crate::figures::fits_hours;
 use crate::figures::prices_fit;
 use crate::figures::shares_fit;
@@ -20,10 +22,11 @@ use crate::places::shares_left;
 use crate::places::sound_places;
 use halts::fitting::halt_fits;
 use model::Day;
+use screens::screen_fits;
 
-// Whether the day is sound, and its book has 1 to 4,096 places.
-pub fn is_sound(day: Day, rows: &[[u64; 5]]) -> bool
-    ensures { λ r. ⌜ r ≡ (hasPlaces (bookOf (now (rows .entry))) && sound day (bookOf (now (rows .entry)))) ⌝ }
+// Whether the book has 1 to 4,096 places, and all but the screen is sound.
+fn stands_sound(day: Day, rows: &[[u64; 5]]) -> bool
+    ensures { λ r. ⌜ r ≡ (hasPlaces (bookOf (now (rows .entry))) && standsSound day (bookOf (now (rows .entry)))) ⌝ }
 {
     if !has_places(rows) {
         return false;
@@ -54,4 +57,14 @@ pub fn is_sound(day: Day, rows: &[[u64; 5]]) -> bool
         return false;
     }
     turnover_fits(day)
+}
+
+// Whether the day is sound, and its book has 1 to 4,096 places.
+pub fn is_sound(day: Day, rows: &[[u64; 5]]) -> bool
+    ensures { λ r. ⌜ r ≡ (hasPlaces (bookOf (now (rows .entry))) && sound day (bookOf (now (rows .entry)))) ⌝ }
+{
+    if !stands_sound(day, rows) {
+        return false;
+    }
+    screen_fits(day, rows)
 }

@@ -28,19 +28,19 @@ run-from-requires c κs =
 
 add-result : tie.Need-add-result
 add-result c =
-    let after-run-from = c .before in
+    let after-run-from = c .before .before in
     let else2 = after-run-from .before .before in
     let else1 = else2 .before .before in
     let s = else1 .before .before in
-    let whole = left-with (s .args .p) (s .args .h) _ (else1 .if1 .left) (else2 .if2 .left) (after-run-from .run-from .ensures) in
+    let whole = left-with (s .args .p) (s .args .h) _ _ (else1 .if1 .left) (else2 .if2 .left) (after-run-from .run-from .ensures) in
     omega (arith, whole, s .pre .1 .1)
 
 returns-3 : tie.Need-returns-3
 returns-3 c =
-    let after-run-from = c .before in
+    let after-run-from = c .before .before in
     let else2 = after-run-from .before .before in
     let else1 = else2 .before .before in
-    left-with _ _ _ (else1 .if1 .left) (else2 .if2 .left) (after-run-from .run-from .ensures)
+    left-with _ _ _ _ (else1 .if1 .left) (else2 .if2 .left) (after-run-from .run-from .ensures)
 
 pub left-at-spec : {M : Type 1} → statement M
 left-at-spec =

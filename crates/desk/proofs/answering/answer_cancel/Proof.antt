@@ -1,4 +1,4 @@
--- No day is 17; else the reply as a line, and the same day. Assumes nothing.
+-- No day is 17; else the reply as a line, and the day that is handed back. Assumes nothing.
 use native.Mathlib.Omega.{arith}
 use Rattle.model.specs.Session.{cancelAnswer}
 use Rattle.desk.proofs.Answers.{on-day, no-day, cancel-answered}
@@ -40,9 +40,9 @@ same-length-3 c = search needs
 
 returns-2 : tie.Need-returns-2
 returns-2 c =
-    let k = c .before .before .before .before .before in
+    let k = c .before .before .before .before .before .before in
     let s = k .before .before .before .before .before .before .args in
-    cancel-answered (s .desk) (s .rows .now) _ _ (k .before .before .before .desk .given .1) (s .account) (s .number) _ (omega arith) (k .cancel-sound .ensures) (c .before .before .put-cancel .ensures)
+    cancel-answered (s .desk) (s .rows .now) _ _ (k .before .before .before .desk .given .1) (s .account) (s .number) (k .cancel-sound .result) (omega arith) (k .cancel-sound .ensures) (c .before .before .before .put-cancel .ensures)
 
 pub answer-cancel-spec : {M : Type 1} → statement M
 answer-cancel-spec =

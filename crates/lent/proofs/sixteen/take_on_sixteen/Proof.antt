@@ -112,6 +112,14 @@ back-is r w zs is-r is-zs = (
   (refl, ((is-zs .0, ((is-zs .1 .0 .0, length-map zs (T.the-type .to) ∙ is-zs .1 .0 .1), each-at-field zs (is-zs .0) (is-zs .1 .1))), (is-r, tt))),
 )
 
+typed-back :
+    {M : Type 1} (𝓤 : URA M) (H : Heap 𝓤) (A : Atoms 𝓤) (W : Given 𝓤 H A) (r : Answer) (w : Val) (zs : List Order)
+    → Is B.the-row r (w ∷ [])
+    → Is Places zs (m zs ∷ [])
+    → Holds (hasTy O′.mir (mach w zs)) × WT (mach w zs)
+typed-back 𝓤 H A W r w zs is-r is-zs =
+    LL.lawful O.the-type O′.the-laws 𝓤 H A W .typed (back r zs) (mach w zs ∷ []) (back-is r w zs is-r is-zs) .0
+
 -- ---- the walk
 
 abbrev stayed : Stays (this.ended .signature .params) (this.ended .kept)
@@ -192,8 +200,7 @@ module _ {M : Type 1} (𝓤 : URA M) (H : Heap 𝓤) (A : Atoms 𝓤) (W : Given
         move ! (1 ∷ []) $ peeks ! Places (Is Places) (shows 𝓤 H A Places) (r .1 .0) (m (r .1 .0) ∷ []) (λ is-zs. drop ! $
         assigns ! (of-opd ! (load ! (from ! (stop !)) (look ! 0 refl))) (from ! (stop !)) (init ! 3 refl (typed-book 𝓤 H A W (r .1 .0) (m (r .1 .0)) is-zs)) $
         assigns ! (agg ! (and-then ! (load ! (from ! (stop !)) (look ! 3 refl)) (and-then ! (load ! (from ! (stop !)) (look ! 13 refl)) (no-more !))))
-        (from ! (stop !)) (init ! 22 refl
-        (LL.lawful O.the-type O′.the-laws 𝓤 H A W .typed (back (r .0) (r .1 .0)) (mach w (r .1 .0) ∷ []) (back-is (r .0) w (r .1 .0) is-r is-zs) .0)) $
+        (from ! (stop !)) (init ! 22 {τ = O′.mir} {b = l₀} {o = 0} {v = mach w (r .1 .0)} refl (typed-back 𝓤 H A W (r .0) w (r .1 .0) is-r is-zs)) $
         returns ! (look ! 22 refl) $ forget ! 22 refl $ forget ! 20 refl $ forget ! 18 refl $ forget ! 16 refl $ forget ! 0 refl $ forget ! 13 refl $
         forget ! 11 refl $ forget ! 9 refl $ forget ! 7 refl $ forget ! 5 refl $ forget ! 3 refl $
         move ! (22 ∷ 23 ∷ []) $ free1 ! $ move ! (20 ∷ 21 ∷ []) $ free1 ! $ move ! (18 ∷ 19 ∷ []) $ free1 ! $ move ! (16 ∷ 17 ∷ []) $ free1 ! $

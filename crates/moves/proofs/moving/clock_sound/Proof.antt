@@ -8,7 +8,7 @@ use Rattle.model.specs.ClockCall.{clockRules}
 use Rattle.book.specs.Rows.{bookOf}
 use Rattle.book.specs.Promises.{callLeft}
 use Rattle.soundness.proofs.Readiness.{ready-if}
-use Rattle.moves.proofs.ClockLaws.{clock-late, clock-back, clock-list, clock-none, move-fits, clock-refused, row-then, clock-accepted}
+use Rattle.moves.proofs.ClockLaws.{clock-late, clock-back, clock-list, clock-none, move-fits, clock-refused, row-then, left-ranked, clock-accepted}
 use borrow.Author.Needs.{needs}
 use borrow.Author.Tests.{eqb-false, ltb-false}
 use Rattle.moves.proofs.moving.clock_sound.Statement.{statement}
@@ -98,6 +98,14 @@ phase-now-requires c κs =
     let a = began (p .before .before .before .before) .args in
     row-then (p .pass-stops .result .day) (a .time) (d .day-at .ensures) (c .row-at .ensures)
 
+update-screen-requires : tie.Need-update-screen-requires
+update-screen-requires c κs =
+    let p = c .before .before .before .before .before .before .before in
+    let s = began (p .before .before .before .before) in
+    let a = s .args in
+    let ready = ready-if (a .d) (bookOf (a .rows .now)) (s .pre) in
+    (left-ranked (a .d) (a .time) (a .rows .now) (a .trades .now) ready (p .pass-stops .ensures), p .pass-stops .ensures .within)
+
 same-length-2 : tie.Need-same-length-2
 same-length-2 c = search needs
 
@@ -106,7 +114,8 @@ same-length-3 c = search needs
 
 returns-3 : tie.Need-returns-3
 returns-3 c =
-    let d = c .before .before in
+    let f = c .before .before .before in
+    let d = f .before .before in
     let p = d .before .before .before in
     let e = p .before .before .before in
     let a = began (e .before) .args in
@@ -115,8 +124,9 @@ returns-3 c =
     (p .pass-stops .last .1 .1 .0)
     refl
     (p .pass-stops .ensures)
-    (c .phase-now .ensures)
+    (f .phase-now .ensures)
     (d .day-at .ensures)
+    (c .update-screen .ensures)
 
 pub clock-sound-spec : {M : Type 1} → statement M
 clock-sound-spec =
@@ -132,6 +142,7 @@ clock-sound-spec =
     day-at-requires
     row-at-requires
     phase-now-requires
+    update-screen-requires
     same-length-2
     same-length-3
     returns-3)

@@ -2,12 +2,12 @@
 -- withdrawn. Assumes nothing.
 use native.Mathlib.Omega.{arith}
 use Prim.Native.Nat.{_+_, _<_, _^_}
-use mathlib.Core.Path.{_≡_}
+use mathlib.Core.Path.{_≡_, _∙_}
 use borrow.Author.Needs.{needs}
 use Rattle.model.specs.Book.{best, other}
 use Rattle.book.specs.Rows.{bookOf}
 use Rattle.matching.specs.Entering.{restAt}
-use Rattle.orders.proofs.Entered.{rest-found, filled-fits, count-fits, room-for, then-ranked, then-joins, entered-is}
+use Rattle.orders.proofs.Entered.{rest-found, filled-fits, count-fits, room-for, then-ranked, then-joins, left-ranked, entered-is}
 use Rattle.orders.proofs.entering.enter.Statement.{statement}
 use Rattle.orders.proofs.entering.enter.Tie as tie
 
@@ -73,34 +73,60 @@ day-after-requires c κs =
       room-for (a .d) (a .a) (a .rows .now) (a .trades .now) (s .pre .0 .fits) (e .enter-trades .ensures .0) (e .enter-trades .ensures .1) (s .pre .0),
     )
 
-add-t22 : tie.Need-add-t22
-add-t22 c = record { fits = numbers (c .before .before .before .before .before .before .before .before .before .before .before .before .before .before) }
+-- the book has settled, and what is left has joined it
+module _ (j : tie.After-join-rest) where
+  abbrev settled : tie.After-settle-entry
+  settled = j .before .before .before .before
+
+  abbrev priced : tie.After-price-of-rest
+  priced = settled .before .before
+
+update-screen-requires : tie.Need-update-screen-requires
+update-screen-requires c κs =
+    let j = c .before .before .before .before .before in
+    let k = settled j in
+    let e = traded (priced j) in
+    let s = began e in
+    let a = s .args in (
+      left-ranked (a .d) (a .a) (a .rows .now) (a .trades .now) (s .pre .0 .fits) (e .enter-trades .ensures .0) (e .enter-trades .ensures .1) (s .pre .0)
+          (k .settle-entry .last .0) (k .settle-entry .ensures .1)
+          (j .join-rest .last .0)
+          (rest (priced j))
+          (j .join-rest .ensures),
+      count-fits (a .d) (a .a) (a .rows .now) (a .trades .now) (s .pre .0 .fits) (e .enter-trades .ensures .0) (e .enter-trades .ensures .1) (s .pre .0) (e .enter-trades .kept .1 .1 .0),
+    )
+
+add-t23 : tie.Need-add-t23
+add-t23 c = record { fits = numbers (traded (priced (c .before .before .before .before .before .before .before))) }
 
 remainder-of-requires : tie.Need-remainder-of-requires
 remainder-of-requires c κs = search needs
 
 same-length : tie.Need-same-length
-same-length c = search needs
+same-length c =
+    let j = c .before .before .before .before .before .before .before .before in
+    j .join-rest .kept .0 ∙ settled j .settle-entry .kept .0
 
 same-length-2 : tie.Need-same-length-2
-same-length-2 c = c .before .before .before .before .before .before .before .before .before .before .before .before .before .before .before .enter-trades .kept .1 .1 .0
+same-length-2 c = traded (priced (c .before .before .before .before .before .before .before .before)) .enter-trades .kept .1 .1 .0
 
 returns : tie.Need-returns
 returns c =
-    let t = c .before .before in
+    let u = c .before .before in
+    let t = u .before .before .before in
     let j = t .before .before .before in
-    let k = j .before .before .before .before in
-    let p = k .before .before in
-    let e = traded p in
+    let k = settled j in
+    let e = traded (priced j) in
     let s = began e in
     let a = s .args in
     entered-is (a .d) (a .a) (a .rows .now) (a .trades .now) (s .pre .0 .fits) (e .enter-trades .ensures .0) (e .enter-trades .ensures .1) (s .pre .0)
     (k .settle-entry .last .0) (k .settle-entry .ensures .1)
     (j .join-rest .last .0)
-    (rest p)
+    (rest (priced j))
     (j .join-rest .ensures)
     (c .remainder-of .ensures)
     (t .day-after .ensures)
+    (u .update-screen .ensures)
 
 pub enter-spec : {M : Type 1} → statement M
 enter-spec =
@@ -113,7 +139,8 @@ enter-spec =
     add-join-rest
     join-rest-requires
     day-after-requires
-    add-t22
+    update-screen-requires
+    add-t23
     remainder-of-requires
     same-length
     same-length-2

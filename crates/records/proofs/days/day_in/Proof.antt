@@ -1,7 +1,6 @@
--- `records::days::day_in` meets its contract: the eleven numbers that were read, by name. Assumes nothing.
-use mathlib.Core.Path.{ap}
+-- `records::days::day_in` meets its contract: the 39 numbers that were read, by name. Assumes nothing.
 use borrow.Author.Needs.{needs}
-use Rattle.records.specs.Layout.{dayOf, dayIn}
+use Rattle.records.proofs.Held.{day-read}
 use Rattle.records.proofs.days.day_in.Statement.{statement}
 use Rattle.records.proofs.days.day_in.Tie as tie
 
@@ -11,42 +10,14 @@ slice-aggregate-read-numbers c = search needs
 read-numbers-requires : tie.Need-read-numbers-requires
 read-numbers-requires c κs = search needs
 
-array-read-t8 : tie.Need-array-read-t8
-array-read-t8 c = search needs
+slice-aggregate-held-day : tie.Need-slice-aggregate-held-day
+slice-aggregate-held-day c = search needs
 
-array-read-t11 : tie.Need-array-read-t11
-array-read-t11 c = search needs
-
-array-read-t14 : tie.Need-array-read-t14
-array-read-t14 c = search needs
-
-array-read-t17 : tie.Need-array-read-t17
-array-read-t17 c = search needs
-
-array-read-t20 : tie.Need-array-read-t20
-array-read-t20 c = search needs
-
-array-read-t23 : tie.Need-array-read-t23
-array-read-t23 c = search needs
-
-array-read-t26 : tie.Need-array-read-t26
-array-read-t26 c = search needs
-
-array-read-t29 : tie.Need-array-read-t29
-array-read-t29 c = search needs
-
-array-read-t32 : tie.Need-array-read-t32
-array-read-t32 c = search needs
-
-array-read-t35 : tie.Need-array-read-t35
-array-read-t35 c = search needs
-
-array-read-t38 : tie.Need-array-read-t38
-array-read-t38 c = search needs
+held-day-requires : tie.Need-held-day-requires
+held-day-requires c κs = search needs
 
 returns : tie.Need-returns
-unfolding dayIn
-returns c = ap dayOf (c .before .read-numbers .ensures)
+returns c = day-read (c .before .before .before .before .before .before .args .b .now) _ (c .before .before .before .read-numbers .ensures) (c .held-day .ensures)
 
 pub day-in-spec : {M : Type 1} → statement M
 day-in-spec =
@@ -54,15 +25,6 @@ day-in-spec =
     (tie.spec
     slice-aggregate-read-numbers
     read-numbers-requires
-    array-read-t8
-    array-read-t11
-    array-read-t14
-    array-read-t17
-    array-read-t20
-    array-read-t23
-    array-read-t26
-    array-read-t29
-    array-read-t32
-    array-read-t35
-    array-read-t38
+    slice-aggregate-held-day
+    held-day-requires
     returns)

@@ -1,11 +1,11 @@
--- `records::replies::put_reply` meets its contract: the numbers that fit are put at the front. Assumes nothing.
+-- `records::buffers::put_reply` meets its contract: the numbers that fit are put at the front. Assumes nothing.
 use mathlib.Core.Path.{refl, sym}
 use native.Mathlib.Omega.{arith}
 use lib.Seq.{length-take-le}
 use Rattle.records.proofs.Stored.{cut-fits, reply-cut, reply-whole}
 use borrow.Author.Needs.{needs}
-use Rattle.records.proofs.replies.put_reply.Statement.{statement}
-use Rattle.records.proofs.replies.put_reply.Tie as tie
+use Rattle.records.proofs.buffers.put_reply.Statement.{statement}
+use Rattle.records.proofs.buffers.put_reply.Tie as tie
 
 slice-aggregate-put-numbers : tie.Need-slice-aggregate-put-numbers
 slice-aggregate-put-numbers c =

@@ -3,27 +3,15 @@ use Prim.Native.Nat.{_≤_, _<_}
 use native.Mathlib.Omega.{arith}
 use Rattle.auction.proofs.Pricing.{price-one, apart, buys-fit, sells-fit, price-several}
 use borrow.Author.Needs.{needs}
-use Rattle.auction.proofs.price.auction_price.Statement.{statement}
-use Rattle.auction.proofs.price.auction_price.Tie as tie
+use Rattle.auction.proofs.price.price_at.Statement.{statement}
+use Rattle.auction.proofs.price.price_at.Tie as tie
 
 -- the span has several prices
 wide : (c : tie.Else1) → (c .before .span-at .result .lo < c .before .span-at .result .hi) × (c .before .span-at .result .hi ≤ 999_999)
 wide c =
     let after-span-at = c .before in
-    let after-walk = after-span-at .before .before .before .before in
-    let after-free-from = after-walk .before in
-    let s = after-free-from .before .before in
-    apart (s .args .rows .now) (s .pre) (after-free-from .before .sells-from .ensures) (after-free-from .free-from .ensures)
-    (after-walk .walk .ensures) (after-span-at .span-at .ensures) (c .if1 .left)
-
-sells-from-requires : tie.Need-sells-from-requires
-sells-from-requires c κs = search needs
-
-free-from-requires : tie.Need-free-from-requires
-free-from-requires c κs = search needs
-
-walk-requires : tie.Need-walk-requires
-walk-requires c κs = search needs
+    let s = after-span-at .before .before .before .before in
+    apart (s .args .rows .now) (s .pre .0) (s .pre .1 .0) (s .pre .1 .1 .0) (s .pre .1 .1 .1) (after-span-at .span-at .ensures) (c .if1 .left)
 
 span-at-requires : tie.Need-span-at-requires
 span-at-requires c κs = search needs
@@ -31,30 +19,21 @@ span-at-requires c κs = search needs
 returns : tie.Need-returns
 returns c =
     let after-span-at = c .before in
-    let after-walk = after-span-at .before .before .before .before in
-    let after-free-from = after-walk .before in
-    let s = after-free-from .before .before in
-    price-one (s .args .rows .now) (s .pre) (after-free-from .before .sells-from .ensures) (after-free-from .free-from .ensures)
-    (after-walk .walk .ensures) (after-span-at .span-at .ensures) (s .args .reference) (c .if1 .taken)
+    let s = after-span-at .before .before .before .before in
+    price-one (s .args .rows .now) (s .pre .0) (s .pre .1 .0) (s .pre .1 .1 .0) (s .pre .1 .1 .1) (after-span-at .span-at .ensures) (s .args .reference) (c .if1 .taken)
 
 left-at-requires : tie.Need-left-at-requires
 left-at-requires c κs =
     let after-span-at = c .before in
-    let after-walk = after-span-at .before .before .before .before in
-    let after-free-from = after-walk .before in
-    let s = after-free-from .before .before in
-    buys-fit (s .args .rows .now) (s .pre) (after-free-from .before .sells-from .ensures) (after-free-from .free-from .ensures)
-    (after-walk .walk .ensures) (after-span-at .span-at .ensures) (c .if1 .left)
+    let s = after-span-at .before .before .before .before in
+    buys-fit (s .args .rows .now) (s .pre .0) (s .pre .1 .0) (s .pre .1 .1 .0) (s .pre .1 .1 .1) (after-span-at .span-at .ensures) (c .if1 .left)
 
 left-at-requires-2 : tie.Need-left-at-requires-2
 left-at-requires-2 c κs =
     let else1 = c .before in
     let after-span-at = else1 .before in
-    let after-walk = after-span-at .before .before .before .before in
-    let after-free-from = after-walk .before in
-    let s = after-free-from .before .before in
-    sells-fit (s .args .rows .now) (s .pre) (after-free-from .before .sells-from .ensures) (after-free-from .free-from .ensures)
-    (after-walk .walk .ensures) (after-span-at .span-at .ensures) (else1 .if1 .left)
+    let s = after-span-at .before .before .before .before in
+    sells-fit (s .args .rows .now) (s .pre .0) (s .pre .1 .0) (s .pre .1 .1 .0) (s .pre .1 .1 .1) (after-span-at .span-at .ensures) (else1 .if1 .left)
 
 add-flatter : tie.Need-add-flatter
 add-flatter c =
@@ -95,22 +74,16 @@ returns-2 c =
     let after-left-at = after-left-at2 .before in
     let else1 = after-left-at .before in
     let after-span-at = else1 .before in
-    let after-walk = after-span-at .before .before .before .before in
-    let after-free-from = after-walk .before in
-    let s = after-free-from .before .before in
-    price-several (s .args .rows .now) (s .pre) (after-free-from .before .sells-from .ensures) (after-free-from .free-from .ensures)
-    (after-walk .walk .ensures) (after-span-at .span-at .ensures) (else1 .if1 .left) (s .args .reference)
+    let s = after-span-at .before .before .before .before in
+    price-several (s .args .rows .now) (s .pre .0) (s .pre .1 .0) (s .pre .1 .1 .0) (s .pre .1 .1 .1) (after-span-at .span-at .ensures) (else1 .if1 .left) (s .args .reference)
     (after-left-at .left-at .ensures) (after-left-at2 .left-at2 .ensures) (after-beside .beside .ensures)
     (after-flatter .flatter .ensures) (after-beside2 .beside2 .ensures) (after-flatter2 .flatter2 .ensures)
     (c .nearest .ensures)
 
-pub auction-price-spec : {M : Type 1} → statement M
-auction-price-spec =
+pub price-at-spec : {M : Type 1} → statement M
+price-at-spec =
     tie.close
     (tie.spec
-    sells-from-requires
-    free-from-requires
-    walk-requires
     span-at-requires
     returns
     left-at-requires

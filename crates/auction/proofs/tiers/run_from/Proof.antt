@@ -3,8 +3,8 @@ use Prim.Native.Nat.{_-_}
 use native.Mathlib.Omega.{arith}
 use Rattle.auction.proofs.Leaving.{Adds, run-ends, run-more, run-all}
 use borrow.Author.Needs.{needs}
-use Rattle.auction.proofs.price.run_from.Statement.{statement}
-use Rattle.auction.proofs.price.run_from.Tie as tie
+use Rattle.auction.proofs.tiers.run_from.Statement.{statement}
+use Rattle.auction.proofs.tiers.run_from.Tie as tie
 
 abbrev Inv-loop : tie.InvT-loop
 Inv-loop rows from end p sum₀ at₀ sum at = Adds rows from end p sum at
@@ -13,7 +13,7 @@ abbrev μ-loop : tie.MeasureT-loop
 μ-loop rows from end p sum₀ at₀ sum at = end - at
 
 loop-holds : tie.Need-loop-holds Inv-loop μ-loop
-loop-holds c = record { whole = omega arith }
+loop-holds c = record { whole = omega arith; places = omega arith }
 
 order-at-requires : tie.Need-order-at-requires Inv-loop μ-loop
 order-at-requires c κs = search needs

@@ -1,0 +1,3 @@
+-- What the functions of this crate say beside the definitions of the model.
+pub mod Ranges
+pub mod Parts
