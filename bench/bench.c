@@ -1,9 +1,9 @@
-/* Runs the rules' situations, random days, days that halt and damaged ones through the exported calls and through the independent
- * engine, and compares them after every call. Prints the seeds; the last line is `N passed, M failed`.
+/* Runs the rules' situations, random days, days that halt, damaged ones and changed screens through the exported calls and through
+ * the independent engine, and compares them after every call. Prints the seeds; the last line is `N passed, M failed`.
  *
  * bench [--exactly | --walls] [--damage PART NTH] [FIRST [LAST]]: the seeds FIRST to LAST, or FIRST alone. compare.h says what the
  * options do. Without seeds all are run, and two things are tested besides: the independent engine, which tries every price on small
- * books, and the days that halt, which have to show everything often enough. */
+ * books, and the random days, which have to show everything of halts and screens often enough. */
 #include "compare.h"
 #include "runs.h"
 #include <stdio.h>
@@ -23,6 +23,7 @@ static int run(uint64_t first, uint64_t last, uint64_t tries) {
     engine_tries_left = tries;
     run_situations();
     run_halts();
+    run_screens();
     run_session();
     for (uint64_t seed = first; seed <= last; seed++) {
         run_seed(seed);
@@ -30,6 +31,7 @@ static int run(uint64_t first, uint64_t last, uint64_t tries) {
     }
     print_told();
     print_halts(tries != 0);
+    print_screens(tries != 0);
     if (tries) print_judged();
     printf("every price tried on %llu small books\n", (unsigned long long)(tries - engine_tries_left));
     expect("books on which trying every price differed", engine_tries_differed, 0);

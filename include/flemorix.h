@@ -19,8 +19,35 @@ extern "C" {
 /* A book has 1 to so many places. */
 #define FLEMORIX_MOST_PLACES 4096
 
-/* A day has so many bytes, no more and no less: sizeof (struct flemorix_day). */
-#define FLEMORIX_DAY_BYTES 88
+/* A screen shows so many prices a side, and no more. */
+#define FLEMORIX_SCREEN_LEVELS 5
+
+/* A day has so many bytes, no more and no less: sizeof (struct flemorix_day). Its screen has so many of them: sizeof
+ * (struct flemorix_screen). */
+#define FLEMORIX_DAY_BYTES 312
+#define FLEMORIX_SCREEN_BYTES 224
+
+/* A price of one side, and all its shares there. Both are 0 where a side has fewer prices than the screen has room for. */
+struct flemorix_level {
+    uint64_t price;
+    uint64_t shares;
+};
+
+/* The public screen, which every accepted call that changes something brings up to date: what a fresh count over the book and the
+ * day's trades gives. Read it; a screen that differs from book and day in a single number is 15. The last three numbers are those of
+ * flemorix_report in the opening and in the closing call, phases 1, 2 and 6, and 0 in every other phase. */
+struct flemorix_screen {
+    uint64_t last;     /* price of the last trade, 0 while there is none */
+    uint64_t high;     /* highest price of a trade, 0 while there is none */
+    uint64_t low;      /* lowest price of a trade, 0 while there is none */
+    uint64_t shares;   /* shares traded */
+    uint64_t turnover; /* fen traded */
+    struct flemorix_level buys[FLEMORIX_SCREEN_LEVELS];  /* best, that is highest, price first */
+    struct flemorix_level sells[FLEMORIX_SCREEN_LEVELS]; /* best, that is lowest, price first */
+    uint64_t price;    /* of an auction held now, 0 where none qualifies */
+    uint64_t volume;   /* shares that it would trade */
+    int64_t surplus;   /* demand minus supply at the price */
+};
 
 /* A day. All zeros is no day: flemorix_open makes one. The last three numbers tell of halts, which only a day without a price band
  * has: trading stops for ten minutes at a trade 30% away from the day's first price, and at one 60% away, each once a day. */
@@ -33,6 +60,7 @@ struct flemorix_day {
     uint64_t turnover; /* fen traded */
     uint64_t first;    /* price of the first trade, 0 while there is none */
     uint64_t last;     /* price of the last trade, 0 while there is none */
+    struct flemorix_screen screen;
     uint64_t halt_end; /* the second at which the halt that runs ends with an auction, 0 while none runs */
     uint64_t used_30;  /* 1 once a trade 30% or more away from the first has had its halt, else 0 */
     uint64_t used_60;  /* 1 once a trade 60% or more away has; then used_30 is 1 too */
@@ -95,8 +123,8 @@ enum flemorix_refusal {
     FLEMORIX_NUMBERS = 11,   /* 999,999 numbers issued */
     FLEMORIX_UNKNOWN = 12,   /* no live order has this number and account */
     FLEMORIX_ROOM = 13,      /* the event's trades outnumber the lent trade list */
-    FLEMORIX_OPENING = 14,   /* opening: close not 1 to 999,999, mark not 0 or 1, places not 1 to 4,096, or day not 88 bytes */
-    FLEMORIX_UNSOUND = 15,   /* day not sound or not 88 bytes, book out of order, or places not 1 to 4,096 */
+    FLEMORIX_OPENING = 14,   /* opening: close not 1 to 999,999, mark not 0 or 1, places not 1 to 4,096, or day not 312 bytes */
+    FLEMORIX_UNSOUND = 15,   /* day not sound or not 312 bytes, screen not as counted, book out of order, or places not 1 to 4,096 */
 };
 
 /* The replies, one for each call: a buffer may be one of these. The values are 0 where the call is refused. */
@@ -161,8 +189,9 @@ uint64_t flemorix_order(uint8_t *day, size_t day_length, uint8_t *book, size_t b
                         size_t trades_length, uint8_t *reply, size_t reply_length, uint64_t side, uint64_t kind,
                         uint64_t account, uint64_t quantity, uint64_t price, uint64_t balance);
 
-/* Takes out the live order with this number and account. Reply: the shares withdrawn. 15, 4, 12. */
-uint64_t flemorix_cancel(const uint8_t *day, size_t day_length, uint8_t *book, size_t book_length, uint8_t *reply,
+/* Takes out the live order with this number and account. Of the day the screen changes, and nothing else. Reply: the shares
+ * withdrawn. 15, 4, 12. */
+uint64_t flemorix_cancel(uint8_t *day, size_t day_length, uint8_t *book, size_t book_length, uint8_t *reply,
                          size_t reply_length, uint64_t account, uint64_t number);
 
 /* Moves the clock, and holds the auctions that it passes, in time order: the opening one, the one that ends a halt, and the closing
