@@ -33,9 +33,10 @@ struct flemorix_level {
     uint64_t shares;
 };
 
-/* The public screen, which every accepted call that changes something brings up to date: what a fresh count over the book and the
- * day's trades gives. Read it; a screen that differs from book and day in a single number is 15. The last three numbers are those of
- * flemorix_report in the opening and in the closing call, phases 1, 2 and 6, and 0 in every other phase. */
+/* The public screen: what a fresh count over the book and the day's trades gives after each accepted opening, order, cancel and
+ * move of the clock; a refused one leaves it. Read it and don't write it: a screen that differs from book and day in one number is
+ * 15. Price, volume and surplus are those of flemorix_report in the opening and in the closing call, phases 1, 2 and 6, and 0 in
+ * every other phase, also in a halt. */
 struct flemorix_screen {
     uint64_t last;     /* price of the last trade, 0 while there is none */
     uint64_t high;     /* highest price of a trade, 0 while there is none */
@@ -65,6 +66,15 @@ struct flemorix_day {
     uint64_t used_30;  /* 1 once a trade 30% or more away from the first has had its halt, else 0 */
     uint64_t used_60;  /* 1 once a trade 60% or more away has; then used_30 is 1 too */
 };
+
+/* The calls read and write these bytes: a compiler that lays the structs out otherwise says so here. */
+#if defined(__cplusplus) && __cplusplus >= 201103L
+static_assert(sizeof(struct flemorix_screen) == FLEMORIX_SCREEN_BYTES, "a screen is laid out otherwise");
+static_assert(sizeof(struct flemorix_day) == FLEMORIX_DAY_BYTES, "a day is laid out otherwise");
+#elif !defined(__cplusplus) && defined(__STDC_VERSION__) && __STDC_VERSION__ >= 201112L
+_Static_assert(sizeof(struct flemorix_screen) == FLEMORIX_SCREEN_BYTES, "a screen is laid out otherwise");
+_Static_assert(sizeof(struct flemorix_day) == FLEMORIX_DAY_BYTES, "a day is laid out otherwise");
+#endif
 
 /* A place of the book. A free place is all zeros. The places stand in order: buys from best to worst, then sells from best to
  * worst, free places last; at one price the lower number first. An order's place changes from call to call: its number names it. */
@@ -124,7 +134,7 @@ enum flemorix_refusal {
     FLEMORIX_UNKNOWN = 12,   /* no live order has this number and account */
     FLEMORIX_ROOM = 13,      /* the event's trades outnumber the lent trade list */
     FLEMORIX_OPENING = 14,   /* opening: close not 1 to 999,999, mark not 0 or 1, places not 1 to 4,096, or day not 312 bytes */
-    FLEMORIX_UNSOUND = 15,   /* day not sound or not 312 bytes, screen not as counted, book out of order, or places not 1 to 4,096 */
+    FLEMORIX_UNSOUND = 15,   /* day not sound or not 312 bytes, another screen, book out of order, or places not 1 to 4,096 */
 };
 
 /* The replies, one for each call: a buffer may be one of these. The values are 0 where the call is refused. */

@@ -116,6 +116,8 @@ awk '/^```/ { inside = ($0 == "```c"); next } inside' docs/JUDGE.md > "$work/jud
 awk '/^```/ { inside = ($0 == "```text"); next } inside' docs/JUDGE.md > "$work/expected"
 compiles "of the judge" "$(doors/library --compiler)" -std=c11 "${flags[@]}" "$work/judge.c" "$static"
 says "pkg-config" "-lflemorix" "$work/prefix/lib/pkgconfig/flemorix.pc"
+[ -e "$work/prefix/lib/libflemorix.so.3" ]
+check "the shared library has not the number of its layout, 3" $?
 
 echo "$passed passed, $failed failed"
 [ "$failed" -eq 0 ]
