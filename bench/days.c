@@ -3,6 +3,7 @@
 #include "asking.h"
 #include "chance.h"
 #include "runs.h"
+#include "views.h"
 #include <stdio.h>
 
 /* ---- chance */

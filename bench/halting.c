@@ -4,6 +4,7 @@
 #include "chance.h"
 #include "runs.h"
 #include "sights.h"
+#include "views.h"
 #include <stdio.h>
 
 /* ---- prices */

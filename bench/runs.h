@@ -22,10 +22,6 @@ void print_halts(int all_seeds);
 void change_each_number(uint64_t seed);
 void change_one_number(uint64_t seed);
 
-/* Around a call of a random day: what it has shown on the screen is counted. */
-void before_view(void);
-void after_view(int which, uint64_t refusal);
-
 /* What the random days have shown on their screens, and how often each number was changed; where all seeds have been run, each
  * often enough. */
 void print_screens(int all_seeds);
