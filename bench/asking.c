@@ -5,6 +5,12 @@
 _Static_assert(sizeof(struct flemorix_day) == DAY_BYTES, "the header's day is not as long as one in bytes");
 _Static_assert(8 * DAY_NUMBERS == DAY_BYTES, "a day has another count of numbers");
 _Static_assert(FLEMORIX_DAY_BYTES == DAY_BYTES, "the header's length of a day is not that of one in bytes");
+_Static_assert(offsetof(struct flemorix_day, screen) == 8 * SCREEN, "the header's screen stands elsewhere");
+_Static_assert(sizeof(struct flemorix_screen) == 8 * SCREEN_NUMBERS, "the header's screen is not as long as one in bytes");
+_Static_assert(FLEMORIX_SCREEN_BYTES == 8 * SCREEN_NUMBERS, "the header's length of a screen is not that of one in bytes");
+_Static_assert(offsetof(struct flemorix_day, screen.sells) == 8 * SCREEN_SELLS, "the header's sells stand elsewhere");
+_Static_assert(offsetof(struct flemorix_day, screen.surplus) == 8 * SCREEN_SURPLUS, "the header's surplus stands elsewhere");
+_Static_assert(offsetof(struct flemorix_day, halt_end) == 8 * HALT_END, "the header's halt_end stands elsewhere");
 _Static_assert(sizeof(struct flemorix_trade) == TRADE_BYTES, "the header's trade is not as long as one in bytes");
 
 uint64_t make(int which, uint64_t a, uint64_t b, uint64_t c, uint64_t d, uint64_t e) {
@@ -39,6 +45,19 @@ struct flemorix_day day_now(void) {
 }
 
 void set_day(size_t number, uint64_t to) { put_number(lent.day, number, to); }
+
+void mend_day(void) {
+    if (lent.day_length == DAY_BYTES) mend_screen(lent.day, lent.book, lent.book_length / 40);
+}
+
+void expect_sound(const char *name, int is_sound) {
+    const uint64_t asked[ASKED] = {0};
+    keep_memory();
+    for (int which = ORDER; which < CALLS; which++) {
+        expect(name, compare(0, which, asked) != 15, (uint64_t)is_sound);
+        restore_memory();
+    }
+}
 
 /* The book is in order, so the first order of a side is its best. */
 uint64_t best_now(uint64_t side) {

@@ -26,9 +26,23 @@ struct flemorix_trade trade_at(size_t i);
 struct flemorix_day day_now(void);
 
 /* Where the numbers of a day stand, for days that are made or damaged by hand. */
-enum { CLOSE, LIMITED, TIME, ISSUED, SHARES, TURNOVER, FIRST, LAST, HALT_END, USED_30, USED_60, DAY_NUMBERS };
+enum {
+    CLOSE, LIMITED, TIME, ISSUED, SHARES, TURNOVER, FIRST, LAST,
+    SCREEN, SCREEN_LAST = SCREEN, SCREEN_HIGH, SCREEN_LOW, SCREEN_SHARES, SCREEN_TURNOVER,
+    SCREEN_BUYS, SCREEN_SELLS = SCREEN_BUYS + 10, /* five times price and shares each */
+    SCREEN_PRICE = SCREEN_SELLS + 10, SCREEN_VOLUME, SCREEN_SURPLUS,
+    HALT_END, USED_30, USED_60, DAY_NUMBERS
+};
+
+enum { SCREEN_NUMBERS = HALT_END - SCREEN };
 
 void set_day(size_t number, uint64_t to);
+
+/* Counts the screen anew, after a day or a book has been changed by hand, so that it is not the screen that is wrong with them. */
+void mend_day(void);
+
+/* Each call but an opening tells 15, or none does. Leaves all as it was. */
+void expect_sound(const char *name, int is_sound);
 
 /* The best price of a side of the lent book, 0 where it has no order; and whether its buys reach its sells. */
 uint64_t best_now(uint64_t side);

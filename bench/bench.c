@@ -1,9 +1,9 @@
-/* Runs the rules' situations, random days, days that halt, damaged ones and day files through the exported calls and through the
- * independent engine, and compares them after every call. Prints the seeds; the last line is `N passed, M failed`.
+/* Runs the rules' situations, random days, days that halt, damaged ones, changed screens and day files through the exported calls and
+ * through the independent engine, and compares them after every call. Prints the seeds; the last line is `N passed, M failed`.
  *
  * bench [--exactly | --walls] [--damage PART NTH] [FIRST [LAST]]: the seeds FIRST to LAST, or FIRST alone. compare.h says what the
  * options do. Without seeds all are run, and two things are tested besides: the independent engine, which tries every price on small
- * books, and what was made, days that halt, claims and day files, which has to show everything often enough. */
+ * books, and what was made, days that halt, screens, claims and day files, which has to show everything often enough. */
 #include "chance.h"
 #include "compare.h"
 #include "runs.h"
@@ -24,6 +24,7 @@ static int run(uint64_t first, uint64_t last, uint64_t tries) {
     engine_tries_left = tries;
     run_situations();
     run_halts();
+    run_screens();
     run_session();
     for (uint64_t seed = first; seed <= last; seed++) {
         run_seed(seed);
@@ -33,6 +34,7 @@ static int run(uint64_t first, uint64_t last, uint64_t tries) {
     }
     print_told();
     print_halts(tries != 0);
+    print_screens(tries != 0);
     if (tries) print_judged();
     if (tries) print_files();
     printf("every price tried on %llu small books\n", (unsigned long long)(tries - engine_tries_left));

@@ -106,6 +106,12 @@ void restore_memory(void) {
     copy_lent(&expected, &kept, &kept_lent);
 }
 
+int is_as_kept(void) {
+    for (int s = 0; s < REPLY; s++)
+        if (memcmp(expected.bytes[s], kept.bytes[s], GUARD + length_of(&kept_lent, s) + GUARD)) return 0;
+    return 1;
+}
+
 static void exchange(size_t i, size_t j) {
     uint64_t number = number_at(lent.book, i);
     put_number(lent.book, i, number_at(lent.book, j));
@@ -180,14 +186,28 @@ static uint64_t call_between_walls(call *made, const struct lent *m, const uint6
 
 /* ---- a byte of what is expected, flipped */
 
-enum { NO_PART, NUMBER_PART, DAY_PART, BOOK_PART, TRADES_PART, PRICES_PART, FILE_PART, RECORDS_PART, REPLY_PART, GUARD_PART, PRINTED_PART, PARTS };
+enum {
+    NO_PART,
+    NUMBER_PART,
+    DAY_PART,
+    SCREEN_PART,
+    BOOK_PART,
+    TRADES_PART,
+    PRICES_PART,
+    FILE_PART,
+    RECORDS_PART,
+    REPLY_PART,
+    GUARD_PART,
+    PRINTED_PART,
+    PARTS
+};
 
 static int damaged_part;
 static uint64_t damaged_nth, times_seen;
 
 int damage_expected(const char *part, uint64_t nth) {
-    static const char *const parts[PARTS] = {"",     "number",  "day",   "book",  "trades", "prices",
-                                             "file", "records", "reply", "guard", "printed"};
+    static const char *const parts[PARTS] = {"",       "number", "day",     "screen", "book",  "trades",
+                                             "prices", "file",   "records", "reply",  "guard", "printed"};
     for (int p = NO_PART + 1; p < PARTS; p++)
         if (!strcmp(part, parts[p])) damaged_part = p;
     damaged_nth = nth;
@@ -203,6 +223,24 @@ static uint8_t *byte_of_slice(int slice) {
     return expected.bytes[slice] + GUARD + damaged_nth * 0x9e3779b97f4a7c15ull % span;
 }
 
+/* Where the screen stands in a day, and the bytes of the day without it, of which the last come behind the screen. */
+enum { SCREEN_FROM = offsetof(struct flemorix_day, screen), SCREEN_BYTES = sizeof(struct flemorix_screen) };
+enum { OTHER_BYTES = DAY_BYTES - SCREEN_BYTES };
+
+static int has_screen(void) { return lent.day_length == DAY_BYTES; }
+
+static uint8_t *byte_of_day(void) {
+    uint8_t *day = expected.bytes[DAY] + GUARD;
+    if (!has_screen() || !is_damaged_now()) return NULL;
+    size_t at = damaged_nth * 0x9e3779b97f4a7c15ull % OTHER_BYTES;
+    return day + (at < SCREEN_FROM ? at : at + SCREEN_BYTES);
+}
+
+static uint8_t *byte_of_screen(void) {
+    uint8_t *screen = expected.bytes[DAY] + GUARD + SCREEN_FROM;
+    return has_screen() && is_damaged_now() ? screen + damaged_nth * 0x9e3779b97f4a7c15ull % SCREEN_BYTES : NULL;
+}
+
 static uint8_t *byte_of_guard(void) {
     if (!is_damaged_now()) return NULL;
     size_t slice = damaged_nth / 2 % SLICES, at = damaged_nth * 7 % GUARD;
@@ -214,7 +252,8 @@ static uint8_t *damaged_byte(int which, uint64_t *number) {
     bool trades = which == ORDER || which == CLOCK;
     switch (damaged_part) {
     case NUMBER_PART: return is_damaged_now() ? (uint8_t *)number + damaged_nth % 8 : NULL;
-    case DAY_PART: return byte_of_slice(DAY);
+    case DAY_PART: return byte_of_day();
+    case SCREEN_PART: return byte_of_screen();
     case BOOK_PART: return which != READ_FILE ? byte_of_slice(BOOK) : NULL;
     case TRADES_PART: return trades ? byte_of_slice(TRADES_OR_PRICES) : NULL;
     case PRICES_PART: return which == LIST ? byte_of_slice(TRADES_OR_PRICES) : NULL;
@@ -242,10 +281,17 @@ static bool slice_differs(int slice) {
     return memcmp(proved.bytes[slice] + GUARD, expected.bytes[slice] + GUARD, length_of(&lent, slice)) != 0;
 }
 
+/* Nothing of the day but its screen differs. */
+static bool screen_alone_differs(void) {
+    const uint8_t *p = proved.bytes[DAY] + GUARD, *e = expected.bytes[DAY] + GUARD;
+    size_t behind = SCREEN_FROM + SCREEN_BYTES;
+    return has_screen() && !memcmp(p, e, SCREEN_FROM) && !memcmp(p + behind, e + behind, DAY_BYTES - behind);
+}
+
 /* The first thing that differs, NULL where nothing does. */
 static const char *difference(int which, uint64_t got, uint64_t want) {
     if (got != want) return "the number differs";
-    if (slice_differs(DAY)) return "the day differs";
+    if (slice_differs(DAY)) return screen_alone_differs() ? "the screen differs" : "the day differs";
     if (slice_differs(BOOK)) return which == READ_FILE ? "the file differs" : "the book differs";
     if (slice_differs(TRADES_OR_PRICES))
         return which == LIST ? "the prices differ" : which == READ_FILE ? "the records differ" : "the trades differ";

@@ -33,6 +33,9 @@ void clear_memory(uint8_t with);
 void keep_memory(void);
 void restore_memory(void);
 
+/* Whether day, book and list are still as they were kept. */
+int is_as_kept(void);
+
 /* Put the lent book out of order: a place goes elsewhere, and those between close up; or two places exchange their numbers. */
 void move_place(size_t from, size_t to);
 void exchange_numbers(size_t p, size_t q);
@@ -57,8 +60,8 @@ extern uint64_t passed, failed;
 void print_told(void);
 
 /* For the bench's test of itself: flips one byte of what is expected where this part of a result comes up the nth time. The
- * parts: number, day, book, trades, prices, file, records, reply, guard, printed (a number that the rules print). Returns 0 for
- * any other word. */
+ * parts: number, day (all but its screen), screen, book, trades, prices, file, records, reply, guard, printed (a number that the
+ * rules print). Returns 0 for any other word. */
 int damage_expected(const char *part, uint64_t nth);
 
 #endif

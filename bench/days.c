@@ -1,8 +1,9 @@
 /* Random days: each seed opens a day and makes calls on it, some of them with day, book or lengths damaged for one call, or with
  * the book out of order. */
+#include "asking.h"
 #include "chance.h"
-#include "compare.h"
 #include "runs.h"
+#include "views.h"
 #include <stdio.h>
 
 /* ---- chance */
@@ -83,14 +84,14 @@ static void random_cancel(uint64_t *a) {
 
 /* A day on which nothing can be entered is moved on, or opened anew. */
 static int is_idle(void) {
-    uint64_t now = number_at(lent.day, 2);
+    uint64_t now = number_at(lent.day, TIME);
     return now < 33300 || (now >= 33900 && now < 34200) || (now >= 41400 && now < 46800) || now >= 54000;
 }
 
 static uint64_t random_time(void) {
     static const uint64_t rows[] = {33300, 33600, 33900, 34200, 41400, 46800, 53820, 54000};
     int is_day = lent.day_length == DAY_BYTES;
-    uint64_t now = is_day ? number_at(lent.day, 2) : 0, halt_end = is_day ? number_at(lent.day, 8) : 0;
+    uint64_t now = is_day ? number_at(lent.day, TIME) : 0, halt_end = is_day ? number_at(lent.day, HALT_END) : 0;
     if (once_in(12)) return edge();
     if (halt_end && once_in(2)) return halt_end - once_in(4);
     if (once_in(3) && !is_idle()) return now + chance(100);
@@ -102,21 +103,21 @@ static uint64_t random_time(void) {
     return now;
 }
 
-/* Day and book are damaged for one call: one number is set to an edge, or one byte is changed, or a length; or a place is moved, or
- * two exchange their numbers, which a book may bear. */
+/* Day and book are damaged: one number is set to an edge, or one byte is changed, or a length; or a place is moved, or two exchange
+ * their numbers, which a book may bear. */
 static void damage(void) {
     struct lent *m = &lent;
     size_t n = m->book_length / 40;
     if (once_in(6)) {
-        size_t day = once_in(2) ? DAY_BYTES : chance(130), book = once_in(3) ? LONGEST - chance(100) : chance(m->book_length + 81);
+        size_t day = once_in(2) ? DAY_BYTES : chance(400), book = once_in(3) ? LONGEST - chance(100) : chance(m->book_length + 81);
         lend(day, book, m->list_length, m->reply_length);
     } else if (once_in(6)) {
-        put_number(m->day, 3, 999999);
+        put_number(m->day, ISSUED, 999999);
     } else if (once_in(6) && n) {
         size_t p = chance(n), q = chance(n);
         (once_in(2) ? move_place : exchange_numbers)(p, q);
     } else if (once_in(2) || !n) {
-        size_t at = chance(DAY_BYTES / 8);
+        size_t at = once_in(2) ? chance(SCREEN) : chance(DAY_NUMBERS);
         put_number(m->day, at, edge());
     } else if (once_in(2)) {
         size_t at = chance(5 * n);
@@ -131,7 +132,7 @@ static int pick_call(void) {
     static const int likely[] = {ORDER,  ORDER,  ORDER,  ORDER,  ORDER, ORDER, CANCEL,
                                  CANCEL, CANCEL, REPORT, REPORT, LIST,  LIST,  CLOCK};
     if (once_in(150)) return OPEN;
-    if (is_idle() && once_in(3)) return number_at(lent.day, 2) < 54000 ? CLOCK : OPEN;
+    if (is_idle() && once_in(3)) return number_at(lent.day, TIME) < 54000 ? CLOCK : OPEN;
     return likely[chance(sizeof likely / sizeof likely[0])];
 }
 
@@ -150,12 +151,17 @@ static uint64_t one_call(const struct plan *plan, int which) {
     } else if (which == LIST) {
         a[0] = once_in(3) ? edge() : random_price(plan);
     }
-    return compare(plan->seed, which, a);
+    before_view();
+    uint64_t refusal = compare(plan->seed, which, a);
+    after_view(which, refusal);
+    return refusal;
 }
 
+/* For one call. Every other time the screen is counted anew, and the damage alone decides. */
 static void damaged_call(const struct plan *plan) {
     keep_memory();
     damage();
+    if (once_in(2)) mend_day();
     one_call(plan, pick_call());
     restore_memory();
 }
@@ -189,11 +195,13 @@ static int disorder(void) {
     return from != to;
 }
 
-/* Then each call but an opening is 15. */
+/* Then each call but an opening is 15, also where the screen is that of the places as they stand. */
 static void disordered_calls(const struct plan *plan) {
     keep_memory();
-    if (disorder())
+    if (disorder()) {
+        if (once_in(2)) mend_day();
         for (int which = ORDER; which < CALLS; which++) expect("a book out of order", one_call(plan, which), 15);
+    }
     restore_memory();
 }
 
@@ -208,8 +216,8 @@ static void fill_book(const struct plan *plan) {
     const uint64_t before[] = {0, 65536 - chance(n + 2), 999999 - n};
     uint64_t first = before[chance(3)];
     int apart = time == 34200 || time == 46800;
-    put_number(m->day, 2, time);
-    put_number(m->day, 3, first + n);
+    put_number(m->day, TIME, time);
+    put_number(m->day, ISSUED, first + n);
     for (uint64_t p = 0; p < n; p++) {
         uint64_t side = chance(2), price = random_price(plan);
         if (once_in(8) || (apart && (price == plan->close || (price > plan->close) != (side == 1)))) continue;
@@ -218,6 +226,7 @@ static void fill_book(const struct plan *plan) {
         for (size_t i = 0; i < 5; i++) put_number(m->book, 5 * p + i, order[i]);
     }
     arrange_book(m->book, n);
+    mend_day();
 }
 
 static struct plan plan_day(uint64_t seed) {
@@ -242,6 +251,7 @@ void run_seed(uint64_t seed) {
         one_call(&plan, pick_call());
         if (once_in(4)) damaged_call(&plan);
         if (once_in(16)) disordered_calls(&plan);
+        if (once_in(8)) change_one_number(seed);
         if (once_in(8)) judge_lists(seed, chance);
     }
     printf("seed %llu: %zu places, close %llu: %s\n", (unsigned long long)seed, plan.places, (unsigned long long)plan.close,

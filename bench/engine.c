@@ -4,10 +4,22 @@
 #include <stdlib.h>
 #include <string.h>
 
-enum { PLACES = 4096, TOP_PRICE = 999999, SLOTS = 16384, SMALL = 8 };
+enum { PLACES = 4096, TOP_PRICE = 999999, SLOTS = 16384, SMALL = 8, SHOWN = 5 };
+
+struct row {
+    uint64_t price, shares;
+};
+
+/* The public screen. Signed numbers stand in their two's complement. */
+struct screen {
+    uint64_t last, high, low, shares, turnover;
+    struct row rows[2][SHOWN]; /* buys, then sells, best price first */
+    uint64_t price, volume, surplus;
+};
 
 struct day {
     uint64_t close, limited, time, issued, shares, turnover, first, last;
+    struct screen screen;
     uint64_t halt_end, used_30, used_60; /* a halt's end, 0 while none runs, and the thresholds that have had their turn */
 };
 
@@ -23,7 +35,7 @@ struct trade {
 
 /* The orders of one side at one price, oldest number first. */
 struct level {
-    uint64_t price;
+    uint64_t price, shares;
     int first, count; /* in the side's queue */
 };
 
@@ -71,9 +83,6 @@ static void read_book(const uint8_t *b) {
 
 static void write_day(uint8_t *b) { write_numbers(b, 0, &day, DAY_NUMBERS); }
 
-static void write_trades(struct lent *m) {
-    for (size_t t = 0; t < made_count; t++) write_numbers(m->list, 6 * t, &made[t], 6);
-}
 
 /* The refusal, and count values behind it (zeros where it refuses), as many whole numbers as the buffer holds. */
 static uint64_t answer(struct lent *m, uint64_t refusal, const uint64_t *values, size_t count) {
@@ -193,19 +202,211 @@ void arrange_book(uint8_t *book, size_t count) {
 static void build_levels(void) {
     queue_count[0] = queue_count[1] = 0;
     for (size_t p = 0; p < place_count; p++)
-        if (places[p].number) queue[places[p].side][queue_count[places[p].side]++] = (int)p;
+        if (places[p].number && places[p].side <= 1) queue[places[p].side][queue_count[places[p].side]++] = (int)p;
     for (int s = 0; s < 2; s++) {
         level_count[s] = 0;
         for (int i = 0; i < queue_count[s]; i++) {
-            uint64_t price = places[queue[s][i]].price;
-            if (!level_count[s] || levels[s][level_count[s] - 1].price != price)
-                levels[s][level_count[s]++] = (struct level){price, i, 0};
+            const struct order *o = &places[queue[s][i]];
+            if (!level_count[s] || levels[s][level_count[s] - 1].price != o->price)
+                levels[s][level_count[s]++] = (struct level){o->price, 0, i, 0};
+            levels[s][level_count[s] - 1].shares += o->left;
             levels[s][level_count[s] - 1].count++;
         }
     }
 }
 
 static uint64_t best(int side) { return level_count[side] ? levels[side][0].price : 0; }
+
+/* ---- the auction's price */
+
+/* Neighbouring prices that have the same demand and supply. */
+struct stretch {
+    uint64_t low, high, demand, supply;
+    bool qualifies;
+};
+
+static struct stretch stretches[4 * PLACES + 2];
+static int stretch_count;
+
+static uint64_t shares_where(int side, uint64_t low, uint64_t high) {
+    uint64_t sum = 0;
+    for (int i = 0; i < queue_count[side]; i++) {
+        const struct order *o = &places[queue[side][i]];
+        if (o->price >= low && o->price <= high) sum += o->left;
+    }
+    return sum;
+}
+
+static uint64_t smaller(uint64_t a, uint64_t b) { return a < b ? a : b; }
+
+static int compare_numbers(const void *a, const void *b) {
+    uint64_t x = *(const uint64_t *)a, y = *(const uint64_t *)b;
+    return x < y ? -1 : x > y;
+}
+
+/* Every price on an order is a stretch of its own, and so are the prices between two neighbours: nothing changes there. */
+static void cut_stretches(void) {
+    static uint64_t prices[2 * PLACES];
+    size_t n = 0;
+    for (int s = 0; s < 2; s++)
+        for (int l = 0; l < level_count[s]; l++) prices[n++] = levels[s][l].price;
+    qsort(prices, n, sizeof prices[0], compare_numbers);
+    uint64_t next = 1;
+    stretch_count = 0;
+    for (size_t i = 0; i < n; i++) {
+        if (i && prices[i] == prices[i - 1]) continue;
+        if (next < prices[i]) stretches[stretch_count++] = (struct stretch){next, prices[i] - 1, 0, 0, false};
+        stretches[stretch_count++] = (struct stretch){prices[i], prices[i], 0, 0, false};
+        next = prices[i] + 1;
+    }
+    if (next <= TOP_PRICE) stretches[stretch_count++] = (struct stretch){next, TOP_PRICE, 0, 0, false};
+}
+
+/* Demand falls level by level as the price rises, and supply grows. */
+static void fill_stretches(void) {
+    uint64_t demand = shares_where(0, 1, TOP_PRICE), supply = 0;
+    int buy = level_count[0] - 1, sell = 0;
+    for (int k = 0; k < stretch_count; k++) {
+        struct stretch *t = &stretches[k];
+        while (buy >= 0 && levels[0][buy].price < t->low) {
+            demand -= levels[0][buy].shares;
+            buy--;
+        }
+        while (sell < level_count[1] && levels[1][sell].price <= t->low) {
+            supply += levels[1][sell].shares;
+            sell++;
+        }
+        t->demand = demand;
+        t->supply = supply;
+    }
+}
+
+static bool qualifies(uint64_t p, uint64_t most) {
+    uint64_t above = shares_where(0, p + 1, TOP_PRICE), at_buy = shares_where(0, p, p);
+    uint64_t below = p > 1 ? shares_where(1, 1, p - 1) : 0, at_sell = shares_where(1, p, p);
+    uint64_t volume = smaller(above + at_buy, below + at_sell);
+    if (volume < 1 || volume < most) return false;
+    if (above > volume || below > volume) return false;
+    return above + at_buy <= volume || below + at_sell <= volume;
+}
+
+static void try_all_prices(uint64_t most) {
+    bool same = true;
+    int k = 0;
+    for (uint64_t p = 1; p <= TOP_PRICE; p++) {
+        while (stretches[k].high < p) k++;
+        if (smaller(shares_where(0, p, TOP_PRICE), shares_where(1, 1, p)) > most) same = false;
+        if (qualifies(p, most) != stretches[k].qualifies) same = false;
+    }
+    engine_tries_left--;
+    if (!same) engine_tries_differed++;
+}
+
+/* Finds the qualifying stretches. The most volume comes first: only where it is reached are the other conditions looked at. Returns
+ * the most volume. */
+static uint64_t find_stretches(void) {
+    uint64_t most = 0;
+    cut_stretches();
+    fill_stretches();
+    for (int k = 0; k < stretch_count; k++) {
+        uint64_t v = smaller(stretches[k].demand, stretches[k].supply);
+        if (v > most) most = v;
+    }
+    for (int k = 0; k < stretch_count; k++) {
+        struct stretch *t = &stretches[k];
+        t->qualifies = most && smaller(t->demand, t->supply) == most && qualifies(t->low, most);
+    }
+    return most;
+}
+
+/* The same, and on some small books every price is tried too. */
+static void survey(void) {
+    uint64_t most = find_stretches();
+    if (queue_count[0] + queue_count[1] <= SMALL && engine_tries_left) try_all_prices(most);
+}
+
+static uint64_t gap(const struct stretch *t) { return apart(t->demand, t->supply); }
+
+/* The price that the tie rules leave, 0 where none qualifies, and how many they leave. */
+static uint64_t clearing_price(int *left, const struct stretch **at) {
+    uint64_t least = UINT64_MAX, nearest = UINT64_MAX, price = 0, to = day.last ? day.last : day.close;
+    *left = 0;
+    *at = NULL;
+    for (int k = 0; k < stretch_count; k++)
+        if (stretches[k].qualifies && gap(&stretches[k]) < least) least = gap(&stretches[k]);
+    for (int k = 0; k < stretch_count; k++) {
+        const struct stretch *t = &stretches[k];
+        if (!t->qualifies || gap(t) != least) continue;
+        uint64_t p = to < t->low ? t->low : to > t->high ? t->high : to;
+        if (apart(p, to) < nearest) {
+            nearest = apart(p, to);
+            *left = 0;
+            *at = t;
+            price = p;
+        }
+        if (apart(p, to) == nearest) ++*left;
+    }
+    return price;
+}
+
+/* The tie rules leave exactly one price wherever buys reach sells. */
+static void count_undecided(int left) {
+    if (best(0) && best(1) && best(0) >= best(1) && left != 1) engine_undecided++;
+}
+
+/* ---- the screen */
+
+/* A fresh count over the levels and the day. What the highest and the lowest price were, book and day don't tell. */
+static struct screen count_screen(uint64_t high, uint64_t low) {
+    struct screen s = {.last = day.last, .high = high, .low = low, .shares = day.shares, .turnover = day.turnover};
+    int phase = phase_now(), left;
+    for (int side = 0; side < 2; side++)
+        for (int l = 0; l < level_count[side] && l < SHOWN; l++)
+            s.rows[side][l] = (struct row){levels[side][l].price, levels[side][l].shares};
+    if (phase != 1 && phase != 2 && phase != 6) return s;
+    const struct stretch *at;
+    find_stretches();
+    s.price = clearing_price(&left, &at);
+    if (at) s.volume = smaller(at->demand, at->supply), s.surplus = at->demand - at->supply;
+    return s;
+}
+
+static bool encloses(uint64_t low, uint64_t high, uint64_t price) { return low <= price && price <= high; }
+
+static bool screen_sound(void) {
+    const struct screen *s = &day.screen, counted = count_screen(s->high, s->low);
+    if (memcmp(s, &counted, sizeof counted)) return false;
+    if (!day.shares) return !s->high && !s->low;
+    return encloses(s->low, s->high, day.first) && encloses(s->low, s->high, day.last);
+}
+
+/* After an event: the day's first trade begins high and low, each further one may move them. */
+static void renew_screen(void) {
+    uint64_t high = day.screen.high, low = day.screen.low;
+    for (size_t t = 0; t < made_count; t++) {
+        bool begins = t == 0 && !day.screen.last;
+        if (begins || made[t].price > high) high = made[t].price;
+        if (begins || made[t].price < low) low = made[t].price;
+    }
+    arrange();
+    build_levels();
+    day.screen = count_screen(high, low);
+}
+
+void mend_screen(uint8_t *of, const uint8_t *book, size_t count) {
+    if (count > PLACES) return;
+    place_count = count;
+    read_numbers(of, 0, &day, DAY_NUMBERS);
+    read_book(book);
+    build_levels();
+    uint64_t high = day.screen.high, low = day.screen.low;
+    if (high < day.first) high = day.first;
+    if (high < day.last) high = day.last;
+    if (low > day.first) low = day.first;
+    if (low > day.last) low = day.last;
+    day.screen = day.shares ? count_screen(high, low) : count_screen(0, 0);
+    write_day(of);
+}
 
 /* ---- soundness */
 
@@ -249,7 +450,7 @@ static bool load(const struct lent *m) {
     if ((day.time < 33300 || day.time >= 54000) && !empty) return false;
     bool may_cross = day.time < 33900 || day.time > 53819 || day.halt_end;
     if (!may_cross && best(0) && best(1) && best(0) >= best(1)) return false;
-    return totals_sound();
+    return totals_sound() && screen_sound();
 }
 
 /* ---- trades */
@@ -265,6 +466,14 @@ static void trade(struct trade t) {
     day.turnover += t.price * t.quantity;
     day.last = t.price;
     if (!day.first) day.first = t.price;
+}
+
+/* What an accepted event leaves. */
+static void write_all(struct lent *m) {
+    renew_screen();
+    write_day(m->day);
+    write_book(m->book);
+    for (size_t t = 0; t < made_count; t++) write_numbers(m->list, 6 * t, &made[t], 6);
 }
 
 static bool too_many_trades(const struct lent *m) { return made_count > m->list_length / TRADE_BYTES; }
@@ -380,9 +589,7 @@ uint64_t engine_order(struct lent *m, const uint64_t *asked) {
         places[any_free()] = (struct order){w.side, w.account, left, price, day.issued};
     }
     for (size_t t = 0; t < made_count; t++) look_at(made[t].price, day.time);
-    write_day(m->day);
-    write_book(m->book);
-    write_trades(m);
+    write_all(m);
     uint64_t values[] = {day.issued, w.quantity - left, resting, left - resting, used};
     return answer(m, 0, values, 5);
 }
@@ -397,139 +604,11 @@ uint64_t engine_cancel(struct lent *m, const uint64_t *asked) {
     if (!*slot || !asked[1] || places[*slot - 1].account != asked[0]) return answer(m, 12, NULL, 1);
     uint64_t shares = places[*slot - 1].left;
     memset(&places[*slot - 1], 0, sizeof places[0]);
-    write_book(m->book);
+    write_all(m);
     return answer(m, 0, &shares, 1);
 }
 
-/* ---- the auction */
-
-/* Neighbouring prices that have the same demand and supply. */
-struct stretch {
-    uint64_t low, high, demand, supply;
-    bool qualifies;
-};
-
-static struct stretch stretches[4 * PLACES + 2];
-static int stretch_count;
-
-static uint64_t shares_where(int side, uint64_t low, uint64_t high) {
-    uint64_t sum = 0;
-    for (int i = 0; i < queue_count[side]; i++) {
-        const struct order *o = &places[queue[side][i]];
-        if (o->price >= low && o->price <= high) sum += o->left;
-    }
-    return sum;
-}
-
-static uint64_t smaller(uint64_t a, uint64_t b) { return a < b ? a : b; }
-
-static int compare_numbers(const void *a, const void *b) {
-    uint64_t x = *(const uint64_t *)a, y = *(const uint64_t *)b;
-    return x < y ? -1 : x > y;
-}
-
-/* Every price on an order is a stretch of its own, and so are the prices between two neighbours: nothing changes there. */
-static void cut_stretches(void) {
-    static uint64_t prices[2 * PLACES];
-    size_t n = 0;
-    for (int s = 0; s < 2; s++)
-        for (int l = 0; l < level_count[s]; l++) prices[n++] = levels[s][l].price;
-    qsort(prices, n, sizeof prices[0], compare_numbers);
-    uint64_t next = 1;
-    stretch_count = 0;
-    for (size_t i = 0; i < n; i++) {
-        if (i && prices[i] == prices[i - 1]) continue;
-        if (next < prices[i]) stretches[stretch_count++] = (struct stretch){next, prices[i] - 1, 0, 0, false};
-        stretches[stretch_count++] = (struct stretch){prices[i], prices[i], 0, 0, false};
-        next = prices[i] + 1;
-    }
-    if (next <= TOP_PRICE) stretches[stretch_count++] = (struct stretch){next, TOP_PRICE, 0, 0, false};
-}
-
-/* Demand falls level by level as the price rises, and supply grows. */
-static void fill_stretches(void) {
-    uint64_t demand = shares_where(0, 1, TOP_PRICE), supply = 0;
-    int buy = level_count[0] - 1, sell = 0;
-    for (int k = 0; k < stretch_count; k++) {
-        struct stretch *t = &stretches[k];
-        while (buy >= 0 && levels[0][buy].price < t->low) {
-            demand -= shares_where(0, levels[0][buy].price, levels[0][buy].price);
-            buy--;
-        }
-        while (sell < level_count[1] && levels[1][sell].price <= t->low) {
-            supply += shares_where(1, levels[1][sell].price, levels[1][sell].price);
-            sell++;
-        }
-        t->demand = demand;
-        t->supply = supply;
-    }
-}
-
-static bool qualifies(uint64_t p, uint64_t most) {
-    uint64_t above = shares_where(0, p + 1, TOP_PRICE), at_buy = shares_where(0, p, p);
-    uint64_t below = p > 1 ? shares_where(1, 1, p - 1) : 0, at_sell = shares_where(1, p, p);
-    uint64_t volume = smaller(above + at_buy, below + at_sell);
-    if (volume < 1 || volume < most) return false;
-    if (above > volume || below > volume) return false;
-    return above + at_buy <= volume || below + at_sell <= volume;
-}
-
-static void try_all_prices(uint64_t most) {
-    bool same = true;
-    int k = 0;
-    for (uint64_t p = 1; p <= TOP_PRICE; p++) {
-        while (stretches[k].high < p) k++;
-        if (smaller(shares_where(0, p, TOP_PRICE), shares_where(1, 1, p)) > most) same = false;
-        if (qualifies(p, most) != stretches[k].qualifies) same = false;
-    }
-    engine_tries_left--;
-    if (!same) engine_tries_differed++;
-}
-
-/* Finds the qualifying stretches. The most volume comes first: only where it is reached are the other conditions looked at. */
-static void survey(void) {
-    uint64_t most = 0;
-    cut_stretches();
-    fill_stretches();
-    for (int k = 0; k < stretch_count; k++) {
-        uint64_t v = smaller(stretches[k].demand, stretches[k].supply);
-        if (v > most) most = v;
-    }
-    for (int k = 0; k < stretch_count; k++) {
-        struct stretch *t = &stretches[k];
-        t->qualifies = most && smaller(t->demand, t->supply) == most && qualifies(t->low, most);
-    }
-    if (queue_count[0] + queue_count[1] <= SMALL && engine_tries_left) try_all_prices(most);
-}
-
-static uint64_t gap(const struct stretch *t) { return apart(t->demand, t->supply); }
-
-/* The price that the tie rules leave, 0 where none qualifies, and how many they leave. */
-static uint64_t clearing_price(int *left, const struct stretch **at) {
-    uint64_t least = UINT64_MAX, nearest = UINT64_MAX, price = 0, to = day.last ? day.last : day.close;
-    *left = 0;
-    *at = NULL;
-    for (int k = 0; k < stretch_count; k++)
-        if (stretches[k].qualifies && gap(&stretches[k]) < least) least = gap(&stretches[k]);
-    for (int k = 0; k < stretch_count; k++) {
-        const struct stretch *t = &stretches[k];
-        if (!t->qualifies || gap(t) != least) continue;
-        uint64_t p = to < t->low ? t->low : to > t->high ? t->high : to;
-        if (apart(p, to) < nearest) {
-            nearest = apart(p, to);
-            *left = 0;
-            *at = t;
-            price = p;
-        }
-        if (apart(p, to) == nearest) ++*left;
-    }
-    return price;
-}
-
-/* The tie rules leave exactly one price wherever buys reach sells. */
-static void count_undecided(int left) {
-    if (best(0) && best(1) && best(0) >= best(1) && left != 1) engine_undecided++;
-}
+/* ---- auctions that are held */
 
 /* Both sides in priority, cut to the volume: the two heads trade the smaller remainder. */
 static void pair(uint64_t price, uint64_t volume) {
@@ -584,9 +663,7 @@ uint64_t engine_clock(struct lent *m, const uint64_t *asked) {
     for (uint64_t stop; (stop = next_stop(day.time)) <= time; day.time = stop) stop_at(stop);
     if (too_many_trades(m)) return answer(m, 13, NULL, 2);
     day.time = time;
-    write_day(m->day);
-    write_book(m->book);
-    write_trades(m);
+    write_all(m);
     uint64_t values[] = {(uint64_t)phase_now(), made_count};
     return answer(m, 0, values, 2);
 }

@@ -7,7 +7,7 @@
 #include <stddef.h>
 #include <stdint.h>
 
-enum { DAY_BYTES = 88, TRADE_BYTES = 48 }; /* eleven numbers, and six */
+enum { DAY_BYTES = 312, TRADE_BYTES = 48 }; /* 39 numbers, and six */
 
 /* Lent memory: what a call reads and writes. A call that has no use for a slice does not look at it. */
 struct lent {
@@ -33,8 +33,10 @@ uint64_t engine_read_file(struct lent *m, const uint64_t *asked); /* nothing; th
  * how often buys reached sells and the tie rules did not leave exactly one price. */
 extern uint64_t engine_tries_left, engine_tries_differed, engine_undecided;
 
-/* Puts the places of a book that is made by hand in order. */
+/* For days and books that are made by hand: puts the places in order; and counts the day's screen anew along the places, with high
+ * and low as they are, or as far apart as first and last trade ask for. */
 void arrange_book(uint8_t *book, size_t count);
+void mend_screen(uint8_t *day, const uint8_t *book, size_t count);
 
 /* The number at the i-th 8 bytes, least byte first. */
 uint64_t number_at(const uint8_t *b, size_t i);

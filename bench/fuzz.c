@@ -1,6 +1,7 @@
 /* The fuzz target: an input is read as a small book and a list of steps. Each step is a call, made by both engines and compared,
- * or it sets a length or a number, or it damages day or book for one call. A difference aborts. The proved library is linked as
- * doors/library builds it, so libFuzzer counts the branches of the independent engine. bench/corpus_maker spells the steps. */
+ * or it sets a length or a number, or it damages day or book for one call, or it counts the screen anew. A difference aborts. The
+ * proved library is linked as doors/library builds it, so libFuzzer counts the branches of the independent engine. bench/corpus_maker
+ * spells the steps. */
 #include "compare.h"
 #include <stdio.h>
 #include <stdlib.h>
@@ -126,24 +127,30 @@ static void shift_place(void) { change_places(move_place); }
 
 static void swap_numbers(void) { change_places(exchange_numbers); }
 
+/* After a number has been set: so that it is not the screen that is wrong. */
+static void count_anew(void) {
+    if (lent.day_length == DAY_BYTES) mend_screen(lent.day, lent.book, lent.book_length / 40);
+}
+
 typedef void step(void);
 
 static step *const call_steps[] = {enter_likely, cancel_place, move_clock, ask, call_with_any_numbers};
 static step *const damages[] = {set_lengths, set_number, set_byte, shift_place, swap_numbers};
 
-/* A call with day, book or their lengths damaged for this one call. */
+/* A call with day, book or their lengths damaged for this one call, and the screen as it was or as it is counted then. */
 static void call_damaged(void) {
     uint64_t chosen = byte();
     keep_memory();
     damages[chosen % 5]();
+    if (chosen / 25 % 2) count_anew();
     call_steps[chosen / 5 % 5]();
     restore_memory();
 }
 
 static void take_step(uint64_t chosen) {
-    static step *const steps[] = {enter_likely,          cancel_place, move_clock, ask,
-                                  call_with_any_numbers, set_room,     set_number, call_damaged};
-    steps[chosen % 8]();
+    static step *const steps[] = {enter_likely, cancel_place, move_clock,   ask,       call_with_any_numbers,
+                                  set_room,     set_number,   call_damaged, count_anew};
+    steps[chosen % 9]();
 }
 
 /* ---- an input */

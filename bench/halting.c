@@ -4,6 +4,7 @@
 #include "chance.h"
 #include "runs.h"
 #include "sights.h"
+#include "views.h"
 #include <stdio.h>
 
 /* ---- prices */
@@ -28,8 +29,10 @@ static uint64_t far_price(void) {
 
 static uint64_t call_now(int which, const uint64_t *asked) {
     before_call();
+    before_view();
     uint64_t refusal = compare(seed_now, which, asked);
     after_call(which, asked, refusal);
+    after_view(which, refusal);
     return refusal;
 }
 
@@ -143,6 +146,7 @@ static void damage_halt(void) {
     if (damages[d].wants_halt ? !day_now().halt_end : !day_now().used_30) return;
     keep_memory();
     if (damages[d].damage()) {
+        mend_day();
         damages[d].count++;
         for (int which = ORDER; which < CALLS; which++) expect(damages[d].name, compare(seed_now, which, asked), 15);
     }
@@ -157,6 +161,7 @@ static void damage_any(void) {
     set_day(HALT_END, once_in(2) ? turning_second() + 600 : numbers[chance(12)]);
     set_day(USED_30, !once_in(4)), set_day(USED_60, once_in(3));
     if (once_in(2)) set_day(TIME, turning_second());
+    mend_day();
     for (int which = ORDER; which < CALLS; which++) compare(seed_now, which, asked);
     restore_memory();
 }
@@ -192,6 +197,7 @@ void run_halting_seed(uint64_t seed) {
         default: enter_any();
         }
         if (once_in(12)) damage_any();
+        if (once_in(8)) change_one_number(seed);
     }
     printf("halting seed %llu: open %llu: %s\n", (unsigned long long)seed, (unsigned long long)open_price,
            failed == before ? "same" : "DIFFERENT");

@@ -7,6 +7,7 @@
 /* By hand, with the numbers that the rules print. */
 void run_situations(void);
 void run_halts(void);
+void run_screens(void);
 void run_session(void);
 
 /* A random day, and one that halts. */
@@ -15,6 +16,15 @@ void run_halting_seed(uint64_t seed);
 
 /* What the days that halt have shown; where all seeds have been run, each thing often enough. */
 void print_halts(int all_seeds);
+
+/* On the day and the book that are lent, which are sound: each number of the screen becomes each of several others, or one of them
+ * one other. Then each call but an opening is 15 and leaves all memory; high and low may also be further apart. */
+void change_each_number(uint64_t seed);
+void change_one_number(uint64_t seed);
+
+/* What the random days have shown on their screens, and how often each number was changed; where all seeds have been run, each
+ * often enough. */
+void print_screens(int all_seeds);
 
 /* Asks both judges with lists of claims of every kind, on the day and the book that are lent. */
 void judge_lists(uint64_t seed, uint64_t (*draw)(uint64_t n));

@@ -1,5 +1,5 @@
 /* The rehearsed situations of the rules and their whole session, with the numbers that the rules print, the edges of quantity and
- * balance, and the order of the places. */
+ * balance, the order of the places, and the bounds of a sound day's totals. */
 #include "asking.h"
 #include "runs.h"
 
@@ -239,6 +239,46 @@ static void run_disorder(void) {
     expect_all("numbers exchanged between two prices", 0);
 }
 
+/* ---- totals */
+
+/* Of a day on which three numbers are issued and 100 shares rest: twice the shares traded and these are at most 3,000,000. */
+static const struct {
+    const char *name;
+    uint64_t shares, turnover, first, last;
+    int is_sound;
+} totals[] = {
+    {"totals: as few as can be", 1, 1, 1, 1, 1},
+    {"totals: as many shares as can be", 1499950, 1499950, 1000, 1000, 1},
+    {"totals: one share more", 1499951, 1499951, 1000, 1000, 0},
+    {"totals: as many as without the resting ones", 1500000, 1500000, 1000, 1000, 0},
+    {"totals: too many by themselves", 1500001, 1500001, 1000, 1000, 0},
+    {"totals: shares of which twice is 0", 1ull << 63, 1ull << 63, 1000, 1000, 0},
+    {"totals: shares of which twice is 2", (1ull << 63) + 1, UINT64_MAX, 1000, 1000, 0},
+    {"totals: as much money as can be", 1499950, 1499950 * 999999ull, 1000, 1000, 1},
+    {"totals: one fen more", 1499950, 1499950 * 999999ull + 1, 1000, 1000, 0},
+    {"totals: one fen too few", 1499950, 1499949, 1000, 1000, 0},
+    {"totals: the highest prices", 1, 1, 999999, 999999, 1},
+    {"totals: first above all prices", 1, 1, 1000000, 1000, 0},
+    {"totals: last above all prices", 1, 1, 1000, 1000000, 0},
+    {"totals: no first", 1, 1, 0, 1000, 0},
+    {"totals: no last", 1, 1, 1000, 0, 0},
+    {"totals: nothing traded", 0, 0, 0, 0, 1},
+    {"totals: money without shares", 0, 1, 0, 0, 0},
+    {"totals: first without shares", 0, 0, 1000, 0, 0},
+    {"totals: last without shares", 0, 0, 0, 1000, 0},
+};
+
+static void run_totals(void) {
+    for (size_t i = 0; i < sizeof totals / sizeof totals[0]; i++) {
+        open_at(1000, 34200);
+        sell(100, 1000), buy(100, 1000), buy(100, 990);
+        set_day(SHARES, totals[i].shares), set_day(TURNOVER, totals[i].turnover);
+        set_day(FIRST, totals[i].first), set_day(LAST, totals[i].last);
+        mend_day();
+        expect_sound(totals[i].name, totals[i].is_sound);
+    }
+}
+
 void run_situations(void) {
     run_auctions();
     run_ranges();
@@ -249,6 +289,7 @@ void run_situations(void) {
     run_five_prices();
     run_places();
     run_disorder();
+    run_totals();
 }
 
 void run_session(void) {

@@ -36,7 +36,7 @@ static void put_order(size_t p, int shape, int random, uint64_t number) {
     buys += !side;
 }
 
-/* A limited day with close 1,000. The orders arrive in any order, and are arranged. */
+/* A limited day with close 1,000. The orders arrive in any order, and are arranged; the screen shows them. */
 static void prepare(int shape, int random) {
     static uint64_t numbers[MOST];
     const uint64_t apart = random && chance(2) ? 999000 / live : 1;
@@ -51,6 +51,7 @@ static void prepare(int shape, int random) {
     for (size_t i = 0; i < 4; i++) put_number(before.day, i, day[i]);
     for (size_t p = 0; p < live; p++) put_order(p, shape, random, numbers[p]);
     arrange_book(before.book, places);
+    mend_screen(before.day, before.book, places);
 }
 
 /* ---- the events */
@@ -78,6 +79,12 @@ static void ask_order(uint64_t *a, uint64_t side, uint64_t quantity, uint64_t pr
 static void ask_rest(uint64_t *a) {
     uint64_t side = chance(2), step = chance(PRICES);
     ask_order(a, side, 100, side ? 1001 + step : 999 - step);
+}
+
+/* An order that waits among the others until the auction, whose figures the screen shows anew. */
+static void ask_call(uint64_t *a) {
+    uint64_t side = chance(2);
+    ask_order(a, side, 100, 976 + chance(PRICES));
 }
 
 /* An order against the other side's orders from the best on, as many as there are. */
@@ -112,7 +119,9 @@ static const struct event {
     {"clock, nothing passed", CLOCK, APART, ask_second},
     {"clock, opening auction", CLOCK, CROSSED, ask_auction},
     {"cancel", CANCEL, APART, ask_cancel},
+    {"cancel in the opening call", CANCEL, CROSSED, ask_cancel},
     {"order that rests", ORDER, APART, ask_rest},
+    {"order in the opening call", ORDER, CROSSED, ask_call},
     {"order that trades once", ORDER, APART, ask_one},
     {"order that takes 64, or a whole side", ORDER, APART, ask_64},
     {"order of any kind and size", ORDER, APART, ask_any},

@@ -19,8 +19,36 @@ extern "C" {
 /* A book has 1 to so many places. */
 #define FLEMORIX_MOST_PLACES 4096
 
-/* A day has so many bytes, no more and no less: sizeof (struct flemorix_day). */
-#define FLEMORIX_DAY_BYTES 88
+/* A screen shows so many prices a side, and no more. */
+#define FLEMORIX_SCREEN_LEVELS 5
+
+/* A day has so many bytes, no more and no less: sizeof (struct flemorix_day). Its screen has so many of them: sizeof
+ * (struct flemorix_screen). */
+#define FLEMORIX_DAY_BYTES 312
+#define FLEMORIX_SCREEN_BYTES 224
+
+/* A price of one side, and all its shares there. Both are 0 where a side has fewer prices than the screen has room for. */
+struct flemorix_level {
+    uint64_t price;
+    uint64_t shares;
+};
+
+/* The public screen: what a fresh count over the book and the day's trades gives after each accepted opening, order, cancel and
+ * move of the clock; a refused one leaves it. Read it and don't write it: a screen that differs from book and day in one number is
+ * 15. Price, volume and surplus are those of flemorix_report in the opening and in the closing call, phases 1, 2 and 6, and 0 in
+ * every other phase, also in a halt. */
+struct flemorix_screen {
+    uint64_t last;     /* price of the last trade, 0 while there is none */
+    uint64_t high;     /* highest price of a trade, 0 while there is none */
+    uint64_t low;      /* lowest price of a trade, 0 while there is none */
+    uint64_t shares;   /* shares traded */
+    uint64_t turnover; /* fen traded */
+    struct flemorix_level buys[FLEMORIX_SCREEN_LEVELS];  /* best, that is highest, price first */
+    struct flemorix_level sells[FLEMORIX_SCREEN_LEVELS]; /* best, that is lowest, price first */
+    uint64_t price;    /* of an auction held now, 0 where none qualifies */
+    uint64_t volume;   /* shares that it would trade */
+    int64_t surplus;   /* demand minus supply at the price */
+};
 
 /* A day. All zeros is no day: flemorix_open makes one. The last three numbers tell of halts, which only a day without a price band
  * has: trading stops for ten minutes at a trade 30% away from the day's first price, and at one 60% away, each once a day. */
@@ -33,10 +61,20 @@ struct flemorix_day {
     uint64_t turnover; /* fen traded */
     uint64_t first;    /* price of the first trade, 0 while there is none */
     uint64_t last;     /* price of the last trade, 0 while there is none */
+    struct flemorix_screen screen;
     uint64_t halt_end; /* the second at which the halt that runs ends with an auction, 0 while none runs */
     uint64_t used_30;  /* 1 once a trade 30% or more away from the first has had its halt, else 0 */
     uint64_t used_60;  /* 1 once a trade 60% or more away has; then used_30 is 1 too */
 };
+
+/* The calls read and write these bytes: a compiler that lays the structs out otherwise says so here. */
+#if defined(__cplusplus) && __cplusplus >= 201103L
+static_assert(sizeof(struct flemorix_screen) == FLEMORIX_SCREEN_BYTES, "a screen is laid out otherwise");
+static_assert(sizeof(struct flemorix_day) == FLEMORIX_DAY_BYTES, "a day is laid out otherwise");
+#elif !defined(__cplusplus) && defined(__STDC_VERSION__) && __STDC_VERSION__ >= 201112L
+_Static_assert(sizeof(struct flemorix_screen) == FLEMORIX_SCREEN_BYTES, "a screen is laid out otherwise");
+_Static_assert(sizeof(struct flemorix_day) == FLEMORIX_DAY_BYTES, "a day is laid out otherwise");
+#endif
 
 /* A place of the book. A free place is all zeros. The places stand in order: buys from best to worst, then sells from best to
  * worst, free places last; at one price the lower number first. An order's place changes from call to call: its number names it. */
@@ -95,8 +133,8 @@ enum flemorix_refusal {
     FLEMORIX_NUMBERS = 11,   /* 999,999 numbers issued */
     FLEMORIX_UNKNOWN = 12,   /* no live order has this number and account */
     FLEMORIX_ROOM = 13,      /* the event's trades outnumber the lent trade list */
-    FLEMORIX_OPENING = 14,   /* opening: close not 1 to 999,999, mark not 0 or 1, places not 1 to 4,096, or day not 88 bytes */
-    FLEMORIX_UNSOUND = 15,   /* day not sound or not 88 bytes, book out of order, or places not 1 to 4,096 */
+    FLEMORIX_OPENING = 14,   /* opening: close not 1 to 999,999, mark not 0 or 1, places not 1 to 4,096, or day not 312 bytes */
+    FLEMORIX_UNSOUND = 15,   /* day not sound or not 312 bytes, another screen, book out of order, or places not 1 to 4,096 */
     FLEMORIX_CHECK = 24,     /* day file: a block's check is wrong */
     FLEMORIX_BLOCK = 25,     /* day file: a block's number is not its place */
     FLEMORIX_LAYOUT = 26,    /* day file: any other break of the layout, a tail short of 512 bytes too */
@@ -181,8 +219,9 @@ uint64_t flemorix_order(uint8_t *day, size_t day_length, uint8_t *book, size_t b
                         size_t trades_length, uint8_t *reply, size_t reply_length, uint64_t side, uint64_t kind,
                         uint64_t account, uint64_t quantity, uint64_t price, uint64_t balance);
 
-/* Takes out the live order with this number and account. Reply: the shares withdrawn. 15, 4, 12. */
-uint64_t flemorix_cancel(const uint8_t *day, size_t day_length, uint8_t *book, size_t book_length, uint8_t *reply,
+/* Takes out the live order with this number and account. Of the day the screen changes, and nothing else. Reply: the shares
+ * withdrawn. 15, 4, 12. */
+uint64_t flemorix_cancel(uint8_t *day, size_t day_length, uint8_t *book, size_t book_length, uint8_t *reply,
                          size_t reply_length, uint64_t account, uint64_t number);
 
 /* Moves the clock, and holds the auctions that it passes, in time order: the opening one, the one that ends a halt, and the closing

@@ -42,6 +42,10 @@ THRESHOLDS = {30, 60}  # per cent away from the open
 NOON = range(41_400, 46_800)
 CLOSING_CALL = 53_820
 
+# The screen: prices a side, and the phases in which it shows the auction's figures.
+SCREEN_PRICES = 5
+AUCTION_PHASES = (1, 2, 6)
+
 
 class Refused(Exception):
     """The number of the refusal is its only argument."""
@@ -181,6 +185,7 @@ class Day:
         self.open = None
         self.last = None
         self.live = []
+        self.traded = []  # price and shares of each trade of the day
         self.halted_until = None
         self.used = set()  # the thresholds that have fired today
 
@@ -212,7 +217,7 @@ class Day:
     def kept(self):
         """All of the day as it is now, since a refused move changes nothing."""
         live = [Order(o.number, o.side, o.account, o.left, o.price) for o in self.live]
-        return dict(self.__dict__, live=live, used=set(self.used))
+        return dict(self.__dict__, live=live, traded=list(self.traded), used=set(self.used))
 
     def begin_second(self):
         """Holds the auction with which this second begins; its trades."""
@@ -233,11 +238,12 @@ class Day:
             buyer.left -= shares
             seller.left -= shares
             trades.append((price, shares, buyer.number, seller.number, buyer.left, seller.left))
-            self.note_trade(price)
+            self.note_trade(price, shares)
         self.live = [o for o in self.live if o.left > 0]
         return trades
 
-    def note_trade(self, price):
+    def note_trade(self, price, shares):
+        self.traded.append((price, shares))
         self.last = price
         if self.open is None:
             self.open = price
@@ -339,7 +345,7 @@ class Day:
         partner.left -= shares
         if partner.left == 0:
             self.live.remove(partner)
-        self.note_trade(partner.price)
+        self.note_trade(partner.price, shares)
         newest, resting = (self.issued, left), (partner.number, partner.left)
         (buyer, buyer_left), (seller, seller_left) = (newest, resting) if side == BUY else (resting, newest)
         return partner.price, shares, buyer, seller, buyer_left, seller_left
@@ -352,6 +358,31 @@ class Day:
                 self.live.remove(o)
                 return [], "W %d %d" % (number, o.left)
         raise Refused(12)
+
+    # The screen
+
+    def screen(self):
+        """The public screen, counted from the trades of the day and the orders that stand: 28 numbers, zeros where there is none."""
+        prices = [price for price, _ in self.traded]
+        figures = [prices[-1], max(prices), min(prices)] if prices else [0, 0, 0]
+        totals = [sum(shares for _, shares in self.traded), sum(price * shares for price, shares in self.traded)]
+        return figures + totals + self.five_best(BUY) + self.five_best(SELL) + self.auction_figures()
+
+    def five_best(self, side):
+        """Price and shares of the five best prices of a side, best first."""
+        five = sorted({o.price for o in self.live if o.side == side}, reverse=side == BUY)[:SCREEN_PRICES]
+        levels = [(p, sum(o.left for o in self.live if o.side == side and o.price == p)) for p in five]
+        return [number for level in levels + [(0, 0)] * (SCREEN_PRICES - len(five)) for number in level]
+
+    def auction_figures(self):
+        """Price, volume and signed surplus of an auction held now, in the opening and the closing call alone."""
+        if self.phase() not in AUCTION_PHASES:
+            return [0, 0, 0]
+        auction = Auction(self.live)
+        price = auction.price(self.close if self.last is None else self.last, self.every_price)
+        if price is None:
+            return [0, 0, 0]
+        return [price, auction.volume(price), auction.demand(price) - auction.supply(price)]
 
 
 NUMBER = rb" (0|[1-9][0-9]*)"
