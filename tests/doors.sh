@@ -1,7 +1,7 @@
 #!/bin/bash
-# The doors as people use them: ./run, ./convert, ./pack, ./unpack, ./rescue, ./explain, ./install, and the examples of docs/C.md,
-# compiled as C and as C++, and of docs/JUDGE.md, against what ./install put, linked with the static and the shared library, and run. Ends
-# with a line 'N passed, M failed'.
+# The doors as people use them: ./run, ./floor, ./convert, ./pack, ./unpack, ./rescue, ./explain, ./install, and the examples of
+# docs/C.md, compiled as C and as C++, and of docs/JUDGE.md, against what ./install put, linked with the static and the shared library,
+# and run. Ends with a line 'N passed, M failed'.
 set -u
 cd "$(dirname "$0")/.." || exit 2
 work=$(mktemp -d) || exit 2
@@ -29,7 +29,7 @@ same() { # NAME EXPECTED ACTUAL
     check "$1 differs" $?
 }
 
-# ./run and ./convert
+# ./run
 ends "run SCRIPT" 0 ./run examples/quiet-day.txt
 same "run SCRIPT" examples/quiet-day.out "$work/out"
 ends "run < SCRIPT" 0 ./run < examples/late-cancel.txt
@@ -46,6 +46,28 @@ ends "run on a folder" 1 ./run examples
 says "run on a folder" "standard input cannot be read" "$work/err"
 ends "run, output full" 1 bash -c './run examples/quiet-day.txt > /dev/full'
 says "run, output full" "standard output cannot be written" "$work/err"
+
+# ./floor, whose replies to the lines of ./run are those of ./run
+ends "floor SCRIPT" 0 ./floor examples/quiet-day.txt
+same "floor SCRIPT" examples/quiet-day.out "$work/out"
+ends "floor < SCRIPT" 0 ./floor < examples/two-halts.txt
+same "floor < SCRIPT" examples/two-halts.out "$work/out"
+ends "floor from another folder" 0 bash -c "cd '$work' && printf 'R\nD 1000 1\nR\nL 1 5\nJ 0\n' | '$PWD/floor'"
+printf 'X 17\nD\nR 0 0 0\nN 0 0\nJ 1\n' > "$work/expected"
+same "floor from another folder" "$work/expected" "$work/out"
+ends "floor --help" 0 ./floor --help
+for line in "L price count" "Q shares buyer seller" "J price"; do
+    says "floor --help" "$line" "$work/out"
+done
+ends "floor, no such file" 2 ./floor no-such-day.txt
+ends "floor, no such option" 2 ./floor --fast
+ends "floor, two scripts" 2 ./floor examples/quiet-day.txt examples/late-cancel.txt
+ends "floor on a folder" 1 ./floor examples
+says "floor on a folder" "standard input cannot be read" "$work/err"
+ends "floor, output full" 1 bash -c './floor examples/quiet-day.txt > /dev/full'
+says "floor, output full" "standard output cannot be written" "$work/err"
+
+# ./convert
 printf 'O 0 0 7 100 1000\n' > "$work/old"
 printf 'O 0 0 7 100 1000 0\n' > "$work/new"
 ends "convert SCRIPT" 0 ./convert "$work/old"
