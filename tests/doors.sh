@@ -99,21 +99,42 @@ if script --version > /dev/null 2>&1; then # a terminal of its own
     says "run on a terminal" "waiting for lines" "$work/out"
 fi
 
-# ./explain: every refusal that a line can meet. 10 and 11 need a full book and a million orders; their replies are stored.
+# ./explain: every refusal that a line can meet. 10, 11 and 13 need a full book, a million orders and 4,096 claims; their replies are
+# stored. A session whose name begins with floor is one of ./floor.
 for session in tests/explain/*.txt; do
-    if [ -e "${session%.txt}.replies" ]; then
-        ends "explain $session" 0 ./explain --replies "${session%.txt}.replies" "$session"
-    else
-        ends "explain $session" 0 ./explain "$session"
-    fi
+    options=()
+    case "$session" in */floor*) options+=(--floor) ;; esac
+    if [ -e "${session%.txt}.replies" ]; then options+=(--replies "${session%.txt}.replies"); fi
+    ends "explain $session" 0 ./explain "${options[@]}" "$session"
     same "explain $session" "${session%.txt}.out" "$work/out"
 done
-for refusal in {1..12} 14 16 17; do
+for refusal in {1..14} 16 17; do
     cat tests/explain/*.out > "$work/all"
     says "explain, refusal $refusal" "→ X $refusal: " "$work/all"
 done
 ends "explain --help" 0 ./explain --help
 ends "explain, no such file" 2 ./explain no-such-day.txt
+ends "explain, no such option" 2 ./explain --fast examples/quiet-day.txt
+ends "explain, two scripts" 2 ./explain examples/quiet-day.txt examples/late-cancel.txt
+
+# ./explain --picture: stored pictures, and what is drawn compared with the program's own answers
+pictured() { # PICTURE SCRIPT LINES OPTION..: of the book after so many lines
+    local picture=$1 script=$2 lines=$3
+    shift 3
+    ends "a picture of $script" 0 ./explain --picture "$work/auction.svg" "$@" "$script"
+    if [ -n "$picture" ]; then same "the picture of $script" "$picture" "$work/auction.svg"; fi
+    ends "what the picture of $script shows" 0 tests/picture.py "$work/auction.svg" "$script" "$lines"
+}
+pictured docs/auction.svg examples/opening-auction-floor.txt 23
+pictured docs/worked-book.svg examples/opening-auction.txt 7
+pictured '' examples/quiet-day.txt 15
+pictured '' examples/two-halts.txt 6
+pictured '' examples/two-halts.txt 16 --after 16
+pictured '' examples/claim-right.txt 14
+ends "a picture of nothing" 1 ./explain --picture "$work/auction.svg" --after 2 examples/quiet-day.txt
+says "a picture of nothing" "nothing to draw" "$work/err"
+ends "a picture that cannot be written" 2 ./explain --picture "$work/no/auction.svg" examples/quiet-day.txt
+ends "a line without a picture" 2 ./explain --after 2 examples/quiet-day.txt
 
 # ./install, and the example of docs/C.md
 ends "install without a folder" 2 ./install
