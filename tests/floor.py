@@ -78,6 +78,17 @@ def all_shown(counts, shown):
         counts.same("%s, at least %d times" % (name, least), b"True", b"%r" % (shown[name] >= least))
 
 
+def in_a_row(sessions):
+    """Sessions as one: each opens its own days."""
+    return b"".join(session if session.endswith(b"\n") else session + b"\n" for session in sessions)
+
+
+def sessions_of_run():
+    for folder in ("tests/sessions", "examples"):
+        for path in sorted((ROOT / folder).glob("*.txt")):
+            yield path.read_bytes()
+
+
 def bounds(counts):
     sessions = {
         "the longest list": floor_made.longest_list(),
@@ -110,15 +121,16 @@ def damaged(counts, seed):
 
 def as_run(counts, seed):
     """Scripts without questions: the bytes of ./run, and those of ./floor."""
-    sessions = {path.name: path.read_bytes() for folder in ("tests/sessions", "examples") for path in sorted((ROOT / folder).glob("*.txt"))}
-    sessions["a full book"] = made.full_book()
-    sessions["the longest auction"] = made.longest_auction(closing=True)
-    sessions["every byte at every position"] = made.every_byte()
-    for each in range(seed, seed + 5):
-        sessions["random session %d" % each] = made.RandomDays(each).session()
-        sessions["halting days %d" % each] = halting.HaltingDays(each).session()
+    sessions = {
+        "stored sessions": in_a_row(sessions_of_run()),
+        "a full book": made.full_book(),
+        "the longest auction": made.longest_auction(closing=True),
+        "every byte at every position": made.every_byte(),
+        "random sessions": in_a_row(made.RandomDays(each).session() for each in range(seed, seed + 10)),
+        "halting days": in_a_row(halting.HaltingDays(each).session() for each in range(seed, seed + 10)),
+    }
     for what, session in sessions.items():
-        plain = b"".join(line for line in session.splitlines(keepends=True) if line[:1] not in floor_desk.QUESTIONS)
+        plain = b"".join(line + b"\n" for line in session.split(b"\n")[:-1] if line[:1] not in floor_desk.QUESTIONS)
         counts.answers("%s, as ./run" % what, plain, run(plain, None, PROGRAM)[0])
 
 

@@ -134,10 +134,12 @@ class Asking:
         return self.noting.pop(0) if self.noting else self.claim()
 
     def list(self):
-        """From anywhere, or near a price that an order has."""
-        pick = self.source
+        """From anywhere, near a price that an order has, or within the prices that qualify."""
+        pick, qualify = self.source, floor_desk.qualifying(self.desk.day)
         prices = [o.price for o in self.desk.day.live] or [self.close]
         asked = pick.choice([0, 1, 1, pick.choice(prices), pick.choice(prices) + 1, max(prices) + 1, desk.LARGEST_PRICE, WORD])
+        if qualify and pick.random() < 0.3:
+            asked = pick.randint(qualify[0][0], qualify[-1][-1])
         return "L %d %d" % (asked, pick.choice([0, 1, 2, 5, 5, 50, pick.randint(0, 30), WORD]))
 
     def claim(self):
