@@ -4,23 +4,12 @@ For ./explain. Every number is handed in; the shares of the orders are added up 
 """
 import html
 
+from amounts import counted, signed, yuan
+
 WIDTH, HEIGHT = 860, 540
 LEFT, RIGHT, TOP, BOTTOM = 112, 836, 140, 476  # the edges of the drawing within the picture
 INK, PALE, GRID = "#1f2933", "#52606d", "#e4e7eb"
 DEMAND, SUPPLY, SPAN, PRICE = "#5aa9e6", "#c2410c", "#fde68a", "#15803d"
-
-
-def yuan(fen):
-    return "{:,}.{:02d}".format(fen // 100, fen % 100)
-
-
-def signed(number):
-    """With its sign, a proper minus."""
-    return "0" if number == 0 else "{}{:,}".format("+" if number > 0 else "−", abs(number))
-
-
-def counted(count, one, many):
-    return "1 " + one if count == 1 else "{:,} {}".format(count, many)
 
 
 def ticks(low, high, most):
