@@ -49,6 +49,14 @@ def stored(counts):
             counts.answers("%s, %s" % (path.name, how), session, expected, lengths)
 
 
+def page(counts):
+    """The example to copy of docs/FLOOR.md: each row's line, and its replies."""
+    section = (ROOT / "docs" / "FLOOR.md").read_text().split("## An example to copy")[1].split("\n## ")[0]
+    rows = re.findall(r"^\| `(.*?)` \| (.*?) \|", section, re.M)
+    replies = made.text(reply for _, cell in rows for reply in re.findall(r"`(.*?)`", cell))
+    counts.answers("the example of docs/FLOOR.md", made.text(line for line, _ in rows), replies)
+
+
 def random_days(counts, seed, count):
     """Returns what they have shown. Every fifth in pieces too, and with the floor of the tests at every price."""
     print("floor: random sessions with seeds %d to %d" % (seed, seed + count - 1))
@@ -149,6 +157,7 @@ def main():
         random_days(counts, int(sys.argv[1]), int(sys.argv[2]))
     else:
         stored(counts)
+        page(counts)
         all_shown(counts, random_days(counts, SEED, COUNT))
         bounds(counts)
         damaged(counts, SEED)
