@@ -24,15 +24,18 @@ def ask(door, script):
 
 
 def answered(lines, replies):
-    """Each line with its replies: trades or listed prices, and then the one reply that is neither."""
+    """Each line with its replies: trades or listed prices, and then the one reply that is neither; behind a screen its prices."""
     rest = replies.decode("ascii").splitlines()
     at = 0
     for line in lines:
         end = at
         while end < len(rest) and rest[end][0] in "ML":
             end += 1
-        yield line, rest[at : end + 1]
-        at = end + 1
+        end += 1
+        while end < len(rest) and rest[end][0] in "+-":
+            end += 1
+        yield line, rest[at:end]
+        at = end
 
 
 def talk(lines):

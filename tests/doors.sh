@@ -52,11 +52,11 @@ ends "floor SCRIPT" 0 ./floor examples/quiet-day.txt
 same "floor SCRIPT" examples/quiet-day.out "$work/out"
 ends "floor < SCRIPT" 0 ./floor < examples/two-halts.txt
 same "floor < SCRIPT" examples/two-halts.out "$work/out"
-ends "floor from another folder" 0 bash -c "cd '$work' && printf 'R\nD 1000 1\nR\nL 1 5\nJ 0\n' | '$PWD/floor'"
-printf 'X 17\nD\nR 0 0 0\nN 0 0\nJ 1\n' > "$work/expected"
+ends "floor from another folder" 0 bash -c "cd '$work' && printf 'R\nD 1000 1\nR\nL 1 5\nJ 0\nS\n' | '$PWD/floor'"
+printf 'X 17\nD\nR 0 0 0\nN 0 0\nJ 1\nS 0 0 0 0 0 0 0 0\n' > "$work/expected"
 same "floor from another folder" "$work/expected" "$work/out"
 ends "floor --help" 0 ./floor --help
-for line in "L price count" "Q shares buyer seller" "J price"; do
+for line in "L price count" "Q shares buyer seller" "J price" "the screen"; do
     says "floor --help" "$line" "$work/out"
 done
 ends "floor, no such file" 2 ./floor no-such-day.txt
@@ -125,7 +125,7 @@ pictured() { # PICTURE SCRIPT LINES OPTION..: of the book after so many lines
     if [ -n "$picture" ]; then same "the picture of $script" "$picture" "$work/auction.svg"; fi
     ends "what the picture of $script shows" 0 tests/picture.py "$work/auction.svg" "$script" "$lines"
 }
-pictured docs/auction.svg examples/opening-auction-floor.txt 23
+pictured docs/auction.svg examples/opening-auction-floor.txt 25
 pictured docs/worked-book.svg examples/opening-auction.txt 7
 pictured '' examples/quiet-day.txt 15
 pictured '' examples/two-halts.txt 6

@@ -6,8 +6,8 @@
     tests/floor.py --write      writes the .out of each example by the floor of the tests, to be read by eye before it is kept
 
 The examples that ask questions, whole and cut in several ways; random sessions in every phase, with halts, refusals, lines that are not
-of the form, and claims that are right, nearly right and random, with a count of what they have shown; the program's bounds; damaged
-sessions; and scripts of the lines of ./run, to which both programs give the same bytes.
+of the form, and claims that are right, nearly right and random, with a count of what they have shown; sessions with the screen after
+every line; the program's bounds; damaged sessions; and scripts of the lines of ./run, to which both programs give the same bytes.
 """
 import collections
 import itertools
@@ -29,7 +29,7 @@ COUNT = 40
 FLOOR = ROOT / "target" / "bin" / "floor"
 LETTERS = b"".join(floor_desk.QUESTIONS)
 ASKS = re.compile(rb"^[%s]" % LETTERS, re.M)
-FORMS = [b"R", b"L 995 5", b"Q 200 1 2", b"J 990"]
+FORMS = [b"R", b"L 995 5", b"Q 200 1 2", b"J 990", b"S"]
 
 
 def examples():
@@ -97,10 +97,20 @@ def sessions_of_run():
             yield path.read_bytes()
 
 
+def screens(counts, seed):
+    """The screen after every line of the stored sessions and of random days."""
+    random_ones = [made.RandomDays(each, days=1).session() for each in range(seed, seed + 3)]
+    halting_ones = [halting.HaltingDays(each).session() for each in range(seed, seed + 3)]
+    for what, sessions in (("stored sessions", sessions_of_run()), ("random sessions", random_ones), ("halting days", halting_ones)):
+        session = floor_made.screened(in_a_row(sessions))
+        counts.answers("%s, the screen after every line" % what, session, floor_desk.replies(session))
+
+
 def bounds(counts):
     sessions = {
         "the longest list": floor_made.longest_list(),
         "as many claims as are noted": floor_made.all_claims(),
+        "the largest screen": floor_made.largest_screen(),
         "every byte at every position": floor_made.every_byte(FORMS),
         "long questions": floor_made.long_questions(),
         "no input": b"",
@@ -159,6 +169,7 @@ def main():
         stored(counts)
         page(counts)
         all_shown(counts, random_days(counts, SEED, COUNT))
+        screens(counts, SEED)
         bounds(counts)
         damaged(counts, SEED)
         as_run(counts, SEED)

@@ -5,7 +5,8 @@
     tests/floor_desk.py --every-price ..   the same, but auctions and lists try every price, as tests/desk.py says
 
 The lines of ./run are answered by the desk of the tests. The questions are answered here, from document 01 (report and price list), the
-request for a judge and docs/FLOOR.md, without the program's code or its definitions.
+requests for a judge and for a screen, and docs/FLOOR.md, without the program's code or its definitions. The screen is counted afresh each
+time, from the book, the day's trades and the phase.
 """
 import sys
 
@@ -14,6 +15,8 @@ from desk import BUY, SELL, Refused, rank
 
 LENT_PRICES = 4096  # the longest list of an L
 LENT_CLAIMS = 4096  # the most claims that are noted
+SHOWN_LEVELS = 5  # prices a side on the screen
+CALLS = (1, 2, 6)  # the phases in which the screen shows the auction
 
 
 def report(day):
@@ -82,12 +85,25 @@ def verdict(day, price, claims):
     return fills == grants(day, price)
 
 
+def levels(day, side):
+    """The five best prices of a side, best first, each with all shares that rest there."""
+    prices = sorted({o.price for o in day.live if o.side == side}, reverse=side == BUY)[:SHOWN_LEVELS]
+    return [(price, sum(o.left for o in day.live if o.side == side and o.price == price)) for price in prices]
+
+
+def figures(trades):
+    """Last, high and low price, shares and turnover of the day's trades."""
+    prices = [price for price, *_ in trades] or [0]
+    return prices[-1], max(prices), min(prices), sum(t[1] for t in trades), sum(t[0] * t[1] for t in trades)
+
+
 class Floor(desk.Desk):
     """Answers line after line; claims are noted until they are judged, or another day is open."""
 
     def __init__(self, every_price=False):
         super().__init__(every_price)
         self.claims = []
+        self.trades = []  # all of the day
 
     def report(self):
         return ["R %d %d %d" % report(self.day)]
@@ -106,12 +122,18 @@ class Floor(desk.Desk):
         yes, self.claims = verdict(self.day, price, self.claims), []
         return ["J %d" % yes]
 
+    def screen(self):
+        auction = report(self.day) if self.day.phase() in CALLS else (0, 0, 0)
+        shown = ["S %d %d %d %d %d %d %d %d" % (*figures(self.trades), *auction)]
+        return shown + [sign + " %d %d" % level for sign, side in (("+", BUY), ("-", SELL)) for level in levels(self.day, side)]
+
     def obey(self, line):
-        """As a desk; an accepted opening starts over with no claim."""
-        obeyed = super().obey(line)
+        """As a desk; an accepted opening starts over with no claim and no trade."""
+        trades, answer = super().obey(line)
         if line[:1] == b"D":
-            self.claims = []
-        return obeyed
+            self.claims, self.trades = [], []
+        self.trades += trades
+        return trades, answer
 
     def answer(self, line):
         question = QUESTIONS.get(line[:1])
@@ -127,8 +149,8 @@ class Floor(desk.Desk):
         return [reply + "\n" for reply in said]
 
 
-QUESTIONS = {b"R": Floor.report, b"L": Floor.list, b"Q": Floor.claim, b"J": Floor.judge}
-FORMS = {letter: desk.form(letter, count) for letter, count in ((b"R", 0), (b"L", 2), (b"Q", 3), (b"J", 1))}
+QUESTIONS = {b"R": Floor.report, b"L": Floor.list, b"Q": Floor.claim, b"J": Floor.judge, b"S": Floor.screen}
+FORMS = {letter: desk.form(letter, count) for letter, count in ((b"R", 0), (b"L", 2), (b"Q", 3), (b"J", 1), (b"S", 0))}
 
 
 def replies(session, every_price=False):

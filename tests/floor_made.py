@@ -8,10 +8,11 @@ import floor_desk
 import halting
 import made
 from desk import BUY, SELL
+from floor_desk import CALLS
 
 WORD = desk.LARGEST_WORD
 
-MALFORMED = ["R ", " R", "R 1", "RR", "r", "L", "L 1", "L 1 2 3", "L 01 2", "L 1  2", "L 1 4294967296", "Q", "Q 1 2", "Q 1 2 3 4", "Q 1 2 x",
+MALFORMED = ["S ", "S 1", "SS", "s", "R ", " R", "R 1", "RR", "r", "L", "L 1", "L 1 2 3", "L 01 2", "L 1  2", "L 1 4294967296", "Q", "Q 1 2", "Q 1 2 3 4", "Q 1 2 x",
              "Q 1 2 3 ", "Q +1 2 3", "J", "J ", "J 1 1", "J -1", "J 4294967296", "j 990", "J 990\r", "N 1 1", "M 1 1", "+ 1 1", "- 1 1"]
 
 # What has to be seen, and how often at least in the sessions of tests/floor.py.
@@ -44,8 +45,22 @@ LEAST = {
     "a verdict on a book that has changed since the first claim": 3,
     "a refused opening between claims": 3,
     "an opening that forgets claims": 3,
-    **{"%s, not of the form" % letter: 3 for letter in "RLQJ"},
-    **{"%s, no day open" % letter: 1 for letter in "RLQJ"},
+    **{"%s, not of the form" % letter: 3 for letter in "RLQJS"},
+    **{"%s, no day open" % letter: 1 for letter in "RLQJS"},
+    **{"a screen in phase %d" % phase: 3 for phase in range(8)},
+    **{"a screen with an auction's price in phase %d" % phase: 3 for phase in CALLS},
+    "a screen of a call without a price": 10,
+    "a dark screen in a halt, while a price stands": 10,
+    "a dark screen at noon of a halt, while a price stands": 1,
+    "a screen with a surplus above 0": 10,
+    "a screen with a surplus below 0": 10,
+    "a screen with five prices of a side and more in the book": 10,
+    "a screen with a price of several orders": 10,
+    "a screen with no order of a side": 10,
+    "a screen whose last trade is neither the highest nor the lowest": 10,
+    "a screen of a day after its close, with its trades": 3,
+    "a screen of a new day, after one with trades": 3,
+    "a screen after a refused line": 10,
 }
 
 
@@ -125,8 +140,10 @@ class Asking:
 
     def question(self):
         draw = self.source.random()
-        if draw < 0.3:
+        if draw < 0.2:
             return "R"
+        if draw < 0.4:
+            return "S"
         if draw < 0.6:
             return self.list()
         if draw < 0.7:
@@ -161,7 +178,7 @@ class Asking:
 
     def session(self):
         """Questions before the first day too."""
-        return made.text(["R", "L 1 1", "Q 1 1 1", "J 0", "Q 1 1", "J 0 0"]) + super().session()
+        return made.text(["R", "L 1 1", "Q 1 1 1", "J 0", "S", "Q 1 1", "J 0 0"]) + super().session()
 
 
 class AskingDays(Asking, made.RandomDays):
@@ -245,6 +262,24 @@ def of_verdict(day, price, claims, said):
     yield "a no to shares that pass 32 bits", plain and total == volume + 2**32
 
 
+def of_screen(day, trades, said):
+    last, high, low, _, _, price, _, surplus = [int(number) for number in said[0].split()[1:]]
+    phase, stands = day.phase(), floor_desk.report(day)[0] != 0
+    sides = [[o.price for o in day.live if o.side == side] for side in (BUY, SELL)]
+    yield "a screen in phase %d" % phase, True
+    yield "a screen with an auction's price in phase %d" % phase, price
+    yield "a screen of a call without a price", phase in CALLS and not price
+    yield "a dark screen in a halt, while a price stands", phase == 7 and stands
+    yield "a dark screen at noon of a halt, while a price stands", phase == 5 and stands
+    yield "a screen with a surplus above 0", surplus > 0
+    yield "a screen with a surplus below 0", surplus < 0
+    yield "a screen with five prices of a side and more in the book", any(len(set(prices)) > 5 for prices in sides)
+    yield "a screen with a price of several orders", any(len(set(prices)) < len(prices) for prices in sides)
+    yield "a screen with no order of a side", [] in sides and sides != [[], []]
+    yield "a screen whose last trade is neither the highest nor the lowest", low < last < high
+    yield "a screen of a day after its close, with its trades", day.time >= desk.CLOSING_AUCTION and trades
+
+
 class Watched(floor_desk.Floor):
     """The floor of the tests, counting what its lines show."""
 
@@ -252,17 +287,23 @@ class Watched(floor_desk.Floor):
         super().__init__(every_price)
         self.shown = collections.Counter()
         self.begun = None  # what rested at the first claim
+        self.before = None  # the first reply to the line before
+        self.renewed = False  # a day with trades has ended, and nothing has traded since
 
     def resting(self):
         return [(o.number, o.left) for o in self.day.live] if self.day else None
 
     def sights(self, day, claims, line, said):
         letter, *words = line.decode("latin-1").split(" ")
-        if letter in ("R", "L", "Q", "J") and said[0].startswith("X "):
+        if letter in ("R", "L", "Q", "J", "S") and said[0].startswith("X "):
             yield "%s, not of the form" % letter, said == ["X 16"]
             yield "%s, no day open" % letter, said == ["X 17"]
         elif letter == "R":
             yield from of_report(day, said)
+        elif letter == "S":
+            yield from of_screen(day, self.trades, said)
+            yield "a screen of a new day, after one with trades", self.renewed and not self.trades
+            yield "a screen after a refused line", self.before[:1] == "X"
         elif letter == "L":
             yield from of_list(day, int(words[0]), int(words[1]), said)
         elif letter == "J":
@@ -273,13 +314,21 @@ class Watched(floor_desk.Floor):
             yield "an opening that forgets claims", claims and said == ["D"]
 
     def answer(self, line):
-        day, claims = copy.copy(self.day), list(self.claims)
+        day, claims, traded = copy.copy(self.day), list(self.claims), bool(self.trades)
         replies = super().answer(line)
+        self.renewed = (self.renewed or traded) and not self.trades
         if self.claims and not claims:
             self.begun = self.resting()
         said = [reply.strip() for reply in replies]
         self.shown.update(name for name, is_shown in self.sights(day, claims, line, said) if is_shown)
+        self.before = said[0]
         return replies
+
+
+def screened(session):
+    """A session with the screen asked for after each of its lines."""
+    *lines, tail = session.split(b"\n")
+    return b"".join(line + b"\nS\n" for line in lines) + tail
 
 
 # Bounds
@@ -303,6 +352,12 @@ def all_claims():
     ones, judged = ["Q 1 1 2"] * 4096, ["J 1000", "J 1000", "Q 4096 1 2", "J 1000"]
     return made.text(book + ones + ["Q 1 1 2", "Q 1 1", "R"] + judged + ones + ["D 0 1", "Q 1 1 2"] + book + ["Q 4096 1 2", "J 1000"]
                      + ones[:4095] + ["D 1 2", "Q 1 1 2", "Q 1 1 2", "J 1000"])
+
+
+def largest_screen():
+    """A full book of the largest orders at the highest price: the most shares at one price, and the most shares and money of an auction."""
+    lines = ["D 999999 0", "T 33300"] + ["O %d 0 7 1000000 999999 0" % (n % 2) for n in range(1024)]
+    return made.text(lines + ["S", "R", "T 33900", "S", "T 34200"] + ["O 0 0 7 1000000 999999 0"] * 1024 + ["S", "T 54000", "S"])
 
 
 def every_byte(forms):
