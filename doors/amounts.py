@@ -1,4 +1,4 @@
-"""Amounts as people read them, for what ./explain draws: yuan, thousands separated, signs."""
+"""Amounts as people read them, for what ./explain draws and shows: yuan, thousands separated, signs."""
 
 
 def yuan(fen):

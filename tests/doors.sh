@@ -100,10 +100,10 @@ if script --version > /dev/null 2>&1; then # a terminal of its own
 fi
 
 # ./explain: every refusal that a line can meet. 10, 11 and 13 need a full book, a million orders and 4,096 claims; their replies are
-# stored. A session whose name begins with floor is one of ./floor.
+# stored. A session whose name begins with floor is one of ./floor, and one that begins with screen is shown with it.
 for session in tests/explain/*.txt; do
     options=()
-    case "$session" in */floor*) options+=(--floor) ;; esac
+    case "$session" in */floor*) options+=(--floor) ;; */screen*) options+=(--screen) ;; esac
     if [ -e "${session%.txt}.replies" ]; then options+=(--replies "${session%.txt}.replies"); fi
     ends "explain $session" 0 ./explain "${options[@]}" "$session"
     same "explain $session" "${session%.txt}.out" "$work/out"
@@ -135,6 +135,7 @@ ends "a picture of nothing" 1 ./explain --picture "$work/auction.svg" --after 2 
 says "a picture of nothing" "nothing to draw" "$work/err"
 ends "a picture that cannot be written" 2 ./explain --picture "$work/no/auction.svg" examples/quiet-day.txt
 ends "a line without a picture" 2 ./explain --after 2 examples/quiet-day.txt
+ends "a picture and a screen at once" 2 ./explain --screen --picture "$work/auction.svg" examples/quiet-day.txt
 
 # ./install, and the example of docs/C.md
 ends "install without a folder" 2 ./install
