@@ -219,6 +219,10 @@ class Day:
         live = [Order(o.number, o.side, o.account, o.left, o.price) for o in self.live]
         return dict(self.__dict__, live=live, traded=list(self.traded), used=set(self.used))
 
+    def nearest_to(self):
+        """The price that an auction's price is nearest to: the last trade, or the previous close where there is none."""
+        return self.close if self.last is None else self.last
+
     def begin_second(self):
         """Holds the auction with which this second begins; its trades."""
         trades = self.hold_auction()
@@ -232,7 +236,7 @@ class Day:
 
     def hold_auction(self):
         auction = Auction(self.live)
-        price = auction.price(self.close if self.last is None else self.last, self.every_price)
+        price = auction.price(self.nearest_to(), self.every_price)
         trades = []
         for buyer, seller, shares in auction.pairs(price) if price is not None else []:
             buyer.left -= shares
@@ -385,21 +389,20 @@ class Day:
         return [price, auction.volume(price), auction.demand(price) - auction.supply(price)]
 
 
-NUMBER = rb" (0|[1-9][0-9]*)"
-FORMS = {
-    b"D": re.compile(b"D" + NUMBER * 2),
-    b"T": re.compile(b"T" + NUMBER),
-    b"O": re.compile(b"O" + NUMBER * 6),
-    b"C": re.compile(b"C" + NUMBER * 2),
-}
+def form(letter, count):
+    """A line of this letter and so many numbers."""
+    return re.compile(letter + rb" (0|[1-9][0-9]*)" * count)
 
 
-def read_line(line):
+FORMS = {letter: form(letter, count) for letter, count in ((b"D", 2), (b"T", 1), (b"O", 6), (b"C", 2))}
+
+
+def read_line(line, forms):
     """Letter and numbers of a line without its newline; refused where it is not of the form."""
-    form = FORMS.get(line[:1])
+    form = forms.get(line[:1])
     found = form.fullmatch(line) if form and len(line) + 1 <= LONGEST_LINE else None
     numbers = [int(text) for text in found.groups()] if found else []
-    if not found or max(numbers) > LARGEST_WORD:
+    if not found or max(numbers, default=0) > LARGEST_WORD:
         raise Refused(16)
     return line[:1], numbers
 
@@ -413,7 +416,7 @@ class Desk:
 
     def obey(self, line):
         """Trades and answer; or refused."""
-        letter, numbers = read_line(line)
+        letter, numbers = read_line(line, FORMS)
         if letter == b"D":
             self.day = Day(*numbers, self.every_price)
             return [], "D"
@@ -434,9 +437,9 @@ class Desk:
         return ["M %d %d %d %d %d %d\n" % trade for trade in trades] + [answer + "\n"]
 
 
-def replies(session, every_price=False):
+def replies(session, every_price=False, kind=Desk):
     """The replies to all bytes of a session, as bytes."""
-    desk = Desk(every_price)
+    desk = kind(every_price)
     *lines, tail = session.split(b"\n")
     said = [reply for line in lines for reply in desk.answer(line)]
     if tail:

@@ -1,7 +1,7 @@
 #!/bin/bash
-# The doors as people use them: ./run, ./convert, ./pack, ./unpack, ./rescue, ./explain, ./install, and the examples of docs/C.md,
-# compiled as C and as C++, of docs/JUDGE.md and of docs/DAYFILE.md, against what ./install put, linked with the static and the
-# shared library, and run. Ends with a line 'N passed, M failed'.
+# The doors as people use them: ./run, ./floor, ./convert, ./pack, ./unpack, ./rescue, ./explain, ./install, and the examples of
+# docs/C.md, compiled as C and as C++, of docs/JUDGE.md and of docs/DAYFILE.md, against what ./install put, linked with the static and
+# the shared library, and run. Ends with a line 'N passed, M failed'.
 set -u
 cd "$(dirname "$0")/.." || exit 2
 work=$(mktemp -d) || exit 2
@@ -29,7 +29,7 @@ same() { # NAME EXPECTED ACTUAL
     check "$1 differs" $?
 }
 
-# ./run and ./convert
+# ./run
 ends "run SCRIPT" 0 ./run examples/quiet-day.txt
 same "run SCRIPT" examples/quiet-day.out "$work/out"
 ends "run < SCRIPT" 0 ./run < examples/late-cancel.txt
@@ -46,6 +46,28 @@ ends "run on a folder" 1 ./run examples
 says "run on a folder" "standard input cannot be read" "$work/err"
 ends "run, output full" 1 bash -c './run examples/quiet-day.txt > /dev/full'
 says "run, output full" "standard output cannot be written" "$work/err"
+
+# ./floor, whose replies to the lines of ./run are those of ./run
+ends "floor SCRIPT" 0 ./floor examples/quiet-day.txt
+same "floor SCRIPT" examples/quiet-day.out "$work/out"
+ends "floor < SCRIPT" 0 ./floor < examples/two-halts.txt
+same "floor < SCRIPT" examples/two-halts.out "$work/out"
+ends "floor from another folder" 0 bash -c "cd '$work' && printf 'R\nD 1000 1\nR\nL 1 5\nJ 0\nS\n' | '$PWD/floor'"
+printf 'X 17\nD\nR 0 0 0\nN 0 0\nJ 1\nS 0 0 0 0 0 0 0 0\n' > "$work/expected"
+same "floor from another folder" "$work/expected" "$work/out"
+ends "floor --help" 0 ./floor --help
+for line in "L price count" "Q shares buyer seller" "J price" "the screen"; do
+    says "floor --help" "$line" "$work/out"
+done
+ends "floor, no such file" 2 ./floor no-such-day.txt
+ends "floor, no such option" 2 ./floor --fast
+ends "floor, two scripts" 2 ./floor examples/quiet-day.txt examples/late-cancel.txt
+ends "floor on a folder" 1 ./floor examples
+says "floor on a folder" "standard input cannot be read" "$work/err"
+ends "floor, output full" 1 bash -c './floor examples/quiet-day.txt > /dev/full'
+says "floor, output full" "standard output cannot be written" "$work/err"
+
+# ./convert
 printf 'O 0 0 7 100 1000\n' > "$work/old"
 printf 'O 0 0 7 100 1000 0\n' > "$work/new"
 ends "convert SCRIPT" 0 ./convert "$work/old"
@@ -77,21 +99,43 @@ if script --version > /dev/null 2>&1; then # a terminal of its own
     says "run on a terminal" "waiting for lines" "$work/out"
 fi
 
-# ./explain: every refusal that a line can meet. 10 and 11 need a full book and a million orders; their replies are stored.
+# ./explain: every refusal that a line can meet. 10, 11 and 13 need a full book, a million orders and 4,096 claims; their replies are
+# stored. A session whose name begins with floor is one of ./floor, and one that begins with screen is shown with it.
 for session in tests/explain/*.txt; do
-    if [ -e "${session%.txt}.replies" ]; then
-        ends "explain $session" 0 ./explain --replies "${session%.txt}.replies" "$session"
-    else
-        ends "explain $session" 0 ./explain "$session"
-    fi
+    options=()
+    case "$session" in */floor*) options+=(--floor) ;; */screen*) options+=(--screen) ;; esac
+    if [ -e "${session%.txt}.replies" ]; then options+=(--replies "${session%.txt}.replies"); fi
+    ends "explain $session" 0 ./explain "${options[@]}" "$session"
     same "explain $session" "${session%.txt}.out" "$work/out"
 done
-for refusal in {1..12} 14 16 17; do
+for refusal in {1..14} 16 17; do
     cat tests/explain/*.out > "$work/all"
     says "explain, refusal $refusal" "→ X $refusal: " "$work/all"
 done
 ends "explain --help" 0 ./explain --help
 ends "explain, no such file" 2 ./explain no-such-day.txt
+ends "explain, no such option" 2 ./explain --fast examples/quiet-day.txt
+ends "explain, two scripts" 2 ./explain examples/quiet-day.txt examples/late-cancel.txt
+
+# ./explain --picture: stored pictures, and what is drawn compared with the program's own answers
+pictured() { # PICTURE SCRIPT LINES OPTION..: of the book after so many lines
+    local picture=$1 script=$2 lines=$3
+    shift 3
+    ends "a picture of $script" 0 ./explain --picture "$work/auction.svg" "$@" "$script"
+    if [ -n "$picture" ]; then same "the picture of $script" "$picture" "$work/auction.svg"; fi
+    ends "what the picture of $script shows" 0 tests/picture.py "$work/auction.svg" "$script" "$lines"
+}
+pictured docs/auction.svg examples/opening-auction-floor.txt 25
+pictured docs/worked-book.svg examples/opening-auction.txt 7
+pictured '' examples/quiet-day.txt 15
+pictured '' examples/two-halts.txt 6
+pictured '' examples/two-halts.txt 16 --after 16
+pictured '' examples/claim-right.txt 14
+ends "a picture of nothing" 1 ./explain --picture "$work/auction.svg" --after 2 examples/quiet-day.txt
+says "a picture of nothing" "nothing to draw" "$work/err"
+ends "a picture that cannot be written" 2 ./explain --picture "$work/no/auction.svg" examples/quiet-day.txt
+ends "a line without a picture" 2 ./explain --after 2 examples/quiet-day.txt
+ends "a picture and a screen at once" 2 ./explain --screen --picture "$work/auction.svg" examples/quiet-day.txt
 
 # ./install, and the example of docs/C.md
 ends "install without a folder" 2 ./install

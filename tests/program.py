@@ -17,8 +17,9 @@ X86 = ROOT / "tests" / "x86"  # runs a built program on any machine
 class Counts:
     """Passed and failed comparisons of a part of the tests; finish() ends the part with its last line."""
 
-    def __init__(self, name):
+    def __init__(self, name, program=PROGRAM):
         self.name = name
+        self.program = program
         self.passed = 0
         self.failed = 0
 
@@ -37,7 +38,7 @@ class Counts:
 
     def answers(self, what, session, expected, lengths=None):
         """Runs the program on a session: its replies, nothing on standard error, exit status 0; all in one comparison."""
-        output, errors, status = run(session, lengths)
+        output, errors, status = run(session, lengths, self.program)
         if status != 0 or errors:
             output += b"(exit status %d, standard error %r)" % (status, errors)
         self.same(what, expected, output)
