@@ -3,7 +3,7 @@
 use Prim.Native.Nat.{ℕ, suc, _+_, _-_, _≤_, _<_}
 use mathlib.Core.Path.{_≡_, sym, ap, _∙_}
 use mathlib.Core.List.{List}
-use native.Mathlib.Decide.{decLt}
+use native.Mathlib.Decide.{decLt, ℕ-discrete}
 use native.Mathlib.Omega.{arith}
 use lib.ListN.{length, getD}
 use lib.IntN.{ℤ, pos, negsuc, subℕ}
@@ -12,8 +12,10 @@ use mir.Syntax.{w64}
 use mir.Val.{toZ, ofZ}
 use mir.ValLaws.{toZ-ofZ}
 use Rattle.model.specs.declared.Order.{Order}
+use Rattle.model.specs.declared.ReportReply.the-variants.{Priced}
 use Rattle.model.specs.Book.{queue}
 use Rattle.model.specs.Auction.{demand, supply, surplus, leftBy}
+use Rattle.model.specs.AuctionCalls.{reportAt}
 use Rattle.book.specs.Rows.{bookOf}
 use Rattle.book.specs.Standing.{Ranked}
 use Rattle.book.specs.Lines.{line}
@@ -39,6 +41,16 @@ sub-both v a b = elim (decLt a b) [
 fixing-zero : (os : List Order) {p : ℕ} → p ≡ 0 → record { price = 0; volume = 0; surplus = pos 0 } ≡ fixingAt p os
 unfolding fixingAt
 fixing-zero os z = rw z
+
+-- the numbers of the report
+pub report-is-fixing :
+    (p : ℕ) (os : List Order)
+    → reportAt p os ≡ Priced (fixingAt p os .price) (fixingAt p os .volume) (fixingAt p os .surplus)
+unfolding reportAt fixingAt
+report-is-fixing p os = elim (ℕ-discrete p 0) [
+  | yes z ↦ rw z
+  | no n ↦ rw (ne-eqb p 0 n)
+]
 
 pub fixing-none :
     (os : List Order) (ref : ℕ) {p : ℕ}
