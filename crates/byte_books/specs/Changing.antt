@@ -4,18 +4,11 @@ use mathlib.Core.Path.{_≡_}
 use mathlib.Core.List.{List}
 use Rattle.model.specs.declared.Order.{Order}
 use Rattle.model.specs.declared.Day.{Day}
-use Rattle.model.specs.declared.OpenReply as OpenReply
-use Rattle.model.specs.declared.CancelReply as CancelReply
 use Rattle.model.specs.Calls.{OpenOutcome, openCall, CancelOutcome, cancelCall}
 use Rattle.book.specs.Rows.{bookOf}
 use Rattle.records.specs.Layout.{dayIn, bookIn, bookBytes, over}
 use Rattle.byte_books.specs.declared.BookAsked as BookAsked
 use Rattle.byte_books.specs.declared.BookReply as BookReply
-
--- the refusal of a book that has too many places, and of memory that holds no day
-unfoldable pub bookRefusal : BookAsked.BookAsked → BookReply.BookReply
-bookRefusal (BookAsked.the-variants.Open close mark) = BookReply.the-variants.Open (OpenReply.the-variants.Refused 14)
-bookRefusal (BookAsked.the-variants.Cancel account number) = BookReply.the-variants.Cancel (CancelReply.the-variants.Refused 15)
 
 pub record BookOutcome : Type 0 where
   pub reply : BookReply.BookReply
@@ -25,7 +18,7 @@ abbrev pub opened : OpenOutcome → BookOutcome
 opened o = record { reply = BookReply.the-variants.Open (o .reply); book = o .book }
 
 abbrev pub cancelled : CancelOutcome → BookOutcome
-cancelled o = record { reply = BookReply.the-variants.Cancel (o .reply); book = o .book }
+cancelled o = record { reply = BookReply.the-variants.Cancel (o .answer); book = o .book }
 
 -- an opening reads nothing of the old day
 unfoldable pub bookCall : Day → List Order → BookAsked.BookAsked → BookOutcome

@@ -3,9 +3,6 @@ use crate::BookAsked;
 use crate::BookReply;
 use day::events::cancel_call;
 use day::opening::open_call;
-use model::CancelReply;
-use model::Day;
-use model::OpenReply;
 use records::ORDER_BYTES;
 use records::days::day_in;
 use records::lists::load_book;
@@ -19,50 +16,39 @@ ghost use mathlib.Core.Path.{_≡_};
 ghost use Prim.Native.Nat.{_/_, _≤_};
 ghost use lib.ListN.{length};
 ghost use Rattle.book.specs.Rows.{bookOf};
-ghost use Rattle.byte_books.specs.Changing.{bookRefusal, changeLeft, bookCall, Changed, bookOn};
+ghost use Rattle.records.specs.Layout.{dayIn};
+ghost use Rattle.byte_books.specs.Changing.{changeLeft, bookCall, Changed, bookOn};
 
-// The one refusal that both have for memory that holds no day.
-pub fn book_refusal(asked: BookAsked) -> BookReply
-    ensures { λ r. ⌜ r ≡ bookRefusal asked ⌝ }
-{
-    match asked {
-        BookAsked::Open { close: _, mark: _ } => BookReply::Open(OpenReply::Refused(14)),
-        BookAsked::Cancel {
-            account: _,
-            number: _,
-        } => BookReply::Cancel(CancelReply::Refused(15)),
-    }
-}
-
-// The call on rows.
-fn change_rows(d: Day, rows: &mut [[u64; 5]], asked: BookAsked) -> BookReply
-    ensures { λ r. ⌜ changeLeft r (now (rows .exit)) ≡ bookCall d (bookOf (now (rows .entry))) asked ⌝ }
+// The call on rows. An opening reads nothing of the old day.
+fn change_rows(day: &[u8], rows: &mut [[u64; 5]], asked: BookAsked) -> BookReply
+    requires { ⌜ length (now day) ≡ 312 ⌝ }
+    ensures { λ r. ⌜ changeLeft r (now (rows .exit)) ≡ bookCall (dayIn (now (day .entry))) (bookOf (now (rows .entry))) asked ⌝ }
 {
     match asked {
         BookAsked::Open { close, mark } => {
             return BookReply::Open(open_call(rows, close, mark));
         }
         BookAsked::Cancel { account, number } => {
-            return BookReply::Cancel(cancel_call(d, rows, account, number));
+            return BookReply::Cancel(cancel_call(day_in(day), rows, account, number));
         }
     }
 }
 
 // The bytes as rows, the call on the rows, and the rows as bytes again.
 fn change_in(day: &[u8], book: &mut [u8], rows: &mut [[u64; 5]], asked: BookAsked) -> BookReply
-    requires { ⌜ length (now day) ≡ 88 ⌝ }
+    requires { ⌜ length (now day) ≡ 312 ⌝ }
     requires { ⌜ length (now rows) ≡ length (now book) / 40 ⌝ }
     ensures { λ r. ⌜ Changed (bookOn (now (day .entry)) (now (book .entry)) asked) (now (book .entry)) r (now (book .exit)) ⌝ }
 {
     load_book(book, &mut *rows);
-    let told = change_rows(day_in(day), &mut *rows, asked);
+    let told = change_rows(day, &mut *rows, asked);
     store_book(book, rows);
     told
 }
 
 // In the largest room.
 fn change_in_large(day: &[u8], book: &mut [u8], asked: BookAsked) -> BookReply
-    requires { ⌜ length (now day) ≡ 88 ⌝ }
+    requires { ⌜ length (now day) ≡ 312 ⌝ }
     requires { ⌜ length (now book) / 40 ≤ 4_096 ⌝ }
     ensures { λ r. ⌜ Changed (bookOn (now (day .entry)) (now (book .entry)) asked) (now (book .entry)) r (now (book .exit)) ⌝ }
 {
@@ -72,7 +58,7 @@ fn change_in_large(day: &[u8], book: &mut [u8], asked: BookAsked) -> BookReply
 }
 
 fn change_in_small(day: &[u8], book: &mut [u8], asked: BookAsked) -> BookReply
-    requires { ⌜ length (now day) ≡ 88 ⌝ }
+    requires { ⌜ length (now day) ≡ 312 ⌝ }
     requires { ⌜ length (now book) / 40 ≤ 1_024 ⌝ }
     ensures { λ r. ⌜ Changed (bookOn (now (day .entry)) (now (book .entry)) asked) (now (book .entry)) r (now (book .exit)) ⌝ }
 {
@@ -82,7 +68,7 @@ fn change_in_small(day: &[u8], book: &mut [u8], asked: BookAsked) -> BookReply
 }
 
 fn change_in_tiny(day: &[u8], book: &mut [u8], asked: BookAsked) -> BookReply
-    requires { ⌜ length (now day) ≡ 88 ⌝ }
+    requires { ⌜ length (now day) ≡ 312 ⌝ }
     requires { ⌜ length (now book) / 40 ≤ 64 ⌝ }
     ensures { λ r. ⌜ Changed (bookOn (now (day .entry)) (now (book .entry)) asked) (now (book .entry)) r (now (book .exit)) ⌝ }
 {
@@ -93,7 +79,7 @@ fn change_in_tiny(day: &[u8], book: &mut [u8], asked: BookAsked) -> BookReply
 
 // In a room as small as the book allows.
 pub fn change_bytes(day: &[u8], book: &mut [u8], asked: BookAsked) -> BookReply
-    requires { ⌜ length (now day) ≡ 88 ⌝ }
+    requires { ⌜ length (now day) ≡ 312 ⌝ }
     requires { ⌜ length (now book) / 40 ≤ 4_096 ⌝ }
     ensures { λ r. ⌜ Changed (bookOn (now (day .entry)) (now (book .entry)) asked) (now (book .entry)) r (now (book .exit)) ⌝ }
 {

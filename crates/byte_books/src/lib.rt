@@ -1,10 +1,10 @@
-// The calls that make no trade, on the bytes of a day and a book, two and two as one: an opening and a cancel, which change the book
-// alone, and the report and the price list, which change nothing.
+// The calls that make no trade, on the bytes of a day and a book, two and two as one: an opening and a cancel, which change day and
+// book, and the report and the price list, which change nothing.
 pub mod changing;
 pub mod reading;
 
 use day::auctions::Listing;
-use model::CancelReply;
+use model::CancelAnswer;
 use model::OpenReply;
 use model::ReportReply;
 
@@ -15,7 +15,7 @@ pub enum BookAsked {
 
 pub enum BookReply {
     Open(OpenReply),
-    Cancel(CancelReply),
+    Cancel(CancelAnswer),
 }
 
 // The price list is for so many places.

@@ -7,9 +7,6 @@ use Rattle.byte_books.proofs.changing.change_in.Tie as tie
 load-book-requires : tie.Need-load-book-requires
 load-book-requires c κs = search needs
 
-day-in-requires : tie.Need-day-in-requires
-day-in-requires c κs = search needs
-
 change-rows-requires : tie.Need-change-rows-requires
 change-rows-requires c κs = search needs
 
@@ -26,10 +23,9 @@ returns : tie.Need-returns
 returns c =
     let s = c .before .before in
     let k = s .before .before .before .before in
-    let d = k .before .before in
-    let l = d .before .before in
+    let l = k .before .before .before in
     let a = l .before .before .before .before .before .args in
-    rows-changed (a .day .now) (a .book .now) (l .load-book .last .1 .0) (l .load-book .ensures) (d .day-in .ensures) (a .asked) (k .change-rows .last .1 .0)
+    rows-changed (a .day .now) (a .book .now) (l .load-book .last .1 .0) (l .load-book .ensures) (a .asked) (k .change-rows .last .1 .0)
     (k .change-rows .ensures)
     (s .store-book .ensures)
 
@@ -38,7 +34,6 @@ change-in-spec =
     tie.close
     (tie.spec
     load-book-requires
-    day-in-requires
     change-rows-requires
     store-book-requires
     same-length
