@@ -68,7 +68,9 @@ returns c =
     (λ i. known .slice-known2 .given i .fits)
 
 store-book-requires : tie.Need-store-book-requires
-store-book-requires c κs = search needs
+store-book-requires c κs =
+    let k = called-of (c .before .before) in
+    omega (arith, start-of k .pre .1 .0, loaded-of k .load-book .kept .1 .0, k .trade-rows .kept .1 .0)
 
 slice-reshare-prefix-store-trades : tie.Need-slice-reshare-prefix-store-trades
 slice-reshare-prefix-store-trades c = made (called-of (c .before .before .before .before .before .before))
