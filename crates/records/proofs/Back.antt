@@ -110,7 +110,7 @@ unfolding tradesBytes tradesIn
 trades-front new b s k = over-front tradeIn tradeBytes 48 trade-again length-trade new (length b / 48) b (omega arith) s k
 
 -- each number that is read is one of 64 bits
-numbers-fit : (n i : ℕ) (b : List ℕ) → AllBytes b → Word (getD (parts numberIn 8 n b) i 0)
+pub numbers-fit : (n i : ℕ) (b : List ℕ) → AllBytes b → Word (getD (parts numberIn 8 n b) i 0)
 unfolding parts
 numbers-fit zero i b s = omega arith
 numbers-fit (suc n) zero b s = few-bytes 8 (take 8 b) (rw length-take (omega arith)) (bytes-take 8 b s)

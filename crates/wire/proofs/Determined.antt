@@ -4,8 +4,22 @@ use Prim.Native.Nat.{ℕ}
 use mathlib.Core.Path.{_≡_, sym, ap, _∙_}
 use mathlib.Core.List.{List}
 use Rattle.model.specs.declared.Asked.{Asked}
-use Rattle.wire.specs.Exports.{OpenLeft, TradeLeft, tradeLeft, orderLeaves, clockLeaves, CancelLeft, ReportLeft, ListLeft}
+use Rattle.wire.specs.Exports.{BookLeft, bookLeft, openOn, openLeaves, TradeLeft, tradeLeft, orderLeaves, clockLeaves, cancelLeaves, ReportLeft, ListLeft}
 use Rattle.wire.specs.Promises.{OpenPromise, ClockPromise, OrderPromise, CancelPromise, ReportPromise, ListPromise}
+
+-- an opening and a cancel leave the same kind of outcome
+changing-determined :
+    (o : BookLeft) (r s : ℕ) (day₁ book₁ reply₁ day₂ book₂ reply₂ : List ℕ)
+    → bookLeft r day₁ book₁ reply₁ ≡ o
+    → bookLeft s day₂ book₂ reply₂ ≡ o
+    → (r ≡ s) × (day₁ ≡ day₂) × (book₁ ≡ book₂) × (reply₁ ≡ reply₂)
+changing-determined o r s day₁ book₁ reply₁ day₂ book₂ reply₂ e f =
+    let g = e ∙ sym f in (
+      ap (λ (x : BookLeft). x .returns) g,
+      ap (λ (x : BookLeft). x .day) g,
+      ap (λ (x : BookLeft). x .book) g,
+      ap (λ (x : BookLeft). x .reply) g,
+    )
 
 -- `flemorix_open`
 pub open-determined :
@@ -13,13 +27,7 @@ pub open-determined :
     → OpenPromise day book reply close mark r day₁ book₁ reply₁
     → OpenPromise day book reply close mark s day₂ book₂ reply₂
     → (r ≡ s) × (day₁ ≡ day₂) × (book₁ ≡ book₂) × (reply₁ ≡ reply₂)
-open-determined close mark day book reply r s day₁ book₁ reply₁ day₂ book₂ reply₂ e f =
-    let g = e ∙ sym f in (
-      ap (λ (o : OpenLeft). o .returns) g,
-      ap (λ (o : OpenLeft). o .day) g,
-      ap (λ (o : OpenLeft). o .book) g,
-      ap (λ (o : OpenLeft). o .reply) g,
-    )
+open-determined close mark day book reply = changing-determined (openLeaves (openOn close mark day book) day book reply)
 
 -- an order and a move of the clock leave the same kind of outcome
 trading-determined :
@@ -54,13 +62,11 @@ clock-determined time day book trades reply = trading-determined (clockLeaves ti
 
 -- `flemorix_cancel`
 pub cancel-determined :
-    (account number : ℕ) (day book reply : List ℕ) (r s : ℕ) (book₁ reply₁ book₂ reply₂ : List ℕ)
-    → CancelPromise day book reply account number r book₁ reply₁
-    → CancelPromise day book reply account number s book₂ reply₂
-    → (r ≡ s) × (book₁ ≡ book₂) × (reply₁ ≡ reply₂)
-cancel-determined account number day book reply r s book₁ reply₁ book₂ reply₂ e f =
-    let g = e ∙ sym f in
-    (ap (λ (o : CancelLeft). o .returns) g, ap (λ (o : CancelLeft). o .book) g, ap (λ (o : CancelLeft). o .reply) g)
+    (account number : ℕ) (day book reply : List ℕ) (r s : ℕ) (day₁ book₁ reply₁ day₂ book₂ reply₂ : List ℕ)
+    → CancelPromise day book reply account number r day₁ book₁ reply₁
+    → CancelPromise day book reply account number s day₂ book₂ reply₂
+    → (r ≡ s) × (day₁ ≡ day₂) × (book₁ ≡ book₂) × (reply₁ ≡ reply₂)
+cancel-determined account number day book reply = changing-determined (cancelLeaves account number day book reply)
 
 -- `flemorix_report`
 pub report-determined :

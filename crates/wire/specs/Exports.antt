@@ -1,5 +1,5 @@
 -- What each call leaves in memory, as bytes: the number that it returns, and every slice that it may write. A day of another
--- length than 88 bytes is refused before anything else.
+-- length than 312 bytes is refused before anything else.
 use Prim.Native.Nat.{ℕ}
 use mathlib.Core.Bool.{Bool}
 use mathlib.Core.List.{List}
@@ -24,7 +24,17 @@ use Rattle.records.specs.Layout.{bytes, dayIn, dayBytes, bookIn, bookBytes, tra
 use Rattle.replies.specs.Words.{reportWords}
 
 abbrev pub hasDay : List ℕ → Bool
-hasDay day = eqb (length day) 88
+hasDay day = eqb (length day) 312
+
+-- what a call that changes a book and makes no trade leaves
+pub record BookLeft : Type 0 where
+  pub returns : ℕ
+  pub day : List ℕ
+  pub book : List ℕ
+  pub reply : List ℕ
+
+abbrev pub bookLeft : ℕ → List ℕ → List ℕ → List ℕ → BookLeft
+bookLeft r day book reply = record { returns = r; day = day; book = book; reply = reply }
 
 -- ---- an opening
 
@@ -39,23 +49,10 @@ unfoldable pub dayLeft : OpenReply.OpenReply → List ℕ → List ℕ
 dayLeft (OpenReply.the-variants.Refused n) day = day
 dayLeft (OpenReply.the-variants.Opened d) day = over (dayBytes d) day
 
-pub record OpenLeft : Type 0 where
-  pub returns : ℕ
-  pub day : List ℕ
-  pub book : List ℕ
-  pub reply : List ℕ
-
-abbrev pub openLeft : ℕ → List ℕ → List ℕ → List ℕ → OpenLeft
-openLeft r day book reply = record { returns = r; day = day; book = book; reply = reply }
-
-unfoldable pub openLeaves : OpenOutcome → List ℕ → List ℕ → List ℕ → OpenLeft
+unfoldable pub openLeaves : OpenOutcome → List ℕ → List ℕ → List ℕ → BookLeft
 openLeaves o day book reply =
-    record {
-      returns = returned (openNumbers (o .reply));
-      day = dayLeft (o .reply) day;
-      book = over (bookBytes (o .book)) book;
-      reply = replied (openNumbers (o .reply)) reply;
-    }
+    bookLeft (returned (openNumbers (o .reply))) (dayLeft (o .reply) day) (over (bookBytes (o .book)) book)
+    (replied (openNumbers (o .reply)) reply)
 
 -- ---- an order, and a move of the clock
 
@@ -92,27 +89,15 @@ clockLeaves time day book trades reply =
 
 -- ---- a cancel
 
-unfoldable pub cancelOn : List ℕ → ℕ → ℕ → List ℕ → CancelOutcome
-cancelOn day account number book =
+-- the numbers of its reply, the day, and an outcome's book; without a day nothing but the numbers of that refusal
+unfoldable pub cancelLeaves : ℕ → ℕ → List ℕ → List ℕ → List ℕ → BookLeft
+cancelLeaves account number day book reply =
+    let o : CancelOutcome = cancelCall (dayIn day) account number (bookIn book) in
+    let ns : List ℕ = cancelNumbers (o .answer .reply) in
+    let without : List ℕ = cancelNumbers (CancelReply.the-variants.Refused 15) in
     if hasDay day
-    then cancelCall (dayIn day) account number (bookIn book)
-    else record { reply = CancelReply.the-variants.Refused 15; book = bookIn book }
-
-pub record CancelLeft : Type 0 where
-  pub returns : ℕ
-  pub book : List ℕ
-  pub reply : List ℕ
-
-abbrev pub cancelLeft : ℕ → List ℕ → List ℕ → CancelLeft
-cancelLeft r book reply = record { returns = r; book = book; reply = reply }
-
-unfoldable pub cancelLeaves : CancelOutcome → List ℕ → List ℕ → CancelLeft
-cancelLeaves o book reply =
-    record {
-      returns = returned (cancelNumbers (o .reply));
-      book = over (bookBytes (o .book)) book;
-      reply = replied (cancelNumbers (o .reply)) reply;
-    }
+    then bookLeft (returned ns) (over (dayBytes (o .answer .day)) day) (over (bookBytes (o .book)) book) (replied ns reply)
+    else bookLeft (returned without) day book (replied without reply)
 
 -- ---- the auction report: it leaves a reply and nothing else
 

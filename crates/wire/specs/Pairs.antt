@@ -3,25 +3,24 @@ use Prim.Native.Nat.{ℕ, _+_, _/_, _≤_}
 use mathlib.Core.Path.{_≡_}
 use mathlib.Core.List.{List}
 use lib.ListN.{length}
-use Rattle.model.specs.declared.Day.{Day}
-use Rattle.model.specs.declared.OpenReply.the-variants.{Opened}
+use Rattle.model.specs.declared.OpenReply as OpenReply
+use Rattle.model.specs.declared.CancelReply as CancelReply
 use Rattle.model.specs.Choice.{if_then_else_}
 use Rattle.model.specs.Lists.{from}
 use Rattle.model.specs.Replies.{openNumbers, orderNumbers, cancelNumbers, clockNumbers, listNumbers}
 use Rattle.auction.specs.declared.Run.{Run}
 use Rattle.day.specs.declared.auctions.Listing as Listing
 use Rattle.day.specs.Listings.{listReply}
-use Rattle.records.specs.Layout.{bytes, bookIn, over}
+use Rattle.records.specs.Layout.{bytes, dayBytes, over}
 use Rattle.replies.specs.Words.{reportWords}
 use Rattle.byte_trades.specs.declared.TradeAsked as TradeAsked
 use Rattle.byte_trades.specs.declared.TradeReply as TradeReply
-use Rattle.byte_books.specs.declared.BookAsked.{BookAsked}
+use Rattle.byte_books.specs.declared.BookAsked as BookAsked
 use Rattle.byte_books.specs.declared.BookReply as BookReply
 use Rattle.byte_books.specs.declared.ReadAsked.{ReadAsked}
 use Rattle.byte_books.specs.declared.ReadReply as ReadReply
-use Rattle.byte_books.specs.Changing.{BookOutcome, bookRefusal, bookOn}
 use Rattle.byte_books.specs.Reading.{readRefusal, readOn}
-use Rattle.wire.specs.Exports.{hasDay, dayLeft, TradeLeft, orderLeaves, clockLeaves}
+use Rattle.wire.specs.Exports.{hasDay, BookLeft, openOn, dayLeft, openLeaves, TradeLeft, orderLeaves, clockLeaves, cancelLeaves}
 
 -- ---- an order, and a move of the clock
 
@@ -37,19 +36,21 @@ eitherLeaves (TradeAsked.the-variants.Clock t) = clockLeaves t
 
 unfoldable pub bookNumbers : BookReply.BookReply → List ℕ
 bookNumbers (BookReply.the-variants.Open r) = openNumbers r
-bookNumbers (BookReply.the-variants.Cancel r) = cancelNumbers r
+bookNumbers (BookReply.the-variants.Cancel r) = cancelNumbers (r .reply)
 
-unfoldable pub changeOn : List ℕ → List ℕ → BookAsked → BookOutcome
-changeOn day book asked =
-    if hasDay day then bookOn day book asked else record { reply = bookRefusal asked; book = bookIn book }
+-- those of a book that has too many places, and of memory that holds no day
+unfoldable pub unreadNumbers : BookAsked.BookAsked → List ℕ
+unreadNumbers (BookAsked.the-variants.Open close mark) = openNumbers (OpenReply.the-variants.Refused 14)
+unreadNumbers (BookAsked.the-variants.Cancel account number) = cancelNumbers (CancelReply.the-variants.Refused 15)
 
--- a day was opened only where there is memory for it
-abbrev pub DayFits : BookReply.BookReply → List ℕ → Type 0
-DayFits told day = (d : Day) → told ≡ BookReply.the-variants.Open (Opened d) → length day ≡ 88
-
+-- the day that a reply has brought: a new one, or the one with its screen updated
 unfoldable pub dayBy : BookReply.BookReply → List ℕ → List ℕ
 dayBy (BookReply.the-variants.Open r) day = dayLeft r day
-dayBy (BookReply.the-variants.Cancel r) day = day
+dayBy (BookReply.the-variants.Cancel r) day = over (dayBytes (r .day)) day
+
+unfoldable pub changeLeaves : BookAsked.BookAsked → List ℕ → List ℕ → List ℕ → BookLeft
+changeLeaves (BookAsked.the-variants.Open close mark) day book reply = openLeaves (openOn close mark day book) day book reply
+changeLeaves (BookAsked.the-variants.Cancel account number) day book reply = cancelLeaves account number day book reply
 
 -- ---- the report, and the price list
 

@@ -5,14 +5,12 @@ use mathlib.Core.Path.{_≡_}
 use mathlib.Core.List.{List}
 use Rattle.model.specs.declared.Asked.{Asked}
 use Rattle.wire.specs.Exports.{
+  bookLeft,
   openOn,
-  openLeft,
   openLeaves,
   tradeLeft,
   orderLeaves,
   clockLeaves,
-  cancelOn,
-  cancelLeft,
   cancelLeaves,
   reportOn,
   reportLeft,
@@ -28,12 +26,11 @@ Bytes = List ℕ
 module _ (day book reply : Bytes) where
   abbrev pub OpenPromise : ℕ → ℕ → ℕ → Bytes → Bytes → Bytes → Type 0
   OpenPromise close mark r day' book' reply' =
-      openLeft r day' book' reply' ≡ openLeaves (openOn close mark day book) day book reply
+      bookLeft r day' book' reply' ≡ openLeaves (openOn close mark day book) day book reply
 
-  -- the day is only read
-  abbrev pub CancelPromise : ℕ → ℕ → ℕ → Bytes → Bytes → Type 0
-  CancelPromise account number r book' reply' =
-      cancelLeft r book' reply' ≡ cancelLeaves (cancelOn day account number book) book reply
+  abbrev pub CancelPromise : ℕ → ℕ → ℕ → Bytes → Bytes → Bytes → Type 0
+  CancelPromise account number r day' book' reply' =
+      bookLeft r day' book' reply' ≡ cancelLeaves account number day book reply
 
   -- day and book are only read
   abbrev pub ReportPromise : ℕ → Bytes → Type 0

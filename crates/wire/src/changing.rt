@@ -1,8 +1,8 @@
-// An opening and a cancel: each writes book and reply, and an opening the day.
+// An opening and a cancel: each writes day, book and reply.
 use byte_books::BookAsked;
 use byte_books::BookReply;
-use byte_books::changing::book_refusal;
 use byte_books::changing::change_bytes;
+use model::CancelReply;
 use model::MOST_PLACES;
 use model::OpenReply;
 use records::DAY_BYTES;
@@ -13,8 +13,9 @@ use replies::cancel_numbers;
 use replies::open_numbers;
 ghost use mathlib.Core.Path.{_≡_};
 ghost use Rattle.records.specs.Layout.{returned, replied};
-ghost use Rattle.byte_books.specs.Changing.{Changed};
-ghost use Rattle.wire.specs.Pairs.{bookNumbers, changeOn, DayFits, dayBy};
+ghost use lib.ListN.{length};
+ghost use Rattle.wire.specs.Exports.{bookLeft};
+ghost use Rattle.wire.specs.Pairs.{bookNumbers, unreadNumbers, dayBy, changeLeaves};
 ghost use Rattle.wire.specs.Promises.{OpenPromise, CancelPromise};
 
 fn put_book_reply(reply: &mut [u8], told: BookReply) -> u64
@@ -26,29 +27,41 @@ fn put_book_reply(reply: &mut [u8], told: BookReply) -> u64
             return put_reply(reply, &row[..]);
         }
         BookReply::Cancel(r) => {
-            let row = cancel_numbers(r);
+            let withdrawn = r.reply;
+            let row = cancel_numbers(withdrawn);
             return put_reply(reply, &row[..]);
         }
     }
 }
 
-// A day of another length, and a book of more places than any may have, are never read.
-fn change(day: &[u8], book: &mut [u8], asked: BookAsked) -> BookReply
-    ensures { λ r. ⌜ Changed (changeOn (now (day .entry)) (now (book .entry)) asked) (now (book .entry)) r (now (book .exit)) ⌝ }
+// The one refusal that each has for memory that is not read.
+fn put_unread(reply: &mut [u8], asked: BookAsked) -> u64
+    ensures { λ r. ⌜ (r ≡ returned (unreadNumbers asked)) × (now (reply .exit) ≡ replied (unreadNumbers asked) (now (reply .entry))) ⌝ }
 {
-    if day.len() != DAY_BYTES || MOST_PLACES < book.len() / ORDER_BYTES {
-        return book_refusal(asked);
+    match asked {
+        BookAsked::Open { close: _, mark: _ } => {
+            let row = open_numbers(OpenReply::Refused(14));
+            return put_reply(reply, &row[..]);
+        }
+        BookAsked::Cancel {
+            account: _,
+            number: _,
+        } => {
+            let row = cancel_numbers(CancelReply::Refused(15));
+            return put_reply(reply, &row[..]);
+        }
     }
-    change_bytes(day, book, asked)
 }
 
-// The new day, where there is one.
-fn put_opened(day: &mut [u8], told: BookReply)
-    requires { ⌜ DayFits told (now day) ⌝ }
+// The day that a reply has brought.
+fn put_brought(day: &mut [u8], told: BookReply)
+    requires { ⌜ length (now day) ≡ 312 ⌝ }
     ensures { λ _. ⌜ now (day .exit) ≡ dayBy told (now (day .entry)) ⌝ }
 {
     match told {
-        BookReply::Cancel(_) => {
+        BookReply::Cancel(r) => {
+            let d = r.day;
+            put_day(day, d);
             return;
         }
         BookReply::Open(r) => match r {
@@ -63,6 +76,18 @@ fn put_opened(day: &mut [u8], told: BookReply)
     }
 }
 
+// A day of another length, and a book of more places than any may have, are never read.
+fn change(day: &mut [u8], book: &mut [u8], reply: &mut [u8], asked: BookAsked) -> u64
+    ensures { λ r. ⌜ bookLeft r (now (day .exit)) (now (book .exit)) (now (reply .exit)) ≡ changeLeaves asked (now (day .entry)) (now (book .entry)) (now (reply .entry)) ⌝ }
+{
+    if day.len() != DAY_BYTES || MOST_PLACES < book.len() / ORDER_BYTES {
+        return put_unread(reply, asked);
+    }
+    let told = change_bytes(day, book, asked);
+    put_brought(day, told);
+    put_book_reply(reply, told)
+}
+
 #[no_mangle]
 pub extern "C" fn flemorix_open(
     day: &mut [u8],
@@ -73,21 +98,18 @@ pub extern "C" fn flemorix_open(
 ) -> u64
     ensures { λ r. ⌜ OpenPromise (now (day .entry)) (now (book .entry)) (now (reply .entry)) close mark r (now (day .exit)) (now (book .exit)) (now (reply .exit)) ⌝ }
 {
-    let told = change(day, book, BookAsked::Open { close, mark });
-    put_opened(day, told);
-    put_book_reply(reply, told)
+    change(day, book, reply, BookAsked::Open { close, mark })
 }
 
 #[no_mangle]
 pub extern "C" fn flemorix_cancel(
-    day: &[u8],
+    day: &mut [u8],
     book: &mut [u8],
     reply: &mut [u8],
     account: u64,
     number: u64,
 ) -> u64
-    ensures { λ r. ⌜ CancelPromise (now (day .entry)) (now (book .entry)) (now (reply .entry)) account number r (now (book .exit)) (now (reply .exit)) ⌝ }
+    ensures { λ r. ⌜ CancelPromise (now (day .entry)) (now (book .entry)) (now (reply .entry)) account number r (now (day .exit)) (now (book .exit)) (now (reply .exit)) ⌝ }
 {
-    let told = change(day, book, BookAsked::Cancel { account, number });
-    put_book_reply(reply, told)
+    change(day, book, reply, BookAsked::Cancel { account, number })
 }
