@@ -13,7 +13,7 @@ use Rattle.model.specs.declared.ClockAnswer.{ClockAnswer}
 use Rattle.model.specs.Calls.{Outcome, CancelOutcome, orderCall, cancelCall}
 use Rattle.model.specs.ClockCall.{clockCall}
 use Rattle.model.specs.AuctionCalls.{reportCall, ListOutcome, listCall}
-use Rattle.model.specs.Replies.{orderNumbers, clockNumbers}
+use Rattle.model.specs.Replies.{orderNumbers, cancelNumbers, clockNumbers}
 use Rattle.model.specs.Session.{Desk}
 use Rattle.model.specs.Words.{Each, Sound}
 use Rattle.demands.specs.Running.{movesTo, enters, cancels, steppedBy}
@@ -23,8 +23,9 @@ use Rattle.demands.proofs.Demands.{keeping}
 use Rattle.demands.proofs.Orderings.{order-places, cancel-places, clock-places}
 use Rattle.records.specs.Layout.{Word, bytes, dayIn, dayBytes, bookIn, bookBytes, tradesIn, tradesBytes, pricesIn, over, returned, replied}
 use Rattle.records.proofs.Sizes.{length-day}
-use Rattle.wire.specs.Exports.{hasDay, TradeLeft, tradeLeft, tradeLeaves, orderLeaves, clockLeaves, cancelOn, CancelLeft, cancelLeaves, reportOn, ReportLeft, reportLeaves, listOn, ListLeft, listLeaves}
+use Rattle.wire.specs.Exports.{hasDay, BookLeft, bookLeft, TradeLeft, tradeLeft, tradeLeaves, orderLeaves, clockLeaves, cancelLeaves, reportOn, ReportLeft, reportLeaves, listOn, ListLeft, listLeaves}
 use Rattle.chains.specs.Bytes.{Memory, Asks, Clock, Order as OrderOf, Cancel, Report, Prices, Gives, Promise, call, numbersIn, Shows, deskIn, door}
+use Rattle.chains.proofs.Ranges.{WordRange, range-in, order-range, cancel-range, clock-range}
 use Rattle.chains.proofs.Fitting.{WordAccount, accounts-in, event-accounts, both, desk-read}
 
 -- memory that has room for a day
@@ -60,11 +61,21 @@ module _ (day book trades reply : List ℕ) (h : hasDay day ≡ true) where
   unfolding orderLeaves tradeLeaves
   order-left a = rw h refl
 
-module _ (day book : List ℕ) (h : hasDay day ≡ true) where
-  cancel-on : (account number : ℕ) → cancelOn day account number book ≡ cancelCall (dayIn day) account number (bookIn book)
-  unfolding cancelOn
-  cancel-on account number = rw h refl
+module _ (day book reply : List ℕ) (h : hasDay day ≡ true) where
+  abbrev withdrawn : ℕ → ℕ → CancelOutcome
+  withdrawn account number = cancelCall (dayIn day) account number (bookIn book)
 
+  cancel-left :
+      (account number : ℕ)
+      → cancelLeaves account number day book reply
+      ≡ bookLeft (returned (cancelNumbers (withdrawn account number .answer .reply)))
+      (over (dayBytes (withdrawn account number .answer .day)) day)
+      (over (bookBytes (withdrawn account number .book)) book)
+      (replied (cancelNumbers (withdrawn account number .answer .reply)) reply)
+  unfolding cancelLeaves
+  cancel-left account number = rw h refl
+
+module _ (day book : List ℕ) (h : hasDay day ≡ true) where
   report-on : reportOn day book ≡ reportCall (dayIn day) (bookIn book)
   unfolding reportOn
   report-on = rw h refl
@@ -77,7 +88,7 @@ module _ (day book : List ℕ) (h : hasDay day ≡ true) where
 
 pub shows :
     (a : Asks) (m : Memory) (g : Gives a) (n : Memory) → HasDay m → Promise a m g n → Shows a (seen present (call a) (deskIn m)) g
-unfolding seen eventSeen present movesTo enters cancels numbersIn tradesThen pricesThen cancelLeaves reportLeaves listLeaves
+unfolding seen eventSeen present movesTo enters cancels numbersIn tradesThen pricesThen reportLeaves listLeaves
 shows (Clock t trades reply) m g n h p =
     let e = p ∙ clock-left (m .day .bytes) (m .book .bytes) (trades .bytes) (reply .bytes) h t in (
       record { returns = ap (λ (x : TradeLeft). x .returns) e; buffer = ap (λ (x : TradeLeft). x .reply) e },
@@ -88,9 +99,9 @@ shows (OrderOf a w trades reply) m g n h p =
       record { returns = ap (λ (x : TradeLeft). x .returns) e; buffer = ap (λ (x : TradeLeft). x .reply) e },
       ap (λ (x : TradeLeft). x .trades) e,
     )
-shows (Cancel account number reply) m g n h (p, d) =
-    let e = p ∙ ap (λ (o : CancelOutcome). cancelLeaves o (m .book .bytes) (reply .bytes)) (cancel-on (m .day .bytes) (m .book .bytes) h account number) in
-    record { returns = ap (λ (x : CancelLeft). x .returns) e; buffer = ap (λ (x : CancelLeft). x .reply) e }
+shows (Cancel account number reply) m g n h p =
+    let e = p ∙ cancel-left (m .day .bytes) (m .book .bytes) (reply .bytes) h account number in
+    record { returns = ap (λ (x : BookLeft). x .returns) e; buffer = ap (λ (x : BookLeft). x .reply) e }
 shows (Report reply) m g n h (p, d, b) =
     let e = p ∙ ap (λ o. reportLeaves o (reply .bytes)) (report-on (m .day .bytes) (m .book .bytes) h) in
     record { returns = ap (λ (x : ReportLeft). x .returns) e; buffer = ap (λ (x : ReportLeft). x .reply) e }
@@ -109,6 +120,9 @@ module _ (m : Memory) (s : Sound (deskIn m .day) (deskIn m .book)) where
   accounts : Each WordAccount (here .book)
   accounts = accounts-in (m .book .bytes) (m .book .are)
 
+  range : WordRange (here .day)
+  range = range-in (m .day .bytes) (m .day .are)
+
   clock-desk :
       (t : ℕ) (trades : List ℕ)
       → let o : Outcome ClockAnswer = clockCall (here .day) t (here .book) (tradesIn trades) in
@@ -118,7 +132,8 @@ module _ (m : Memory) (s : Sound (deskIn m .day) (deskIn m .book)) where
   clock-desk t trades =
       let c = movesTo t (tradesIn trades) in
       let k = keeping .clock-kept (here .day) t (here .book) (tradesIn trades) s in
-      desk-read _ _ k (m .day .bytes) (m .book .bytes) (event-accounts (c .event) (c .within) (c .lent) here tt accounts k)
+      desk-read _ _ k (clock-range (here .day) t (here .book) (tradesIn trades) s range) (m .day .bytes) (m .book .bytes)
+      (event-accounts (c .event) (c .within) (c .lent) here tt accounts k)
       (clock-places (here .day) t (here .book) (tradesIn trades))
 
   order-desk :
@@ -131,20 +146,22 @@ module _ (m : Memory) (s : Sound (deskIn m .day) (deskIn m .book)) where
   order-desk a trades w =
       let c = enters a (tradesIn trades) in
       let k = keeping .order-kept (here .day) a (here .book) (tradesIn trades) s in
-      desk-read _ _ k (m .day .bytes) (m .book .bytes) (event-accounts (c .event) (c .within) (c .lent) here w accounts k)
+      desk-read _ _ k (order-range (here .day) a (here .book) (tradesIn trades) s range) (m .day .bytes) (m .book .bytes)
+      (event-accounts (c .event) (c .within) (c .lent) here w accounts k)
       (order-places (here .day) a (here .book) (tradesIn trades))
 
   cancel-desk :
       (account number : ℕ)
-      → both (here .day) (bookIn (over (bookBytes (cancelCall (here .day) account number (here .book) .book)) (m .book .bytes)))
-      ≡ both (here .day) (cancelCall (here .day) account number (here .book) .book)
+      → let o : CancelOutcome = cancelCall (here .day) account number (here .book) in
+      both (dayIn (over (dayBytes (o .answer .day)) (m .day .bytes))) (bookIn (over (bookBytes (o .book)) (m .book .bytes)))
+      ≡ both (o .answer .day) (o .book)
   unfolding cancels steppedBy
   cancel-desk account number =
       let c = cancels account number in
       let k = keeping .cancel-kept (here .day) account number (here .book) s in
-      ap (λ (x : Desk). both (here .day) (x .book))
-      (desk-read _ _ k (m .day .bytes) (m .book .bytes) (event-accounts (c .event) (c .within) (c .lent) here tt accounts k)
-      (cancel-places (here .day) account number (here .book)))
+      desk-read _ _ k (cancel-range (here .day) account number (here .book) range) (m .day .bytes) (m .book .bytes)
+      (event-accounts (c .event) (c .within) (c .lent) here tt accounts k)
+      (cancel-places (here .day) account number (here .book))
 
 pub leaves :
     (a : Asks) (m : Memory) (g : Gives a) (n : Memory)
@@ -152,18 +169,16 @@ pub leaves :
     → Sound (deskIn m .day) (deskIn m .book)
     → Promise a m g n
     → deskIn n ≡ stepped present (call a) (deskIn m)
-unfolding stepped eventDesk present movesTo enters cancels cancelLeaves
+unfolding stepped eventDesk present movesTo enters cancels
 leaves (Clock t trades reply) m g n h s p =
     let e = p ∙ clock-left (m .day .bytes) (m .book .bytes) (trades .bytes) (reply .bytes) h t in
     ap (λ (x : TradeLeft). both (dayIn (x .day)) (bookIn (x .book))) e ∙ clock-desk m s t (trades .bytes)
 leaves (OrderOf a w trades reply) m g n h s p =
     let e = p ∙ order-left (m .day .bytes) (m .book .bytes) (trades .bytes) (reply .bytes) h a in
     ap (λ (x : TradeLeft). both (dayIn (x .day)) (bookIn (x .book))) e ∙ order-desk m s a (trades .bytes) w
-leaves (Cancel account number reply) m g n h s (p, d) =
-    let e = p ∙ ap (λ (o : CancelOutcome). cancelLeaves o (m .book .bytes) (reply .bytes)) (cancel-on (m .day .bytes) (m .book .bytes) h account number) in
-    ap (λ (b : List ℕ). both (dayIn b) (bookIn (n .book .bytes))) d
-    ∙ ap (λ (x : CancelLeft). both (dayIn (m .day .bytes)) (bookIn (x .book))) e
-    ∙ cancel-desk m s account number
+leaves (Cancel account number reply) m g n h s p =
+    let e = p ∙ cancel-left (m .day .bytes) (m .book .bytes) (reply .bytes) h account number in
+    ap (λ (x : BookLeft). both (dayIn (x .day)) (bookIn (x .book))) e ∙ cancel-desk m s account number
 leaves (Report reply) m g n h s (p, d, b) =
     ap (λ (x : List ℕ). both (dayIn x) (bookIn (n .book .bytes))) d
     ∙ ap (λ (x : List ℕ). both (dayIn (m .day .bytes)) (bookIn x)) b
@@ -187,7 +202,9 @@ holds (Clock t trades reply) m g n h p =
 holds (OrderOf a w trades reply) m g n h p =
     let e = p ∙ order-left (m .day .bytes) (m .book .bytes) (trades .bytes) (reply .bytes) h a in
     rw (ap (λ (x : TradeLeft). x .day) e) (day-room _ (m .day .bytes) h)
-holds (Cancel account number reply) m g n h (p, d) = rw d h
+holds (Cancel account number reply) m g n h p =
+    let e = p ∙ cancel-left (m .day .bytes) (m .book .bytes) (reply .bytes) h account number in
+    rw (ap (λ (x : BookLeft). x .day) e) (day-room _ (m .day .bytes) h)
 holds (Report reply) m g n h (p, d, b) = rw d h
 holds (Prices asked prices reply) m g n h (p, d, b) = rw d h
 

@@ -1,61 +1,50 @@
 -- What a sound day leaves fits numbers of 64 bits, so that what an event stores as bytes is read back from them. Accounts alone are not
 -- bounded by soundness: an order in the book has the account of one that stood there, or of the order that came in. Assumes nothing.
 use Prim.Native.Nat.{ℕ, zero, suc, _+_, _/_, _^_, _≤_, _<_}
-use mathlib.Core.Path.{_≡_, refl, ap, subst, _∙_}
+use mathlib.Core.Path.{_≡_, refl, sym, ap, subst, _∙_}
 use mathlib.Core.Logic.{inl, inr, ⊎-elim}
 use mathlib.Core.Bool.{false}
 use mathlib.Core.List.{List, [], _∷_, _++_, map}
 use native.Mathlib.Omega.{arith}
 use native.Mathlib.Decide.{ℕ-discrete}
-use lib.ListN.{length, take, drop}
+use lib.Signed.{mag}
+use lib.ListN.{length, drop}
 use Rattle.model.specs.declared.Order.{Order}
 use Rattle.model.specs.declared.Trade.{Trade}
+use Rattle.model.specs.declared.Screen.{Screen}
 use Rattle.model.specs.declared.Day.{Day}
 use Rattle.model.specs.declared.Event as Event
 use Rattle.model.specs.declared.OrderReply as OrderReply
 use Rattle.model.specs.Book.{free}
+use Rattle.model.specs.Screen.{screenOf}
 use Rattle.model.specs.Calls.{orderCall}
 use Rattle.model.specs.Session.{Desk}
 use Rattle.model.specs.Words.{Each, Some, Sound}
-use Rattle.book.specs.Standing.{Fair}
+use Rattle.model.proofs.Bools.{and-both}
+use Rattle.model.proofs.SameScreens.{fits-counted}
+use Rattle.book.specs.Standing.{Fair, Ranked}
 use Rattle.book.proofs.Lists.{each, each-append}
 use Rattle.soundness.specs.SoundDay.{SoundDay, HaltDay}
-use Rattle.soundness.proofs.SoundDays.{sound-day, sound-halt, day-stands}
+use Rattle.soundness.proofs.SoundDays.{sound-day, sound-screen, sound-halt, ranked as sound-ranked, day-stands}
 use Rattle.demands.specs.Running.{isOpening, Owner, Is, ownersBy, acceptedBy, steppedBy}
 use Rattle.demands.proofs.Elements.{each-map}
 use Rattle.demands.proofs.HaltDays.{running}
 use Rattle.demands.proofs.Owned.{Known, Owned, event-owned}
-use Rattle.octets.specs.Numbers.{AllBytes, worth, parts}
-use Rattle.octets.proofs.Digits.{bytes-take, bytes-drop}
-use Rattle.records.specs.Layout.{Word, Fits, numbers, orderIn, bookIn, dayIn, dayRow, dayBytes, bookBytes, over}
-use Rattle.records.proofs.Back.{length-book-in, day-back, book-back}
+use Rattle.octets.specs.Numbers.{AllBytes, parts}
+use Rattle.octets.proofs.Digits.{bytes-drop}
+use Rattle.records.specs.Layout.{Word, Fits, DayFits, numbers, orderIn, bookIn, dayIn, screenRow, dayBytes, bookBytes, over}
+use Rattle.records.proofs.Back.{numbers-fit, length-book-in, day-back, book-back}
+use Rattle.chains.proofs.Ranges.{WordRange}
+use Rattle.chains.proofs.Shown.{screen-words, shown-surplus}
 
 abbrev pub WordAccount : Order → Type 0
 WordAccount o = Word (o .account)
 
 -- ---- numbers that are read from bytes
 
-power : (n : ℕ) → 1 ≤ 256 ^ n
-power zero = omega arith
-power (suc n) = let p = power n in omega (arith, p)
-
-few-bytes : (n : ℕ) (b : List ℕ) → length b ≤ n → AllBytes b → worth b < 256 ^ n
-unfolding worth
-few-bytes n [] h s = power n
-few-bytes zero (x ∷ b) h s = absurd (omega (arith, h))
-few-bytes (suc n) (x ∷ b) h s =
-    let w : worth b < 256 ^ n = few-bytes n b (omega (arith, h)) (λ i. s (suc i)) in
-    let x-byte : x < 256 = s 0 in
-    omega (arith, w, x-byte)
-
-at-most : {A : Type 0} (n : ℕ) (xs : List A) → length (take n xs) ≤ n
-at-most zero xs = omega arith
-at-most (suc n) [] = omega arith
-at-most (suc n) (x ∷ xs) = let r = at-most n xs in omega (arith, r)
-
 account-in : (b : List ℕ) → AllBytes b → WordAccount (orderIn b)
 unfolding numbers parts
-account-in b s = few-bytes 8 (take 8 (drop 8 b)) (at-most 8 (drop 8 b)) (bytes-take 8 (drop 8 b) (bytes-drop 8 b s))
+account-in b s = numbers-fit 5 1 b s
 
 each-part : (n : ℕ) (b : List ℕ) → AllBytes b → Each WordAccount (parts orderIn 40 n b)
 unfolding parts
@@ -138,8 +127,12 @@ each-fits : (book : List Order) → Each Fair book → Each WordAccount book →
 each-fits [] f a = tt
 each-fits (o ∷ os) f a = (order-fits o (f .0) (a .0), each-fits os (f .1) (a .1))
 
-day-words : (d : Day) (book : List Order) → SoundDay d book → HaltDay d → Each Word (dayRow d)
-day-words d book k h =
+day-words : (d : Day) (book : List Order) → Sound d book → WordRange d → DayFits d
+day-words d book s r =
+    let k : SoundDay d book = sound-day d book (s .1) in
+    let h : HaltDay d = sound-halt d book (s .1) in
+    let counted : d .screen ≡ screenOf d book (d .screen .high) (d .screen .low) = fits-counted d book (sound-screen d book (s .1)) in
+    let ranked : Ranked book = sound-ranked d book (and-both (s .0) (s .1)) in
     let shares : d .shares ≤ 500_000_000_000 = omega (arith, k .shares, k .issued) in
     let turnover : d .turnover < 2 ^ 64 = omega (arith, shares, k .most) in
     let prices : Word (d .first) × Word (d .last) = elim (ℕ-discrete (d .shares) 0) [
@@ -149,24 +142,29 @@ day-words d book k h =
     let halt : Word (d .halt) = elim (ℕ-discrete (d .halt) 0) [
       | yes z ↦ omega (arith, z)
       | no n ↦ omega (arith, running d h n .latest)
-    ] in (
+    ] in
+    let figs : List ℕ = d .close ∷ d .limited ∷ d .time ∷ d .issued ∷ d .shares ∷ d .turnover ∷ d .first ∷ d .last ∷ [] in
+    let figures : Each Word figs = (
       omega (arith, k .close .high),
-      (
-        omega (arith, k .limited),
-        (
-          omega (arith, k .time),
-          (omega (arith, k .issued), (omega (arith, shares), (turnover, (prices .0, (prices .1, (halt, (omega (arith, h .thirty), (omega (arith, h .sixty), tt)))))))),
-        ),
-      ),
-    )
+      (omega (arith, k .limited), (omega (arith, k .time), (omega (arith, k .issued), (omega (arith, shares), (turnover, (prices .0, (prices .1, tt))))))),
+    ) in
+    let marks : Each Word (d .halt ∷ d .used30 ∷ d .used60 ∷ []) = (halt, (omega (arith, h .thirty), (omega (arith, h .sixty), tt))) in
+    let screen : Each Word (screenRow (d .screen)) =
+    subst (λ (x : Screen). Each Word (screenRow x)) (sym counted)
+    (screen-words book ranked d (d .screen .high) (d .screen .low) (prices .1) (omega (arith, shares)) turnover (r .high) (r .low)) in
+    record {
+      words = each-append Word (figs ++ screenRow (d .screen)) (d .halt ∷ d .used30 ∷ d .used60 ∷ []) (each-append Word figs (screenRow (d .screen)) figures screen) marks;
+      surplus =
+          subst (λ (x : Screen). mag (x .surplus) < 2 ^ 63) (sym counted) (shown-surplus book ranked d (d .screen .high) (d .screen .low));
+    }
 
 abbrev pub both : Day → List Order → Desk
 both d book = record { day = d; book = book }
 
-module _ (d : Day) (book : List Order) (k : Sound d book) where
+module _ (d : Day) (book : List Order) (k : Sound d book) (r : WordRange d) where
   day-read : (day : List ℕ) → dayIn (over (dayBytes d) day) ≡ d
   unfolding over
-  day-read day = day-back d (drop (length (dayBytes d)) day) (day-words d book (sound-day d book (k .1)) (sound-halt d book (k .1)))
+  day-read day = day-back d (drop (length (dayBytes d)) day) (day-words d book k r)
 
   book-read : (b : List ℕ) → Each WordAccount book → length book ≡ length (bookIn b) → bookIn (over (bookBytes book) b) ≡ book
   book-read b a e =

@@ -260,15 +260,15 @@ module _ (m : Memory) (o : OpenedOn m) (ls : List (Link door)) (c : Chained door
     room : HasDay (lastLeft door m ls)
     room = chain-holds door HasDay keeps-step ls m (begun-room m o) begins-sound c
 
-    told : Answers (Cancelled (cancelCall (here .day) account number (here .book) .reply)) reply g
+    told : Answers (Cancelled (cancelCall (here .day) account number (here .book) .answer .reply)) reply g
     unfolding seen eventSeen present cancels
     told = shows (Cancel account number reply) (lastLeft door m ls) g n room p
 
-    withdrawn : (q : ℕ) × (cancelCall (here .day) account number (here .book) .reply ≡ CancelReply.the-variants.Withdrawn q)
+    withdrawn : (q : ℕ) × (cancelCall (here .day) account number (here .book) .answer .reply ≡ CancelReply.the-variants.Withdrawn q)
     unfolding numbersIn cancelNumbers
     withdrawn =
         cancel-cases (here .day) account number (here .book)
-        (λ (x : CancelOutcome). returned (cancelNumbers (x .reply)) ≡ 0 → (q : ℕ) × (x .reply ≡ CancelReply.the-variants.Withdrawn q))
+        (λ (x : CancelOutcome). returned (cancelNumbers (x .answer .reply)) ≡ 0 → (q : ℕ) × (x .answer .reply ≡ CancelReply.the-variants.Withdrawn q))
         (λ _ _. (_, refl))
         (λ k e. absurd (k e))
         (sym (told .returns) ∙ z)
@@ -294,7 +294,7 @@ module _ (m : Memory) (o : OpenedOn m) (ls : List (Link door)) (c : Chained door
           accepted =
               some-owned account number ls (deskIn m) begins-sound (goes .runs .shown)
               (goes .told .running .cancels-own account number q
-              (subst (λ (s : Desk). cancelCall (s .day) account number (s .book) .reply ≡ CancelReply.the-variants.Withdrawn q) last-desk e));
+              (subst (λ (s : Desk). cancelCall (s .day) account number (s .book) .answer .reply ≡ CancelReply.the-variants.Withdrawn q) last-desk e));
         }
 
 pub for-c : ForC
@@ -309,8 +309,8 @@ for-c =
           untouched.clock-refused day book trades (reply .bytes) (day' .bytes) (book' .bytes) (trades' .bytes) (reply' .bytes) r time;
       order-refused = λ day book trades reply day' book' trades' reply' a r.
           untouched.order-refused day book trades (reply .bytes) (day' .bytes) (book' .bytes) (trades' .bytes) (reply' .bytes) r a;
-      cancel-refused = λ day book reply book' reply' account number r.
-          untouched.cancel-refused day book (reply .bytes) (book' .bytes) (reply' .bytes) account number r;
+      cancel-refused = λ day book reply day' book' reply' account number r.
+          untouched.cancel-refused day book (reply .bytes) (day' .bytes) (book' .bytes) (reply' .bytes) account number r;
       list-refused = λ day book prices reply prices' reply' asked r.
           untouched.list-refused day book prices (reply .bytes) (prices' .bytes) (reply' .bytes) asked r;
     }

@@ -22,9 +22,10 @@ use Rattle.demands.proofs.Chains.{from-opening}
 use Rattle.demands.proofs.Demands.{keeping}
 use Rattle.demands.proofs.Elements.{each-map}
 use Rattle.records.specs.Layout.{dayIn, dayBytes, bookIn, bookBytes, over, returned}
-use Rattle.wire.specs.Exports.{hasDay, openOn, dayLeft, OpenLeft, openLeaves}
+use Rattle.wire.specs.Exports.{hasDay, openOn, dayLeft, BookLeft, openLeaves}
 use Rattle.wire.specs.Promises.{OpenPromise}
 use Rattle.chains.specs.Bytes.{Memory, deskIn, door, OpenedOn, ByteChains}
+use Rattle.chains.proofs.Ranges.{fresh-range}
 use Rattle.chains.proofs.Fitting.{WordAccount, both, desk-read}
 use Rattle.chains.proofs.Bytes.{HasDay, day-room, keeps-step}
 
@@ -61,7 +62,7 @@ cleared-places book = length-map book (λ (_ : Order). free)
 module _ (day book reply day' book' reply' : List ℕ) (close mark : ℕ) (p : OpenPromise day book reply close mark 0 day' book' reply') where
   told : returned (openNumbers (openOn close mark day book .reply)) ≡ 0
   unfolding openLeaves
-  told = ap (λ (x : OpenLeft). x .returns) (sym p)
+  told = ap (λ (x : BookLeft). x .returns) (sym p)
 
   opening-by :
       (b : Bool) → hasDay day ≡ b → (hasDay day ≡ true) × (openOn close mark day book ≡ openCall close mark (bookIn book))
@@ -84,11 +85,11 @@ module _ (day book reply day' book' reply' : List ℕ) (close mark : ℕ) (p : O
 
   left-day : day' ≡ over (dayBytes (freshDay close mark)) day
   unfolding openLeaves dayLeft
-  left-day = ap (λ (x : OpenLeft). x .day) p ∙ ap (λ (o : OpenOutcome). dayLeft (o .reply) day) outcome
+  left-day = ap (λ (x : BookLeft). x .day) p ∙ ap (λ (o : OpenOutcome). dayLeft (o .reply) day) outcome
 
   left-book : book' ≡ over (bookBytes (cleared (bookIn book))) book
   unfolding openLeaves
-  left-book = ap (λ (x : OpenLeft). x .book) p ∙ ap (λ (o : OpenOutcome). over (bookBytes (o .book)) book) outcome
+  left-book = ap (λ (x : BookLeft). x .book) p ∙ ap (λ (o : OpenOutcome). over (bookBytes (o .book)) book) outcome
 
   begins : Sound (freshDay close mark) (cleared (bookIn book))
   begins =
@@ -100,7 +101,7 @@ module _ (day book reply day' book' reply' : List ℕ) (close mark : ℕ) (p : O
   stored : both (dayIn day') (bookIn book') ≡ both (freshDay close mark) (cleared (bookIn book))
   stored =
       rw (left-day, left-book)
-      (desk-read (freshDay close mark) (cleared (bookIn book)) begins day book (cleared-words (bookIn book)) (cleared-places (bookIn book)))
+      (desk-read (freshDay close mark) (cleared (bookIn book)) begins (fresh-range close mark) day book (cleared-words (bookIn book)) (cleared-places (bookIn book)))
 
   room : hasDay day' ≡ true
   room = rw left-day (day-room (freshDay close mark) day had-day)

@@ -31,7 +31,7 @@ use Rattle.records.specs.Layout.{dayIn, bookIn, tradesIn, pricesIn, returned}
 use Rattle.records.proofs.Back.{length-trades-in}
 use Rattle.replies.specs.Words.{word, reportWords}
 use Rattle.model.specs.Replies as replies
-use Rattle.wire.specs.Exports.{hasDay, openOn, OpenLeft, openLeaves, TradeLeft, tradeLeaves, orderLeaves, clockLeaves, cancelOn, CancelLeft, cancelLeaves, reportOn, ReportLeft, reportLeaves, listOn, ListLeft, listLeaves}
+use Rattle.wire.specs.Exports.{hasDay, BookLeft, openOn, openLeaves, TradeLeft, tradeLeaves, orderLeaves, clockLeaves, cancelLeaves, reportOn, ReportLeft, reportLeaves, listOn, ListLeft, listLeaves}
 use Rattle.wire.specs.Promises.{Bytes}
 use Rattle.chains.specs.Bytes.{numbersIn}
 use Rattle.chains.specs.Returning.{Exactly, withDay, Returning}
@@ -69,10 +69,10 @@ clock-first d t book lent =
 
 cancel-first :
     (d : Day) (account number : ℕ) (book : List Order)
-    → returned (cancelNumbers (cancelCall d account number book .reply)) ≡ firstOf (cancelRules d account number book)
+    → returned (cancelNumbers (cancelCall d account number book .answer .reply)) ≡ firstOf (cancelRules d account number book)
 unfolding cancelCall cancelNumbers
 cancel-first d account number book =
-    by-first (λ (o : CancelOutcome). returned (cancelNumbers (o .reply))) (firstOf (cancelRules d account number book)) _ _ refl refl
+    by-first (λ (o : CancelOutcome). returned (cancelNumbers (o .answer .reply))) (firstOf (cancelRules d account number book)) _ _ refl refl
 
 priced-first : (p : ℕ) (book : List Order) → returned (reportWords (reportAt p book)) ≡ 0
 unfolding numbersIn
@@ -117,11 +117,11 @@ fifteen : _≡_ {A = ℕ} 15 0 → ⊥
 fifteen e = omega (arith, e)
 
 pub returning : Returning
-unfolding openLeaves openOn openNumbers clockLeaves orderLeaves tradeLeaves clockNumbers orderNumbers cancelLeaves cancelOn cancelNumbers reportLeaves reportOn reportWords replies.reportNumbers word listLeaves listOn listNumbers
+unfolding openLeaves openOn openNumbers clockLeaves orderLeaves tradeLeaves clockNumbers orderNumbers cancelLeaves cancelNumbers reportLeaves reportOn reportWords replies.reportNumbers word listLeaves listOn listNumbers
 returning =
     record {
       opening = λ day book reply day' book' reply' close mark r p.
-          let e = ap (λ (x : OpenLeft). x .returns) p in
+          let e = ap (λ (x : BookLeft). x .returns) p in
           by-day (openRules close mark (bookIn book)) (open-numbers close mark (bookIn book)) 14 fourteen day (λ h. rw h at e)
           (λ h. (rw h at e) ∙ open-first close mark (bookIn book));
       clock = λ day book trades reply day' book' trades' reply' time r p.
@@ -140,8 +140,8 @@ returning =
           day
           (λ h. rw h at e)
           (λ h. (rw h at e) ∙ order-first (dayIn day) a (bookIn book) (tradesIn trades)));
-      cancel = λ day book reply book' reply' account number r p.
-          let e = ap (λ (x : CancelLeft). x .returns) p in
+      cancel = λ day book reply day' book' reply' account number r p.
+          let e = ap (λ (x : BookLeft). x .returns) p in
           by-day (cancelRules (dayIn day) account number (bookIn book)) (cancel-numbers (dayIn day) account number (bookIn book)) 15 fifteen day
           (λ h. rw h at e)
           (λ h. (rw h at e) ∙ cancel-first (dayIn day) account number (bookIn book));

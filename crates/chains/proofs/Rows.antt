@@ -21,7 +21,7 @@ shows (Clock t trades) m g n (p, d) =
     ap (λ (o : Outcome ClockAnswer). Moved (o .answer .reply) (o .answer .made) (o .trades)) (sym p)
 shows (Order a trades) m g n (p, d) =
     ap (λ (o : Outcome OrderAnswer). Entered (o .answer .reply) (o .answer .made) (o .trades)) (sym p)
-shows (Cancel account number) m g n (p, d) = ap (λ (o : CancelOutcome). Cancelled (o .reply)) (sym p)
+shows (Cancel account number) m g n (p, d) = ap (λ (o : CancelOutcome). Cancelled (o .answer .reply)) (sym p)
 shows Report m g n (p, d) = ap Reported (sym p)
 shows (Prices asked prices) m g n (p, d) = ap (λ (o : ListOutcome). Listed (o .reply) (o .prices)) (sym p)
 
@@ -35,7 +35,7 @@ leaves (Order a trades) m g n (p, d) =
     ∙ ap (λ (o : Outcome OrderAnswer). record { day = o .answer .day; book = o .book }) p
 leaves (Cancel account number) m g n (p, d) =
     ap (λ (x : Day). record { day = x; book = bookOf (n .rows) }) d
-    ∙ ap (λ (o : CancelOutcome). record { day = m .day; book = o .book }) p
+    ∙ ap (λ (o : CancelOutcome). record { day = o .answer .day; book = o .book }) p
 leaves Report m g n (p, d) = ap (λ (x : Memory). record { day = x .day; book = bookOf (x .rows) }) d
 leaves (Prices asked prices) m g n (p, d) = ap (λ (x : Memory). record { day = x .day; book = bookOf (x .rows) }) d
 

@@ -21,7 +21,7 @@ use Rattle.model.specs.Replies.{openNumbers, orderNumbers, cancelNumbers, clock
 use Rattle.demands.proofs.Refusals.{untouched}
 use Rattle.records.specs.Layout.{bytes, dayIn, dayBytes, bookIn, bookBytes, tradesIn, tradesBytes, pricesIn, over, returned}
 use Rattle.records.proofs.Back.{day-kept, book-kept, trades-kept, prices-kept}
-use Rattle.wire.specs.Exports.{hasDay, openOn, dayLeft, OpenLeft, openLeaves, TradeLeft, tradeLeaves, orderLeaves, clockLeaves, cancelOn, CancelLeft, cancelLeaves, listOn, ListLeft, listLeaves}
+use Rattle.wire.specs.Exports.{hasDay, BookLeft, openOn, dayLeft, openLeaves, TradeLeft, tradeLeaves, orderLeaves, clockLeaves, cancelLeaves, listOn, ListLeft, listLeaves}
 use Rattle.wire.specs.Promises.{OpenPromise, ClockPromise, OrderPromise, CancelPromise, ListPromise}
 use Rattle.chains.specs.Bytes.{Slice}
 
@@ -145,17 +145,20 @@ module _ (day book : Slice) where
       let r = open-refusal (openCall close mark (bookIn (book .bytes)) .reply) m in
       rw h (untouched .opening close mark (r .0) (bookIn (book .bytes)) (r .1))
 
-  cancel-book :
-      (account number : ℕ) (b : Bool) → hasDay (day .bytes) ≡ b
-      → (returned (cancelNumbers (cancelOn (day .bytes) account number (book .bytes) .reply)) ≡ 0 → ⊥)
-      → cancelOn (day .bytes) account number (book .bytes) .book ≡ bookIn (book .bytes)
-  unfolding cancelOn
-  cancel-book account number false h n = rw h refl
-  cancel-book account number true h n =
+  cancel-by :
+      (account number : ℕ) (reply : List ℕ) (b : Bool) → hasDay (day .bytes) ≡ b
+      → let x : BookLeft = cancelLeaves account number (day .bytes) (book .bytes) reply in
+      (x .returns ≡ 0 → ⊥) → (x .day ≡ day .bytes) × (x .book ≡ book .bytes)
+  unfolding cancelLeaves
+  cancel-by account number reply false h n = rw h (refl, refl)
+  cancel-by account number reply true h n =
       let o = cancelCall (dayIn (day .bytes)) account number (bookIn (book .bytes)) in
-      let m : returned (cancelNumbers (o .reply)) ≡ 0 → ⊥ = rw h at n in
-      let r = cancel-refusal (o .reply) m in
-      rw h (untouched .cancel (dayIn (day .bytes)) account number (r .0) (bookIn (book .bytes)) (r .1))
+      let m : returned (cancelNumbers (o .answer .reply)) ≡ 0 → ⊥ = rw h at n in
+      let r = cancel-refusal (o .answer .reply) m in
+      let k = untouched .cancel (dayIn (day .bytes)) account number (r .0) (bookIn (book .bytes)) (r .1) in
+      let d : over (dayBytes (o .answer .day)) (day .bytes) ≡ day .bytes = rw (k .0) (day-kept (day .bytes) (eqb-true _ _ h) (day .are)) in
+      let b : over (bookBytes (o .book)) (book .bytes) ≡ book .bytes = rw (k .1) (book-kept (book .bytes) (book .are)) in
+      rw h (d, b)
 
   list-prices :
       (asked : ℕ) (prices : List ℕ) (b : Bool) → hasDay (day .bytes) ≡ b
@@ -177,22 +180,21 @@ module _ (day book : Slice) where
   unfolding openLeaves dayLeft
   open-refused reply day' book' reply' close mark r p n =
       let o = openOn close mark (day .bytes) (book .bytes) in
-      let m : returned (openNumbers (o .reply)) ≡ 0 → ⊥ = λ z. n (ap (λ (x : OpenLeft). x .returns) p ∙ z) in
+      let m : returned (openNumbers (o .reply)) ≡ 0 → ⊥ = λ z. n (ap (λ (x : BookLeft). x .returns) p ∙ z) in
       let k = open-book close mark (hasDay (day .bytes)) refl m in
       let e : dayLeft (o .reply) (day .bytes) ≡ day .bytes = rw (open-refusal (o .reply) m .1) refl in (
-        ap (λ (x : OpenLeft). x .day) p ∙ e,
-        ap (λ (x : OpenLeft). x .book) p ∙ rw k (book-kept (book .bytes) (book .are)),
+        ap (λ (x : BookLeft). x .day) p ∙ e,
+        ap (λ (x : BookLeft). x .book) p ∙ rw k (book-kept (book .bytes) (book .are)),
       )
 
   pub cancel-refused :
-      (reply book' reply' : List ℕ) (account number r : ℕ)
-      → CancelPromise (day .bytes) (book .bytes) reply account number r book' reply'
+      (reply day' book' reply' : List ℕ) (account number r : ℕ)
+      → CancelPromise (day .bytes) (book .bytes) reply account number r day' book' reply'
       → (r ≡ 0 → ⊥)
-      → book' ≡ book .bytes
-  unfolding cancelLeaves
-  cancel-refused reply book' reply' account number r p n =
-      let k = cancel-book account number (hasDay (day .bytes)) refl (λ z. n (ap (λ (x : CancelLeft). x .returns) p ∙ z)) in
-      ap (λ (x : CancelLeft). x .book) p ∙ rw k (book-kept (book .bytes) (book .are))
+      → (day' ≡ day .bytes) × (book' ≡ book .bytes)
+  cancel-refused reply day' book' reply' account number r p n =
+      let k = cancel-by account number reply (hasDay (day .bytes)) refl (λ z. n (ap (λ (x : BookLeft). x .returns) p ∙ z)) in
+      (ap (λ (x : BookLeft). x .day) p ∙ k .0, ap (λ (x : BookLeft). x .book) p ∙ k .1)
 
   pub list-refused :
       (prices : Slice) (reply prices' reply' : List ℕ) (asked r : ℕ)

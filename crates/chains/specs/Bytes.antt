@@ -53,8 +53,7 @@ Promise (Order a w trades reply) m g n =
     (g .list .bytes)
     (g .answer .buffer .bytes)
 Promise (Cancel account number reply) m g n =
-    CancelPromise (m .day .bytes) (m .book .bytes) (reply .bytes) account number (g .returns) (n .book .bytes) (g .buffer .bytes)
-    × (n .day .bytes ≡ m .day .bytes)
+    CancelPromise (m .day .bytes) (m .book .bytes) (reply .bytes) account number (g .returns) (n .day .bytes) (n .book .bytes) (g .buffer .bytes)
 Promise (Report reply) m g n =
     ReportPromise (m .day .bytes) (m .book .bytes) (reply .bytes) (g .returns) (g .buffer .bytes)
     × (n .day .bytes ≡ m .day .bytes)

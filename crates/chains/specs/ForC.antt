@@ -113,10 +113,10 @@ pub record ForC : Type 0 where
       → (r ≡ 0 → ⊥)
       → (day' .bytes ≡ day .bytes) × (book' .bytes ≡ book .bytes) × (trades' .bytes ≡ trades .bytes)
   pub cancel-refused :
-      (day book reply book' reply' : Slice) (account number r : ℕ)
-      → CancelPromise (day .bytes) (book .bytes) (reply .bytes) account number r (book' .bytes) (reply' .bytes)
+      (day book reply day' book' reply' : Slice) (account number r : ℕ)
+      → CancelPromise (day .bytes) (book .bytes) (reply .bytes) account number r (day' .bytes) (book' .bytes) (reply' .bytes)
       → (r ≡ 0 → ⊥)
-      → book' .bytes ≡ book .bytes
+      → (day' .bytes ≡ day .bytes) × (book' .bytes ≡ book .bytes)
   pub list-refused :
       (day book prices reply prices' reply' : Slice) (asked r : ℕ)
       → ListPromise (day .bytes) (book .bytes) (prices .bytes) (reply .bytes) asked r (prices' .bytes) (reply' .bytes)

@@ -37,7 +37,7 @@ unfoldable pub dayThen : Day → Answer.Answer → Day
 dayThen d (Answer.the-variants.Open r) = d
 dayThen d (Answer.the-variants.Clock a) = a .day
 dayThen d (Answer.the-variants.Order a) = a .day
-dayThen d (Answer.the-variants.Cancel r) = d
+dayThen d (Answer.the-variants.Cancel a) = a .day
 
 abbrev pub Promise : (a : Asks) → Desk → Gives a → Desk → Type 0
 Promise (Takes e w trades) m g n =
@@ -58,7 +58,7 @@ unfoldable pub seenIn : Answer.Answer → List Trade → Seen
 seenIn (Answer.the-variants.Open r) trades = Opened r
 seenIn (Answer.the-variants.Clock a) trades = Moved (a .reply) (a .made) trades
 seenIn (Answer.the-variants.Order a) trades = Entered (a .reply) (a .made) trades
-seenIn (Answer.the-variants.Cancel r) trades = Cancelled r
+seenIn (Answer.the-variants.Cancel a) trades = Cancelled (a .reply)
 
 unfoldable pub toldIn : Told.Told → List ℕ → Seen
 toldIn (Told.the-variants.Report r) prices = Reported r

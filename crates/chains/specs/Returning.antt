@@ -40,8 +40,8 @@ pub record Returning : Type 0 where
       → OrderPromise day book trades reply a r day' book' trades' reply'
       → Exactly r (withDay 15 day (orderRules (dayIn day) a (bookIn book) (length trades / 48)))
   pub cancel :
-      (day book reply book' reply' : Bytes) (account number r : ℕ)
-      → CancelPromise day book reply account number r book' reply'
+      (day book reply day' book' reply' : Bytes) (account number r : ℕ)
+      → CancelPromise day book reply account number r day' book' reply'
       → Exactly r (withDay 15 day (cancelRules (dayIn day) account number (bookIn book)))
   pub report :
       (day book reply reply' : Bytes) (r : ℕ)

@@ -7,7 +7,7 @@ use Rattle.model.specs.declared.Day.{Day}
 use Rattle.model.specs.declared.OpenReply as OpenReply
 use Rattle.model.specs.declared.ClockAnswer.{ClockAnswer}
 use Rattle.model.specs.declared.OrderAnswer.{OrderAnswer}
-use Rattle.model.specs.declared.CancelReply.{CancelReply}
+use Rattle.model.specs.declared.CancelAnswer.{CancelAnswer}
 use Rattle.model.specs.declared.ReportReply.{ReportReply}
 use Rattle.model.specs.declared.ListReply.{ListReply}
 use Rattle.book.specs.Rows.{bookOf, tradesOf}
@@ -32,7 +32,7 @@ pub data Asks : Type 0 where
 abbrev pub Gives : Asks → Type 0
 Gives (Clock t trades) = Gave ClockAnswer Rows
 Gives (Order a trades) = Gave OrderAnswer Rows
-Gives (Cancel account number) = CancelReply
+Gives (Cancel account number) = CancelAnswer
 Gives Report = ReportReply
 Gives (Prices asked prices) = Gave ListReply (List ℕ)
 
@@ -43,7 +43,7 @@ Promise (Clock t trades) m g n =
 Promise (Order a trades) m g n =
     OrderPromise (m .day) (m .rows) trades a (g .answer) (n .rows) (g .list) × (n .day ≡ g .answer .day)
 Promise (Cancel account number) m g n =
-    CancelPromise (m .day) (m .rows) account number g (n .rows) × (n .day ≡ m .day)
+    CancelPromise (m .day) (m .rows) account number g (n .rows) × (n .day ≡ g .day)
 Promise Report m g n = ReportPromise (m .day) (m .rows) g × (n ≡ m)
 Promise (Prices asked prices) m g n = ListPromise (m .day) (m .rows) prices asked (g .answer) (g .list) × (n ≡ m)
 
@@ -58,7 +58,7 @@ call (Prices asked prices) = histories.Lists asked prices
 abbrev pub Shows : (a : Asks) → Seen → Gives a → Type 0
 Shows (Clock t trades) x g = x ≡ Moved (g .answer .reply) (g .answer .made) (tradesOf (g .list))
 Shows (Order a trades) x g = x ≡ Entered (g .answer .reply) (g .answer .made) (tradesOf (g .list))
-Shows (Cancel account number) x g = x ≡ Cancelled g
+Shows (Cancel account number) x g = x ≡ Cancelled (g .reply)
 Shows Report x g = x ≡ Reported g
 Shows (Prices asked prices) x g = x ≡ Listed (g .answer) (g .list)
 

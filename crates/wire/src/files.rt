@@ -1,7 +1,7 @@
 // A day file read: it writes the list of records and the reply, and only reads the file.
 use file_lists::found_numbers;
 use file_lists::list_records;
-use records::replies::put_reply;
+use records::buffers::put_reply;
 ghost use Rattle.wire.specs.Files.{ReadFilePromise};
 
 #[no_mangle]
