@@ -1,3 +1,2 @@
--- The laws behind a chunk's answers.
+-- A sound desk stays sound.
 pub mod SoundDesks
-pub mod LineByLine

@@ -1,7 +1,7 @@
 -- A sound desk stays sound, whatever a line asks for: a new day is sound, and every call keeps it so. Assumes nothing.
 use mathlib.Core.Path.{_≡_, refl}
 use mathlib.Core.Bool.{false, and-false}
-use mathlib.Core.List.{List, [], _∷_}
+use mathlib.Core.List.{List}
 use mathlib.Core.Option.{Option, none, some}
 use Rattle.model.specs.declared.Order.{Order}
 use Rattle.model.specs.declared.Day.{Day}
@@ -14,7 +14,6 @@ use Rattle.model.specs.Session.{Desk, opened, openAnswer, clockAnswer, orderAns
 use Rattle.model.specs.Words.{Sound}
 use Rattle.demands.proofs.Demands.{keeping}
 use Rattle.demands.proofs.Pricings.{not-unsound}
-use Rattle.text.specs.Answers.{deskAfter}
 use Rattle.desk.specs.Desks.{notSound, asksUnsound}
 use Rattle.chunks.specs.SoundDesk.{SoundDesk}
 
@@ -48,9 +47,3 @@ stays-sound (Asks (Event.the-variants.Order a)) none s = tt
 stays-sound (Asks (Event.the-variants.Order a)) (some k) s = keeping .order-kept (k .day) a (k .book) lentTrades s
 stays-sound (Asks (Event.the-variants.Cancel account number)) none s = tt
 stays-sound (Asks (Event.the-variants.Cancel account number)) (some k) s = keeping .cancel-kept (k .day) account number (k .book) s
-
--- over any number of lines
-pub sound-after : (cs : List Command) (desk : Option Desk) → SoundDesk desk → SoundDesk (deskAfter cs desk)
-unfolding deskAfter
-sound-after [] desk s = s
-sound-after (c ∷ cs) desk s = sound-after cs (answer c desk .desk) (stays-sound c desk s)

@@ -8,9 +8,11 @@ use text::reading::next_command;
 ghost use mathlib.Core.Path.{_≡_};
 ghost use Prim.Native.Nat.{_≤_};
 ghost use lib.ListN.{length};
+ghost use Rattle.text.specs.Answers.{rehearsal};
+ghost use Rattle.text.specs.Points.{Serves};
 ghost use Rattle.desk.specs.Desks.{deskOf};
 ghost use Rattle.chunks.specs.SoundDesk.{SoundDesk};
-ghost use Rattle.chunks.specs.Points.{pointOf, Serves, pastLine};
+ghost use Rattle.chunks.specs.Points.{pointOf, pastLine};
 
 // How far a chunk is answered: the desk, the place of the next line, whether that line began before the chunk and is too long,
 // the place after the replies that were put, and whether no line is left.
@@ -45,7 +47,7 @@ pub fn answer_lines(
     out: &mut [u8],
 ) -> Progress
     requires { ⌜ (length (now rows) ≡ 1024) × (length (now trades) ≡ 2048) × (262254 ≤ length (now out)) × (from .at ≤ length (now chunk)) × SoundDesk (deskOf (from .desk) (now rows)) ⌝ }
-    ensures { λ r. ⌜ Serves (now (chunk .entry)) (pointOf from (now (rows .entry))) (now (out .entry)) (now (rows .exit)) (now (out .exit)) r ⌝ }
+    ensures { λ r. ⌜ Serves rehearsal (now (chunk .entry)) (pointOf from (now (rows .entry))) (now (out .entry)) (now (out .exit)) (r .next) (r .done) (pointOf r (now (rows .exit))) ⌝ }
 {
     let room = out.len() - LONGEST_ANSWER;
     let start = from.desk;

@@ -8,7 +8,7 @@ use native.Mathlib.Omega.{arith}
 use Rattle.model.specs.declared.Command.{Command}
 use Rattle.model.specs.Lines.{Line, linesOf, lineCommand}
 use Rattle.model.specs.Session.{Desk, answer, session}
-use Rattle.text.specs.Answers.{repliesTo}
+use Rattle.text.specs.Answers.{rehearsal, repliesTo}
 use Rattle.text.proofs.Chunks.{Unended, Cut, cut, uncut, cut-up, ontoAll, grown-first, lines-ended, lines-open}
 use Rattle.text.proofs.Sessions.{answers-are}
 use Rattle.convert.specs.Older.{olderCommand, olderAnswers, olderSession}
@@ -68,7 +68,7 @@ lines-same input (uncut u) =
 
 -- ---- the session
 
-older-are : (ls : List Line) (desk : Option Desk) → olderAnswers ls desk ≡ repliesTo (map olderCommand ls) desk
+older-are : (ls : List Line) (desk : Option Desk) → olderAnswers ls desk ≡ repliesTo rehearsal (map olderCommand ls) desk
 unfolding olderAnswers repliesTo
 older-are [] desk = refl
 older-are (l ∷ ls) desk =
@@ -79,7 +79,7 @@ pub same-session : (input : List ℕ) → session (converted input) ≡ olderSes
 unfolding session olderSession
 same-session input =
     answers-are (linesOf (converted input)) none
-    ∙ ap (λ (cs : List Command). repliesTo cs none) (lines-same input (cut-up input))
+    ∙ ap (λ (cs : List Command). repliesTo rehearsal cs none) (lines-same input (cut-up input))
     ∙ sym (older-are (linesOf input) none)
 
 -- and for every line of it, on any desk: the same reply, and the same desk after it

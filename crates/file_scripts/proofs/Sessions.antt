@@ -22,7 +22,7 @@ use Rattle.model.specs.Refusals.{Rule, _when_, firstOf}
 use Rattle.model.specs.Calls.{orderRules, orderCall}
 use Rattle.model.specs.Session.{Desk, answer, answers, session, eventAnswer, onDesk, orderAnswer, lentTrades}
 use Rattle.model.proofs.Bools.{and-both, not-both}
-use Rattle.text.specs.Answers.{repliesTo}
+use Rattle.text.specs.Answers.{rehearsal, repliesTo}
 use Rattle.text.proofs.Sessions.{answers-are}
 use Rattle.file_records.specs.Records.{isWide, is32, isEvent}
 use Rattle.file_scripts.specs.Scripts.{commandsOf, stored, storedOf, scriptOf}
@@ -225,7 +225,7 @@ same-session :
 unfolding session
 same-session script =
     answers-are (linesOf (scriptOf (storedOf (commandsOf script)))) none
-    ∙ ap (λ (cs : List Command). repliesTo cs none)
+    ∙ ap (λ (cs : List Command). repliesTo rehearsal cs none)
     (script-asks (storedOf (commandsOf script)) (stored-held (linesOf script)) ∙ stored-asks (linesOf script))
     ∙ sym (answers-are (keep isStored (linesOf script)) none)
 

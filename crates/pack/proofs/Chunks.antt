@@ -9,10 +9,11 @@ use Rattle.model.specs.declared.Event.{Event}
 use Rattle.model.specs.declared.Command.{Command}
 use Rattle.model.specs.declared.Command.the-variants.{Malformed}
 use Rattle.model.specs.Lines.{linesOf, reply}
-use Rattle.text.specs.Chunks.{isLeft, commandsFrom, asksOf, tailOf, tailLong}
+use Rattle.text.specs.Readers.{asksOf, restAsks, commands}
+use Rattle.text.specs.Chunks.{isLeft, tailOf, tailLong}
 use Rattle.text.specs.Answers.{carryAfter, keptAfter}
 use Rattle.text.proofs.Chunks.{Unended, cut-up}
-use Rattle.text.proofs.Carrying.{kept-fits, carried, ended}
+use Rattle.text.proofs.Carrying.{kept-fits, commands-strict, carried, ended}
 use Rattle.text.proofs.Sessions.{split, tail-unended, part-unended}
 use Rattle.file_scripts.specs.Scripts.{commandsOf, stored, storedOf, toldFrom}
 use Rattle.pack.specs.Packing.{Packed, packed, newBlocks, lastBlock}
@@ -62,13 +63,13 @@ ending-is s =
 -- what a chunk asks for, and what is carried over goes on to ask for
 chunk-asks :
     (long : Bool) (chunk more : List ℕ)
-    → commandsFrom long (chunk ++ more)
-    ≡ asksOf long (linesOf chunk) ++ commandsFrom (carryAfter long chunk .long) (keptAfter long chunk ++ more)
+    → restAsks commands long (chunk ++ more)
+    ≡ asksOf commands long (linesOf chunk) ++ restAsks commands (carryAfter long chunk .long) (keptAfter long chunk ++ more)
 unfolding carryAfter keptAfter
 chunk-asks long chunk more =
-    split more chunk (cut-up chunk) long
-    ∙ ap (λ (cs : List Command). asksOf long (linesOf chunk) ++ cs)
-    (carried more (tailLong long (linesOf chunk)) (tailOf (linesOf chunk)) (tail-unended chunk (cut-up chunk)))
+    split commands more chunk (cut-up chunk) long
+    ∙ ap (λ (cs : List Command). asksOf commands long (linesOf chunk) ++ cs)
+    (carried commands commands-strict more (tailLong long (linesOf chunk)) (tailOf (linesOf chunk)) (tail-unended chunk (cut-up chunk)))
 
 kept-unended : (long : Bool) (chunk : List ℕ) → Unended (keptAfter long chunk)
 unfolding keptAfter
@@ -83,24 +84,24 @@ pub chunks-are :
     (bs : List (List ℕ)) (s : Between)
     → Unended (s .kept)
     → length (s .kept) ≡ s .carry .kept
-    → packedChunks s bs ≡ outcome (s .line) (s .events) (commandsFrom (s .carry .long) (s .kept ++ flatten bs))
+    → packedChunks s bs ≡ outcome (s .line) (s .events) (restAsks commands (s .carry .long) (s .kept ++ flatten bs))
 unfolding packedChunks flatten afterChunk
 chunks-are [] s u e =
     ending-is s
-    ∙ ap (outcome (s .line) (s .events)) (sym (ended (s .carry) (s .kept) u e) ∙ ap (commandsFrom (s .carry .long)) (sym (append-nil (s .kept))))
+    ∙ ap (outcome (s .line) (s .events)) (sym (ended commands commands-strict (s .carry) (s .kept) u e) ∙ ap (restAsks commands (s .carry .long)) (sym (append-nil (s .kept))))
 chunks-are (b ∷ bs) s u e =
     let long : Bool = s .carry .long in
     let chunk : List ℕ = s .kept ++ b in
-    let behind : List Command = commandsFrom (carryAfter long chunk .long) (keptAfter long chunk ++ flatten bs) in
+    let behind : List Command = restAsks commands (carryAfter long chunk .long) (keptAfter long chunk ++ flatten bs) in
     let more : packedChunks (afterChunk s b) bs ≡ outcome (s .line + length (asks s b)) (s .events ++ storedOf (asks s b)) behind =
     chunks-are bs (afterChunk s b) (kept-unended long chunk) (kept-long long chunk) in
     rw more
     (sym (outcome-more (s .line) (s .events) (asks s b) behind)
     ∙ ap (outcome (s .line) (s .events))
-    (sym (chunk-asks long chunk (flatten bs)) ∙ ap (commandsFrom long) (append-assoc (s .kept) b (flatten bs))))
+    (sym (chunk-asks long chunk (flatten bs)) ∙ ap (restAsks commands long) (append-assoc (s .kept) b (flatten bs))))
 
 -- however the script is cut into chunks
 pub chunk-by-chunk : (bs : List (List ℕ)) → packedChunks outset bs ≡ packed (flatten bs)
-unfolding outset packed commandsFrom
+unfolding outset packed restAsks
 chunk-by-chunk bs =
     chunks-are bs outset tt refl ∙ same (sym (file-is (storedOf (commandsOf (flatten bs))))) refl

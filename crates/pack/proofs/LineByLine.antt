@@ -12,7 +12,8 @@ use Rattle.model.specs.Lines.{linesOf, reply}
 use Rattle.printing.specs.Printing.{Wrote}
 use Rattle.printing.proofs.Printed.{nothing-put, and-then, put-as, reply-fits}
 use Rattle.text.specs.declared.NextCommand as NextCommand
-use Rattle.text.specs.Chunks.{asksOf, tailOf, tailLong, nextCommand}
+use Rattle.text.specs.Readers.{asksOf, commands}
+use Rattle.text.specs.Chunks.{tailOf, tailLong, nextCommand}
 use Rattle.text.proofs.Chunks.{Taken, taken, AllTaken, all-taken}
 use Rattle.file_records.specs.Records.{isWide}
 use Rattle.file_scripts.specs.Scripts.{stored, storedOf, told, toldFrom}
@@ -176,7 +177,7 @@ told-few line (c ∷ cs) = let g = told-few (suc line) cs in let h = one-short l
 -- the lines up to a place are packed
 pub record Going (chunk : List ℕ) (p₀ : Packing) (block₀ out₀ said₀ : List ℕ) (p : Packing) (block out said : List ℕ) : Type 0 where
   pub lines : List Command
-  pub asks : asksOf (p₀ .long) (linesOf chunk) ≡ lines ++ asksOf (p .long) (linesOf (drop (p .at) chunk))
+  pub asks : asksOf commands (p₀ .long) (linesOf chunk) ≡ lines ++ asksOf commands (p .long) (linesOf (drop (p .at) chunk))
   pub tail : tailOf (linesOf chunk) ≡ tailOf (linesOf (drop (p .at) chunk))
   pub still : tailLong (p₀ .long) (linesOf chunk) ≡ tailLong (p .long) (linesOf (drop (p .at) chunk))
   pub packs : Packs lines p₀ block₀ out₀ said₀ p block out said
@@ -204,8 +205,8 @@ module _ (chunk : List ℕ) (records line : ℕ) (long : Bool) (block₀ out₀ 
         nextCommand (p .long) chunk (p .at) ≡ NextCommand.the-variants.Tail
         → PacksChunk chunk p₀ block₀ out₀ said₀ p block out said
     going-end e =
-        let t : AllTaken chunk (p .at) (p .long) = all-taken chunk (p .at) (p .long) e in
-        let all : asksOf long (linesOf chunk) ≡ g .lines = g .asks ∙ rw (t .asks) (append-nil (g .lines)) in
+        let t : AllTaken chunk (p .at) commands (p .long) = all-taken chunk (p .at) (p .long) e in
+        let all : asksOf commands long (linesOf chunk) ≡ g .lines = g .asks ∙ rw (t .asks) (append-nil (g .lines)) in
         record {
           packs = rw all (g .packs);
           few = rw all (omega (arith, g .few, g .inside));
@@ -215,7 +216,7 @@ module _ (chunk : List ℕ) (records line : ℕ) (long : Bool) (block₀ out₀ 
         }
 
     module _ (command : Command) (place : ℕ) (e : nextCommand (p .long) chunk (p .at) ≡ NextCommand.the-variants.Found command place) where
-      next : Taken chunk (p .at) (p .long) command place
+      next : Taken chunk (p .at) commands (p .long) command place
       next = taken chunk (p .at) (p .long) command place e
 
       pub going-room :
@@ -247,7 +248,7 @@ module _ (chunk : List ℕ) (records line : ℕ) (long : Bool) (block₀ out₀ 
           → Packs (command ∷ []) p block out said r block′ out′ said′ × (r .at ≡ place) × (r .long ≡ false)
           → Going chunk p₀ block₀ out₀ said₀ r block′ out′ said′
       going-on {r} (k, at, long) =
-          let n : Taken chunk (p .at) (p .long) command place = next in
+          let n : Taken chunk (p .at) commands (p .long) command place = next in
           record {
             lines = g .lines ++ (command ∷ []);
             asks = g .asks ∙ rw (at, long, n .asks, append-assoc);
@@ -269,7 +270,7 @@ pub chunk-within :
     → 44 * length chunk ≤ length said
     → (r .filed ≤ length out) × (r .told ≤ length said)
 chunk-within chunk records line long block out said {r} k a b =
-    let cs : List Command = asksOf long (linesOf chunk) in
+    let cs : List Command = asksOf commands long (linesOf chunk) in
     let n : ℕ = length (storedOf cs) in
     let few : n ≤ length cs = stored-few cs in
     let short : length (toldFrom line cs) ≤ 44 * length cs = told-few line cs in

@@ -10,7 +10,8 @@ use Rattle.model.specs.declared.Command.the-variants.{Malformed}
 use Rattle.model.specs.Choice.{if_then_else_}
 use Rattle.model.specs.Lines.{linesOf, reply}
 use Rattle.text.specs.declared.Carry.{Carry}
-use Rattle.text.specs.Chunks.{isLeft, asksOf}
+use Rattle.text.specs.Readers.{asksOf, commands}
+use Rattle.text.specs.Chunks.{isLeft}
 use Rattle.text.specs.Answers.{carryAfter, keptAfter}
 use Rattle.file_scripts.specs.Scripts.{storedOf, toldFrom}
 use Rattle.pack.specs.Packing.{Packed, newBlocks, lastBlock}
@@ -28,7 +29,7 @@ outset = record { carry = record { kept = 0; long = false }; kept = []; line = 1
 
 -- what a chunk asks for, which is read after what was kept
 abbrev pub asks : Between → List ℕ → List Command
-asks s b = asksOf (s .carry .long) (linesOf (s .kept ++ b))
+asks s b = asksOf commands (s .carry .long) (linesOf (s .kept ++ b))
 
 unfoldable pub afterChunk : Between → List ℕ → Between
 afterChunk s b =

@@ -8,7 +8,8 @@ use Rattle.model.specs.declared.Event.{Event}
 use Rattle.model.specs.declared.Command.{Command}
 use Rattle.model.specs.Lines.{linesOf}
 use Rattle.printing.specs.Printing.{Wrote}
-use Rattle.text.specs.Chunks.{asksOf, tailOf, tailLong}
+use Rattle.text.specs.Readers.{asksOf, commands}
+use Rattle.text.specs.Chunks.{tailOf, tailLong}
 use Rattle.file_blocks.specs.Blocks.{filling}
 use Rattle.file_scripts.specs.Scripts.{storedOf, told, toldFrom}
 use Rattle.pack.specs.declared.Packing.{Packing}
@@ -46,8 +47,8 @@ pub record Packs (cs : List Command) (p : Packing) (block out said : List ℕ) (
 
 -- all lines that end in the chunk are packed, and the place of its tail is reached
 pub record PacksChunk (chunk : List ℕ) (p : Packing) (block out said : List ℕ) (r : Packing) (block′ out′ said′ : List ℕ) : Type 0 where
-  pub packs : Packs (asksOf (p .long) (linesOf chunk)) p block out said r block′ out′ said′
-  pub few : length (asksOf (p .long) (linesOf chunk)) ≤ length chunk
+  pub packs : Packs (asksOf commands (p .long) (linesOf chunk)) p block out said r block′ out′ said′
+  pub few : length (asksOf commands (p .long) (linesOf chunk)) ≤ length chunk
   pub inside : r .at ≤ length chunk
   pub tail : tailOf (linesOf chunk) ≡ drop (r .at) chunk
   pub still : tailLong (p .long) (linesOf chunk) ≡ r .long

@@ -5,7 +5,7 @@ use mathlib.Core.List.{List, [], _∷_, _++_}
 use lib.ListN.{length, take}
 use Rattle.model.specs.declared.Event.{Event}
 use Rattle.model.specs.Lines.{linesOf}
-use Rattle.text.specs.Chunks.{asksOf}
+use Rattle.text.specs.Readers.{asksOf, commands}
 use Rattle.text.specs.Answers.{carryAfter, keptAfter}
 use Rattle.file_scripts.specs.Scripts.{storedOf}
 use Rattle.pack.specs.Chunkwise.{Between, outset, afterChunk}
@@ -42,8 +42,8 @@ pub record Turned (buf block : List ℕ) (h : AfterChunk) (buf′ block′ : Lis
 pub record Steps (chunk : List ℕ) (h : AfterChunk) (block buf′ block′ : List ℕ) (r : AfterChunk) : Type 0 where
   pub carry : record { kept = r .kept; long = r .long } ≡ carryAfter (h .long) chunk
   pub kept : take (r .kept) buf′ ≡ keptAfter (h .long) chunk
-  pub line : r .line ≡ h .line + length (asksOf (h .long) (linesOf chunk))
+  pub line : r .line ≡ h .line + length (asksOf commands (h .long) (linesOf chunk))
   pub waits :
       (es : List Event)
       → Promises.Holds es (h .records) block
-      → Promises.Holds (es ++ storedOf (asksOf (h .long) (linesOf chunk))) (r .records) block′
+      → Promises.Holds (es ++ storedOf (asksOf commands (h .long) (linesOf chunk))) (r .records) block′

@@ -2,22 +2,23 @@
 -- nothing.
 use Prim.Native.Nat.{ℕ, _+_, _-_, _≤_, _<_}
 use mathlib.Core.Path.{_≡_, refl, sym, ap, _∙_}
-use mathlib.Core.Bool.{false}
+use mathlib.Core.Bool.{true, false}
 use mathlib.Core.List.{List, [], _∷_, _++_, append-nil}
 use mathlib.Core.Option.{Option, none, some}
 use native.Mathlib.Numerals.{add-one}
 use native.Mathlib.Omega.{arith}
 use lib.Dec.{eqb}
-use lib.ListN.{length, take, drop, getD, set, length-set, length-drop, drop-of-length-le}
+use lib.ListN.{length, take, drop, getD, set, length-set, length-drop, length-append, drop-of-length-le}
 use lib.Seq.{length-take-le, append-snoc, take-suc-set}
-use borrow.Author.Tests.{eqb-true}
+use borrow.Author.Tests.{eqb-true, le-leb, lt-leb}
 use Rattle.model.specs.declared.Command.the-variants.{Malformed, Asks}
 use Rattle.model.specs.declared.Event.the-variants.{Open, Clock, Order, Cancel}
 use Rattle.model.specs.Lines.{numberOf, commandOf}
 use Rattle.model.proofs.Bools.{not-true-false}
 use Rattle.parsing.specs.declared.Number.{Number}
 use Rattle.parsing.specs.declared.Number.the-variants.{Is, Bad}
-use Rattle.parsing.specs.Words.{askedOf, firstWord, found, numbersAfter, commandWith}
+use Rattle.parsing.specs.Words.{askedOf, firstWord, found, numbersAfter, Phrase, phraseWith, Formed}
+use Rattle.parsing.specs.declared.Form.{Form}
 use Rattle.parsing.proofs.Words.{ahead, word-fits, word-front, number-next, number-bad}
 
 -- the letter does not want this count
@@ -107,45 +108,51 @@ found-bad (some w) e = let z : _≡_ {A = ℕ} 0 1 = cc in absurd (omega arith)
 pub gather-starts : (s : List ℕ) → 1 ≤ length s → Gathered s (0 ∷ 0 ∷ 0 ∷ 0 ∷ 0 ∷ 0 ∷ []) 0 1
 gather-starts s h = record { long = refl; few = omega arith; within = h; all = ahead-none _ }
 
--- no letter wants a seventh number
+-- no line wants a seventh number
 seventh :
     (c : ℕ) (values : List ℕ)
     → length values ≡ 6
     → (v : ℕ) (o : Option (List ℕ))
-    → Malformed ≡ commandWith c (ahead (take 6 values) (ahead (v ∷ []) o))
-unfolding commandWith commandOf
+    → phraseWith c (ahead (take 6 values) (ahead (v ∷ []) o)) ≡ none
+unfolding phraseWith
 seventh c values h v none = refl
-seventh c values h v (some ns) = six (λ w. Malformed ≡ commandOf c (take 6 w ++ v ∷ ns)) (λ a b d e f g. refl) values h
+seventh c values h v (some ns) =
+    let l : length (take 6 values) ≡ 6 = length-take-le 6 values (omega arith) in
+    let m : 6 < length (take 6 values ++ v ∷ ns) = rw length-append (omega arith) in
+    rw (lt-leb _ _ m)
 
 module _ (s values : List ℕ) (n i : ℕ) (g : Gathered s values n i) where
-  pub gather-ends : (c : ℕ) → length s ≤ i → commandOf c (take n values) ≡ commandWith c (numbersAfter (drop 1 s))
-  unfolding numbersAfter commandWith
+  pub gather-ends : (c : ℕ) → length s ≤ i → Formed (record { said = true; letter = c; count = n; values = values }) (phraseWith c (numbersAfter (drop 1 s)))
+  unfolding numbersAfter phraseWith
   gather-ends c h =
       let none-left : ahead (take n values) (numbersAfter (drop i s)) ≡ some (take n values) =
       rw (drop-of-length-le s h) (ap (λ (l : List ℕ). some l) (append-nil (take n values)))
       in
-      sym (ap (commandWith c) (g .all ∙ none-left))
+      let few = g .few in
+      let long = g .long in
+      let l : length (take n values) ≡ n = length-take-le n values (omega arith) in
+      let m : length (take n values) ≤ 6 = omega arith in
+      record { few = few; phrase = sym (ap (phraseWith c) (g .all ∙ none-left) ∙ rw (le-leb _ _ m)) }
 
   module _ (h : i < length s) where
     abbrev word : List ℕ
     word = firstWord (drop (i + 1) s)
 
-    bad-word : (c : ℕ) → numberOf word ≡ none → Malformed ≡ commandWith c (numbersAfter (drop 1 s))
-    unfolding commandWith
-    bad-word c e = sym (ap (commandWith c) (g .all ∙ ap (ahead (take n values)) (number-bad s i h e)))
+    bad-word : (c : ℕ) → numberOf word ≡ none → phraseWith c (numbersAfter (drop 1 s)) ≡ none
+    unfolding phraseWith
+    bad-word c e = ap (phraseWith c) (g .all ∙ ap (ahead (take n values)) (number-bad s i h e))
 
-    pub gather-many : (c : ℕ) → n ≡ 6 → Malformed ≡ commandWith c (numbersAfter (drop 1 s))
+    pub gather-many : (c : ℕ) → n ≡ 6 → phraseWith c (numbersAfter (drop 1 s)) ≡ none
     gather-many c e = go (numberOf word) refl
       where
-        go : (o : Option ℕ) → numberOf word ≡ o → Malformed ≡ commandWith c (numbersAfter (drop 1 s))
+        go : (o : Option ℕ) → numberOf word ≡ o → phraseWith c (numbersAfter (drop 1 s)) ≡ none
         go none p = bad-word c p
         go (some v) p =
-            seventh c values (g .long) v (numbersAfter (drop (i + 1 + length word) s))
-            ∙ sym
-            (ap (commandWith c)
+            ap (phraseWith c)
             (g .all
             ∙ ap (λ (k : ℕ). ahead (take k values) (numbersAfter (drop i s))) e
-            ∙ ap (ahead (take 6 values)) (number-next s i h v p)))
+            ∙ ap (ahead (take 6 values)) (number-next s i h v p))
+            ∙ seventh c values (g .long) v (numbersAfter (drop (i + 1 + length word) s))
 
     -- the word ends at e, and o is what was made of it
     module _ (e : ℕ) (o : Number) (ends : e ≡ i + 1 + length word) (is : o ≡ found (numberOf (take (e - (i + 1)) (drop (i + 1) s)))) where
@@ -156,7 +163,7 @@ module _ (s values : List ℕ) (n i : ℕ) (g : Gathered s values n i) where
           ∙ ap (λ (k : ℕ). found (numberOf (take k (drop (i + 1) s)))) l
           ∙ ap (λ (w : List ℕ). found (numberOf w)) (word-front (drop (i + 1) s))
 
-      pub gather-bad : (c : ℕ) → o ≡ Bad → Malformed ≡ commandWith c (numbersAfter (drop 1 s))
+      pub gather-bad : (c : ℕ) → o ≡ Bad → phraseWith c (numbersAfter (drop 1 s)) ≡ none
       gather-bad c p = bad-word c (found-bad _ (sym heard ∙ p))
 
       pub gather-on : (v : ℕ) → (n ≡ 6 → ⊥) → o ≡ Is v → Gathered s (set values n v) (n + 1) e
@@ -177,3 +184,10 @@ module _ (s values : List ℕ) (n i : ℕ) (g : Gathered s values n i) where
                 ∙ ap (λ (l : List ℕ). ahead l (numbersAfter (drop (i + 1 + length word) s))) (sym t)
                 ∙ ap (λ (k : ℕ). ahead (take (n + 1) (set values n v)) (numbersAfter (drop k s))) (sym ends);
           }
+
+pub formed-as : {f : Form} {p q : Option Phrase} → Formed f p → p ≡ q → Formed f q
+formed-as r e = record { few = r .few; phrase = r .phrase ∙ e }
+
+-- a line of no form
+pub unsaid-form : {f : Form} {p : Option Phrase} → Formed f none → p ≡ none → Formed f p
+unsaid-form r e = formed-as r (sym e)

@@ -1,9 +1,10 @@
 // What a line asks for: a letter, and numbers, each after one space.
 ghost use mathlib.Core.Path.{_≡_};
+ghost use mathlib.Core.Option.{none};
 ghost use Prim.Native.Nat.{_+_, _≤_};
 ghost use lib.ListN.{length, take, drop};
 ghost use Rattle.model.specs.Lines.{bare, isDigit, numberOf, commandOf, lineCommand};
-ghost use Rattle.parsing.specs.Words.{firstWord, askedOf, found, numbersAfter, commandWith};
+ghost use Rattle.parsing.specs.Words.{firstWord, askedOf, found, numbersAfter, phraseWith, linePhrase, Formed};
 use model::Asked;
 use model::Command;
 use model::Event;
@@ -80,6 +81,26 @@ fn number_of(word: &[u8]) -> Number
     Number::Is(value)
 }
 
+// A line by its form: a letter and numbers, of which no line wants more than six, or not said at all.
+pub struct Form {
+    pub said: bool,
+    pub letter: u8,
+    pub count: usize,
+    pub values: [u64; 6],
+}
+
+// A line of no form.
+fn unsaid() -> Form
+    ensures { λ r. ⌜ Formed r none ⌝ }
+{
+    Form {
+        said: false,
+        letter: b' ',
+        count: 0,
+        values: [0; 6],
+    }
+}
+
 // Six numbers as an order that is asked for.
 fn asked(v: [u64; 6]) -> Asked
     ensures { λ r. ⌜ r ≡ askedOf v ⌝ }
@@ -95,7 +116,7 @@ fn asked(v: [u64; 6]) -> Asked
 }
 
 // A letter wants its own count of numbers.
-fn asked_for(letter: u8, n: usize, v: [u64; 6]) -> Command
+pub fn asked_for(letter: u8, n: usize, v: [u64; 6]) -> Command
     requires { ⌜ n ≤ 6 ⌝ }
     ensures { λ r. ⌜ r ≡ commandOf letter (take n v) ⌝ }
 {
@@ -120,40 +141,60 @@ fn asked_for(letter: u8, n: usize, v: [u64; 6]) -> Command
     Command::Malformed
 }
 
-// The letter with the numbers after it. No letter wants a seventh number.
-fn numbered(letter: u8, line: &[u8]) -> Command
+// The letter with the numbers after it.
+fn numbered(letter: u8, line: &[u8]) -> Form
     requires { ⌜ 1 ≤ length (now line) ⌝ }
-    ensures { λ r. ⌜ r ≡ commandWith letter (numbersAfter (drop 1 (now (line .entry)))) ⌝ }
+    ensures { λ r. ⌜ Formed r (phraseWith letter (numbersAfter (drop 1 (now (line .entry))))) ⌝ }
 {
     let mut values = [0u64; 6];
     let mut n: usize = 0;
     let mut i: usize = 1;
     while i < line.len() {
         if n == 6 {
-            return Command::Malformed;
+            return unsaid();
         }
         let start = i + 1;
         let end = word_end(line, start);
         let Number::Is(value) = number_of(&line[start..end]) else {
-            return Command::Malformed;
+            return unsaid();
         };
         values[n] = value;
         n = n + 1;
         i = end;
     }
-    asked_for(letter, n, values)
+    Form {
+        said: true,
+        letter,
+        count: n,
+        values,
+    }
 }
 
-// What a line asks for: its bytes without the newline, and whether it had one.
-pub fn command_of(line: &[u8], ended: bool) -> Command
-    ensures { λ r. ⌜ r ≡ lineCommand (record { text = now (line .entry); ended = ended }) ⌝ }
+// A line by its form: its bytes without the newline, and whether it had one.
+pub fn form_of(line: &[u8], ended: bool) -> Form
+    ensures { λ r. ⌜ Formed r (linePhrase (record { text = now (line .entry); ended = ended })) ⌝ }
 {
     if !ended || LONGEST_LINE < line.len() {
-        return Command::Malformed;
+        return unsaid();
     }
-    if line.len() < 2 || line[1] != b' ' {
-        return Command::Malformed;
+    if line.len() == 0 || line[0] == b' ' {
+        return unsaid();
+    }
+    if 1 < line.len() && line[1] != b' ' {
+        return unsaid();
     }
     let letter = line[0];
     numbered(letter, line)
+}
+
+// What a line asks for.
+pub fn command_of(line: &[u8], ended: bool) -> Command
+    ensures { λ r. ⌜ r ≡ lineCommand (record { text = now (line .entry); ended = ended }) ⌝ }
+{
+    let form = form_of(line, ended);
+    if !form.said {
+        return Command::Malformed;
+    }
+    let values = form.values;
+    asked_for(form.letter, form.count, values)
 }

@@ -70,7 +70,7 @@ pub refusal-fits : (n : ℕ) → length (refusalLine n) ≤ 110
 unfolding refusalLine
 refusal-fits n = let h = reply-fits 88 (n ∷ []) in omega arith
 
-answer-fits : (c n : ℕ) (values : List ℕ) → length values ≤ 5 → length (replyLine c (n ∷ values)) ≤ 110
+pub answer-fits : (c n : ℕ) (values : List ℕ) → length values ≤ 5 → length (replyLine c (n ∷ values)) ≤ 110
 unfolding replyLine
 answer-fits c n values h = go (eqb n 0)
   where

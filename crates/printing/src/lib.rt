@@ -30,7 +30,7 @@ fn digit(x: u64) -> u8
 }
 
 // The digits in front of the last are those of a tenth.
-fn put_digits(x: u64, out: &mut [u8], at: usize) -> usize
+pub fn put_digits(x: u64, out: &mut [u8], at: usize) -> usize
     requires { ⌜ at + 20 ≤ length (now out) ⌝ }
     ensures { λ r. ⌜ Wrote (now (out .entry)) at (digits 20 x) (now (out .exit)) r ⌝ }
 {
@@ -43,7 +43,7 @@ fn put_digits(x: u64, out: &mut [u8], at: usize) -> usize
     last + 1
 }
 
-fn put_byte(b: u8, out: &mut [u8], at: usize) -> usize
+pub fn put_byte(b: u8, out: &mut [u8], at: usize) -> usize
     requires { ⌜ at + 1 ≤ length (now out) ⌝ }
     ensures { λ r. ⌜ Wrote (now (out .entry)) at (b ∷ []) (now (out .exit)) r ⌝ }
 {
@@ -52,7 +52,7 @@ fn put_byte(b: u8, out: &mut [u8], at: usize) -> usize
 }
 
 // A number with a space in front.
-fn put_number(x: u64, out: &mut [u8], at: usize) -> usize
+pub fn put_number(x: u64, out: &mut [u8], at: usize) -> usize
     requires { ⌜ at + 21 ≤ length (now out) ⌝ }
     ensures { λ r. ⌜ Wrote (now (out .entry)) at (32 ∷ digits 20 x) (now (out .exit)) r ⌝ }
 {

@@ -1,3 +1,2 @@
--- The laws of a chunk that is served, and of the turns.
-pub mod Rounds
-pub mod Turns
+-- A refused line is the same refusal, whatever the desk.
+pub mod Malformed

@@ -20,10 +20,11 @@ ghost use mathlib.Core.List.{[]};
 ghost use mathlib.Core.Option.{none};
 ghost use lib.ListN.{length, take};
 ghost use Rattle.printing.specs.Printing.{Wrote};
-ghost use Rattle.text.specs.Answers.{chunkwise};
+ghost use Rattle.text.specs.Answers.{rehearsal, chunkwise};
+ghost use Rattle.text.specs.Points.{Onward, Through};
 ghost use Rattle.desk.specs.Desks.{deskOf};
 ghost use Rattle.chunks.specs.SoundDesk.{SoundDesk};
-ghost use Rattle.chunks.specs.Points.{pointOf, Onward, Through};
+ghost use Rattle.chunks.specs.Points.{pointOf};
 ghost use Rattle.rehearse.specs.Serving.{Steps, Reached, Turned};
 
 fn stopped(h: AfterChunk) -> AfterChunk
@@ -55,7 +56,7 @@ fn answer_chunk(
     out: &mut [u8],
 ) -> Progress
     requires { ⌜ (length (now rows) ≡ 1024) × (length (now trades) ≡ 2048) × (262254 ≤ length (now out)) × (from .at ≤ length (now chunk)) × SoundDesk (deskOf (from .desk) (now rows)) ⌝ }
-    ensures { λ r. ⌜ (r .done ≡ true → Onward (now (chunk .entry)) (pointOf from (now (rows .entry))) (pointOf r (now (rows .exit))) × Through (now (chunk .entry)) (pointOf r (now (rows .exit)))) ⌝ }
+    ensures { λ r. ⌜ (r .done ≡ true → Onward rehearsal (now (chunk .entry)) (pointOf from (now (rows .entry))) (pointOf r (now (rows .exit))) × Through rehearsal (now (chunk .entry)) (pointOf r (now (rows .exit)))) ⌝ }
 {
     let mut p = from;
     loop {
@@ -109,7 +110,7 @@ fn serve(
 // What is due at the end of the input: an unended line is refused.
 fn put_end(carry: Carry, out: &mut [u8]) -> usize
     requires { ⌜ 110 ≤ length (now out) ⌝ }
-    ensures { λ r. ⌜ Wrote (now (out .entry)) 0 (chunkwise carry [] none []) (now (out .exit)) r ⌝ }
+    ensures { λ r. ⌜ Wrote (now (out .entry)) 0 (chunkwise rehearsal carry [] none []) (now (out .exit)) r ⌝ }
 {
     if !is_left(carry) {
         return 0;

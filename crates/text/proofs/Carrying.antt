@@ -10,11 +10,10 @@ use lib.Dec.{ltb}
 use lib.ListN.{length, getD, take, drop, set, length-append, length-drop}
 use lib.Seq.{drop-cons, append-snoc, take-suc, take-length, set-at, getD-drop, getD-append-add, length-take-le, take-nil}
 use borrow.Author.Tests.{lt-ltb, le-ltb, ltb-true, ltb-false}
-use Rattle.model.specs.declared.Command.{Command}
-use Rattle.model.specs.declared.Command.the-variants.{Malformed}
-use Rattle.model.specs.Lines.{linesOf, lineCommand}
+use Rattle.model.specs.Lines.{linesOf}
 use Rattle.text.specs.declared.Carry.{Carry}
-use Rattle.text.specs.Chunks.{carryOf, CarriedOver, isLeft, afterFirst, commandsFrom}
+use Rattle.text.specs.Readers.{Reader, Strict, afterFirst, restAsks, commands}
+use Rattle.text.specs.Chunks.{carryOf, CarriedOver, isLeft}
 use Rattle.parsing.proofs.Forms.{unended-is, long-is}
 use Rattle.text.proofs.Chunks.{Unended, ontoAll, grown-first, firstText, firstEnded, lines-grow}
 
@@ -80,61 +79,65 @@ kept-few false t = go (ltb 79 (length t)) refl
     go true e = omega arith
     go false e = ltb-false 79 (length t) e
 
-module _ (more : List ℕ) where
-  -- more bytes of a line that is too long change nothing
-  long-on : (t : List ℕ) → Unended t → commandsFrom true (t ++ more) ≡ commandsFrom true more
-  unfolding commandsFrom ontoAll
-  long-on [] u = refl
-  long-on (b ∷ t) u = rw (lines-grow (b ∷ t) more u, grown-first b t (linesOf more))
+pub commands-strict : Strict commands
+commands-strict = record { unended = λ t. sym (unended-is t false refl); long = λ t b h. sym (long-is t b h) }
 
-  -- a line of 80 bytes is malformed, however it goes on
-  long-now : (t : List ℕ) → Unended t → 79 < length t → commandsFrom false (t ++ more) ≡ commandsFrom true more
-  unfolding commandsFrom ontoAll
-  long-now [] u h = absurd (omega arith)
-  long-now (b ∷ t) u h =
-      rw (lines-grow (b ∷ t) more u, grown-first b t (linesOf more))
-      (ap (λ (c : Command). c ∷ map lineCommand (afterFirst (linesOf more)))
-      (sym (long-is ((b ∷ t) ++ firstText (linesOf more)) (firstEnded (linesOf more)) (rw length-append (omega arith)))))
+module _ {A : Type 0} (r : Reader A) (strict : Strict r) where
+  module _ (more : List ℕ) where
+    -- more bytes of a line that is too long change nothing
+    long-on : (t : List ℕ) → Unended t → restAsks r true (t ++ more) ≡ restAsks r true more
+    unfolding restAsks ontoAll
+    long-on [] u = refl
+    long-on (b ∷ t) u = rw (lines-grow (b ∷ t) more u, grown-first b t (linesOf more))
 
-  pub carried :
-      (long : Bool) (t : List ℕ)
+    -- a line of 80 bytes is malformed, however it goes on
+    long-now : (t : List ℕ) → Unended t → 79 < length t → restAsks r false (t ++ more) ≡ restAsks r true more
+    unfolding restAsks ontoAll
+    long-now [] u h = absurd (omega arith)
+    long-now (b ∷ t) u h =
+        rw (lines-grow (b ∷ t) more u, grown-first b t (linesOf more))
+        (ap (λ (a : A). a ∷ map (r .asks) (afterFirst (linesOf more)))
+        (strict .long ((b ∷ t) ++ firstText (linesOf more)) (firstEnded (linesOf more)) (rw length-append (omega arith))))
+
+    pub carried :
+        (long : Bool) (t : List ℕ)
+        → Unended t
+        → restAsks r long (t ++ more) ≡ restAsks r (carryOf long t .long) (take (carryOf long t .kept) t ++ more)
+    unfolding carryOf
+    carried true t u = long-on t u
+    carried false t u = go (ltb 79 (length t)) refl
+      where
+        go :
+            (b : Bool)
+            → ltb 79 (length t) ≡ b
+            → restAsks r false (t ++ more)
+            ≡ restAsks r (kept-if b t .long) (take (kept-if b t .kept) t ++ more)
+        go true e = long-now t u (ltb-true 79 (length t) e)
+        go false e = ap (λ (l : List ℕ). restAsks r false (l ++ more)) (sym (take-length t))
+
+  -- an unended line at the end of the input is malformed
+  end-open : (t : List ℕ) → Unended t → restAsks r false t ≡ cond (ltb 0 (length t)) (r .malformed ∷ []) []
+  unfolding restAsks linesOf
+  end-open [] u = refl
+  end-open (b ∷ t) u =
+      sym (ap (λ (l : List ℕ). map (r .asks) (linesOf l)) (append-nil (b ∷ t)))
+      ∙ rw (lines-grow (b ∷ t) [] u, grown-first b t [], lt-ltb 0 (suc (length t)) (omega arith))
+      (ap (λ (a : A). a ∷ []) (strict .unended (b ∷ t ++ [])))
+
+  end-long : (t : List ℕ) → Unended t → restAsks r true t ≡ r .malformed ∷ []
+  unfolding restAsks linesOf
+  end-long t u = sym (ap (restAsks r true) (append-nil t)) ∙ long-on [] t u
+
+  pub ended :
+      (c : Carry) (t : List ℕ)
       → Unended t
-      → commandsFrom long (t ++ more) ≡ commandsFrom (carryOf long t .long) (take (carryOf long t .kept) t ++ more)
-  unfolding carryOf
-  carried true t u = long-on t u
-  carried false t u = go (ltb 79 (length t)) refl
+      → length t ≡ c .kept
+      → restAsks r (c .long) t ≡ cond (isLeft c) (r .malformed ∷ []) []
+  ended c t u e = go (c .long)
     where
-      go :
-          (b : Bool)
-          → ltb 79 (length t) ≡ b
-          → commandsFrom false (t ++ more)
-          ≡ commandsFrom (kept-if b t .long) (take (kept-if b t .kept) t ++ more)
-      go true e = long-now t u (ltb-true 79 (length t) e)
-      go false e = ap (λ (l : List ℕ). commandsFrom false (l ++ more)) (sym (take-length t))
-
--- an unended line at the end of the input is malformed
-end-open : (t : List ℕ) → Unended t → commandsFrom false t ≡ cond (ltb 0 (length t)) (Malformed ∷ []) []
-unfolding commandsFrom linesOf
-end-open [] u = refl
-end-open (b ∷ t) u =
-    sym (ap (λ (l : List ℕ). map lineCommand (linesOf l)) (append-nil (b ∷ t)))
-    ∙ rw (lines-grow (b ∷ t) [] u, grown-first b t [], lt-ltb 0 (suc (length t)) (omega arith))
-    (ap (λ (c : Command). c ∷ []) (sym (unended-is (b ∷ t ++ []) false refl)))
-
-end-long : (t : List ℕ) → Unended t → commandsFrom true t ≡ Malformed ∷ []
-unfolding commandsFrom linesOf
-end-long t u = sym (ap (commandsFrom true) (append-nil t)) ∙ long-on [] t u
-
-pub ended :
-    (c : Carry) (t : List ℕ)
-    → Unended t
-    → length t ≡ c .kept
-    → commandsFrom (c .long) t ≡ cond (isLeft c) (Malformed ∷ []) []
-ended c t u e = go (c .long)
-  where
-    go : (b : Bool) → commandsFrom b t ≡ cond (b || ltb 0 (c .kept)) (Malformed ∷ []) []
-    go true = end-long t u
-    go false = end-open t u ∙ ap (λ (k : ℕ). cond (ltb 0 k) (Malformed ∷ []) []) e
+      go : (b : Bool) → restAsks r b t ≡ cond (b || ltb 0 (c .kept)) (r .malformed ∷ []) []
+      go true = end-long t u
+      go false = end-open t u ∙ ap (λ (k : ℕ). cond (ltb 0 k) (r .malformed ∷ []) []) e
 
 -- ---- the buffer that is carried over
 

@@ -1,7 +1,7 @@
 -- Input read chunk by chunk is the definitions' input: a chunk's next line, what is carried over, and the end. Assumes
 -- nothing.
 use Prim.Native.Nat.{ℕ, suc, _+_, _-_, _≤_, _<_}
-use mathlib.Core.Path.{_≡_, refl, sym, ap, _∙_}
+use mathlib.Core.Path.{_≡_, refl, sym, ap, subst, _∙_}
 use mathlib.Core.Bool.{Bool, true, false, cond}
 use mathlib.Core.List.{List, [], _∷_, _++_, append-nil}
 use native.Mathlib.Nat.{add-zero}
@@ -17,7 +17,8 @@ use Rattle.model.specs.Lines.{Line, onto, linesOf, lineCommand}
 use Rattle.model.specs.Words.{Each}
 use Rattle.text.specs.declared.Bounds as Bounds
 use Rattle.text.specs.declared.NextCommand as NextCommand
-use Rattle.text.specs.Chunks.{asksOf, tailOf, tailLong, boundsAt, nextLine, asksAfter, commandAt, nextCommand, afterFirst}
+use Rattle.text.specs.Readers.{Reader, asksAfter, asksOf, afterFirst, commands}
+use Rattle.text.specs.Chunks.{tailOf, tailLong, boundsAt, nextLine, commandAt, nextCommand}
 
 -- ---- looking for the newline, byte by byte
 
@@ -108,10 +109,10 @@ unfolding linesOf
 lines-open t u = sym (ap linesOf (append-nil t)) ∙ lines-grow t [] u
 
 -- a tail asks for nothing
-pub open-asks : (t : List ℕ) (long : Bool) → asksOf long (ontoAll t []) ≡ []
+pub open-asks : {A : Type 0} (r : Reader A) (t : List ℕ) (long : Bool) → asksOf r long (ontoAll t []) ≡ []
 unfolding asksOf ontoAll
-open-asks [] long = refl
-open-asks (b ∷ t) long = rw (grown-first b t [])
+open-asks r [] long = refl
+open-asks r (b ∷ t) long = rw (grown-first b t [])
 
 pub open-tail : (t : List ℕ) → tailOf (ontoAll t []) ≡ t
 unfolding tailOf ontoAll
@@ -149,7 +150,7 @@ module _ (chunk : List ℕ) (at : ℕ) where
     unfolding nextLine boundsAt
     line-cut = rw (nextLine, first-ended)
 
-    command-cut : (long : Bool) → nextCommand long chunk at ≡ NextCommand.the-variants.Found (asksAfter long first) (at + length t + 1)
+    command-cut : (long : Bool) → nextCommand long chunk at ≡ NextCommand.the-variants.Found (asksAfter commands long first) (at + length t + 1)
     unfolding nextCommand commandAt
     command-cut long = rw (nextCommand, first-ended)
 
@@ -170,6 +171,11 @@ module _ (chunk : List ℕ) (at : ℕ) where
         ∙ ap (λ (l : List ℕ). drop (length t + 1) l) e
         ∙ drop-append-add t (10 ∷ rest) 1
 
+    cut-text : (start end : ℕ) → start ≡ at → end ≡ at + length t → take (end - start) (drop start chunk) ≡ t
+    cut-text start end f g =
+        let n : end - start ≡ length t = omega arith in
+        ap (λ (k : ℕ). take k (drop start chunk)) n ∙ ap (λ (k : ℕ). take (length t) (drop k chunk)) f ∙ first-text
+
   line-uncut : Unended there → nextLine chunk at ≡ Bounds.the-variants.Tail
   unfolding nextLine
   line-uncut u = rw (lines-open there u) (tail-bounds at at true there)
@@ -186,7 +192,7 @@ module _ (chunk : List ℕ) (at : ℕ) where
     pub asks :
         (long : Bool)
         → nextCommand long chunk at
-        ≡ NextCommand.the-variants.Found (asksAfter long (record { text = take (end - start) (drop start chunk); ended = true })) (end + 1)
+        ≡ NextCommand.the-variants.Found (asksAfter commands long (record { text = take (end - start) (drop start chunk); ended = true })) (end + 1)
 
   pub bounded : (start end : ℕ) → nextLine chunk at ≡ Bounds.the-variants.Found start end → Bounded start end
   bounded start end p = go (cut-up there)
@@ -197,19 +203,16 @@ module _ (chunk : List ℕ) (at : ℕ) where
           let f : start ≡ at = cc in
           let g : end ≡ at + length t = cc in
           let w = first-within t rest u e in
-          let n : end - start ≡ length t = omega arith in
           let m : at + length t + 1 ≡ end + 1 = omega arith in
-          let x : take (end - start) (drop start chunk) ≡ t =
-          ap (λ (k : ℕ). take k (drop start chunk)) n ∙ ap (λ (k : ℕ). take (length t) (drop k chunk)) f ∙ first-text t rest u e
-          in
+          let x = cut-text t rest u e start end f g in
           record {
             starts = f;
             ordered = omega arith;
             inside = omega arith;
             asks = λ long.
                 command-cut t rest u e long
-                ∙ ap (λ (l : List ℕ). NextCommand.the-variants.Found (asksAfter long (record { text = l; ended = true })) (at + length t + 1)) (sym x)
-                ∙ ap (NextCommand.the-variants.Found (asksAfter long (record { text = take (end - start) (drop start chunk); ended = true }))) m;
+                ∙ ap (λ (l : List ℕ). NextCommand.the-variants.Found (asksAfter commands long (record { text = l; ended = true })) (at + length t + 1)) (sym x)
+                ∙ ap (NextCommand.the-variants.Found (asksAfter commands long (record { text = take (end - start) (drop start chunk); ended = true }))) m;
           }
       go (uncut u) = let q = sym (line-uncut u) ∙ p in let z : _≡_ {A = ℕ} 0 1 = cc in absurd (omega arith)
 
@@ -231,58 +234,93 @@ module _ (chunk : List ℕ) (at : ℕ) where
       go (cut t rest u e _) = let q = sym (line-cut t rest u e) ∙ p in let z : _≡_ {A = ℕ} 0 1 = cc in absurd (omega arith)
       go (uncut u) = command-uncut long u
 
-  -- a line that was taken: the chunk asks for it, and then for what stands after it
-  pub record Taken (long : Bool) (command : Command) (place : ℕ) : Type 0 where
-    pub onward : at < place
-    pub inside : place ≤ length chunk
-    pub asks : asksOf long (linesOf there) ≡ command ∷ asksOf false (linesOf (drop place chunk))
-    pub tail : tailOf (linesOf there) ≡ tailOf (linesOf (drop place chunk))
-    pub still : tailLong long (linesOf there) ≡ tailLong false (linesOf (drop place chunk))
+  module _ {A : Type 0} (r : Reader A) where
+    -- a line that was taken: the chunk asks for it, and then for what stands after it
+    pub record Taken (long : Bool) (asked : A) (place : ℕ) : Type 0 where
+      pub onward : at < place
+      pub inside : place ≤ length chunk
+      pub asks : asksOf r long (linesOf there) ≡ asked ∷ asksOf r false (linesOf (drop place chunk))
+      pub tail : tailOf (linesOf there) ≡ tailOf (linesOf (drop place chunk))
+      pub still : tailLong long (linesOf there) ≡ tailLong false (linesOf (drop place chunk))
 
+    taken-cut :
+        (t rest : List ℕ) (u : Unended t) (e : there ≡ t ++ 10 ∷ rest) (long : Bool) (place : ℕ)
+        → at + length t + 1 ≡ place
+        → Taken long (asksAfter r long (first t rest u e)) place
+    unfolding asksOf tailOf tailLong
+    taken-cut t rest u e long place g =
+        let w = first-within t rest u e in
+        let l : linesOf there ≡ first t rest u e ∷ linesOf (drop place chunk) =
+        first-ended t rest u e
+        ∙ ap (λ (s : List ℕ). first t rest u e ∷ linesOf s) (sym (after-first t rest u e) ∙ ap (λ (k : ℕ). drop k chunk) g)
+        in
+        record {
+          onward = omega arith;
+          inside = omega arith;
+          asks = ap (asksOf r long) l;
+          tail = ap tailOf l;
+          still = ap (tailLong long) l;
+        }
+
+    -- no line is left: the rest is the chunk's tail
+    pub record AllTaken (long : Bool) : Type 0 where
+      pub unended : Unended there
+      pub asks : asksOf r long (linesOf there) ≡ []
+      pub tail : tailOf (linesOf there) ≡ there
+      pub still : tailLong long (linesOf there) ≡ long
+
+    taken-uncut : Unended there → (long : Bool) → AllTaken long
+    taken-uncut u long =
+        let l = lines-open there u in
+        record {
+          unended = u;
+          asks = ap (asksOf r long) l ∙ open-asks r there long;
+          tail = ap tailOf l ∙ open-tail there;
+          still = ap (tailLong long) l ∙ open-long there long;
+        }
+
+    -- by the bounds of the next line
+    pub taken-line :
+        (long : Bool) (start end : ℕ)
+        → nextLine chunk at ≡ Bounds.the-variants.Found start end
+        → Taken long (asksAfter r long (record { text = take (end - start) (drop start chunk); ended = true })) (end + 1)
+    taken-line long start end p = go (cut-up there)
+      where
+        go : Cut there → Taken long (asksAfter r long (record { text = take (end - start) (drop start chunk); ended = true })) (end + 1)
+        go (cut t rest u e _) =
+            let q = sym (line-cut t rest u e) ∙ p in
+            let f : start ≡ at = cc in
+            let g : end ≡ at + length t = cc in
+            subst (λ (l : List ℕ). Taken long (asksAfter r long (record { text = l; ended = true })) (end + 1))
+            (sym (cut-text t rest u e start end f g)) (taken-cut t rest u e long (end + 1) (omega arith))
+        go (uncut u) = let q = sym (line-uncut u) ∙ p in let z : _≡_ {A = ℕ} 0 1 = cc in absurd (omega arith)
+
+    pub none-taken : (long : Bool) → nextLine chunk at ≡ Bounds.the-variants.Tail → AllTaken long
+    none-taken long p = go (cut-up there)
+      where
+        go : Cut there → AllTaken long
+        go (cut t rest u e _) = let q = sym (line-cut t rest u e) ∙ p in let z : _≡_ {A = ℕ} 0 1 = cc in absurd (omega arith)
+        go (uncut u) = taken-uncut u long
+
+  -- by what ./run reads
   pub taken :
       (long : Bool) (command : Command) (place : ℕ)
       → nextCommand long chunk at ≡ NextCommand.the-variants.Found command place
-      → Taken long command place
-  unfolding asksOf tailOf tailLong
+      → Taken commands long command place
   taken long command place p = go (cut-up there)
     where
-      go : Cut there → Taken long command place
+      go : Cut there → Taken commands long command place
       go (cut t rest u e _) =
           let q = sym (command-cut t rest u e long) ∙ p in
-          let f : asksAfter long (first t rest u e) ≡ command = cc in
+          let f : asksAfter commands long (first t rest u e) ≡ command = cc in
           let g : at + length t + 1 ≡ place = cc in
-          let w = first-within t rest u e in
-          let l : linesOf there ≡ first t rest u e ∷ linesOf (drop place chunk) =
-          first-ended t rest u e
-          ∙ ap (λ (s : List ℕ). first t rest u e ∷ linesOf s) (sym (after-first t rest u e) ∙ ap (λ (k : ℕ). drop k chunk) g)
-          in
-          record {
-            onward = omega arith;
-            inside = omega arith;
-            asks = ap (asksOf long) l ∙ ap (λ (c : Command). c ∷ asksOf false (linesOf (drop place chunk))) f;
-            tail = ap tailOf l;
-            still = ap (tailLong long) l;
-          }
+          subst (λ (c : Command). Taken commands long c place) f (taken-cut commands t rest u e long place g)
       go (uncut u) = let q = sym (command-uncut long u) ∙ p in let z : _≡_ {A = ℕ} 0 1 = cc in absurd (omega arith)
 
-  -- no line is left: the rest is the chunk's tail
-  pub record AllTaken (long : Bool) : Type 0 where
-    pub unended : Unended there
-    pub asks : asksOf long (linesOf there) ≡ []
-    pub tail : tailOf (linesOf there) ≡ there
-    pub still : tailLong long (linesOf there) ≡ long
-
-  pub all-taken : (long : Bool) → nextCommand long chunk at ≡ NextCommand.the-variants.Tail → AllTaken long
+  pub all-taken : (long : Bool) → nextCommand long chunk at ≡ NextCommand.the-variants.Tail → AllTaken commands long
   all-taken long p = go (cut-up there)
     where
-      go : Cut there → AllTaken long
+      go : Cut there → AllTaken commands long
       go (cut t rest u e _) =
           let q = sym (command-cut t rest u e long) ∙ p in let z : _≡_ {A = ℕ} 0 1 = cc in absurd (omega arith)
-      go (uncut u) =
-          let l = lines-open there u in
-          record {
-            unended = u;
-            asks = ap (asksOf long) l ∙ open-asks there long;
-            tail = ap tailOf l ∙ open-tail there;
-            still = ap (tailLong long) l ∙ open-long there long;
-          }
+      go (uncut u) = taken-uncut commands u long

@@ -2,3 +2,5 @@
 pub mod Chunks
 pub mod Carrying
 pub mod Sessions
+pub mod LineByLine
+pub mod Turns

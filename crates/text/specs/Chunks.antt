@@ -3,16 +3,15 @@
 use Prim.Native.Nat.{ℕ, _+_}
 use mathlib.Core.Bool.{Bool, true, false, _||_}
 use mathlib.Core.Path.{_≡_}
-use mathlib.Core.List.{List, [], _∷_, _++_, map}
+use mathlib.Core.List.{List, [], _∷_, _++_}
 use lib.Dec.{ltb}
 use lib.ListN.{length, take, drop}
 use Rattle.model.specs.Choice.{if_then_else_}
-use Rattle.model.specs.declared.Command.{Command}
-use Rattle.model.specs.declared.Command.the-variants.{Malformed}
-use Rattle.model.specs.Lines.{Line, linesOf, lineCommand}
+use Rattle.model.specs.Lines.{Line, linesOf}
 use Rattle.text.specs.declared.Bounds as Bounds
 use Rattle.text.specs.declared.NextCommand as NextCommand
 use Rattle.text.specs.declared.Carry.{Carry}
+use Rattle.text.specs.Readers.{asksAfter, commands}
 
 -- the bounds of the first of some lines, which stands at a place, if it is ended
 unfoldable pub boundsAt : ℕ → ℕ → List Line → Bounds.Bounds
@@ -23,15 +22,11 @@ boundsAt start at (l ∷ ls) =
 unfoldable pub nextLine : List ℕ → ℕ → Bounds.Bounds
 nextLine chunk at = boundsAt at at (linesOf (drop at chunk))
 
--- what a line asks for whose first part may have been too long already
-abbrev pub asksAfter : Bool → Line → Command
-asksAfter long l = if long then Malformed else lineCommand l
-
 unfoldable pub commandAt : Bool → ℕ → List Line → NextCommand.NextCommand
 commandAt long at [] = NextCommand.the-variants.Tail
 commandAt long at (l ∷ ls) =
     if l .ended
-    then NextCommand.the-variants.Found (asksAfter long l) (at + length (l .text) + 1)
+    then NextCommand.the-variants.Found (asksAfter commands long l) (at + length (l .text) + 1)
     else NextCommand.the-variants.Tail
 
 unfoldable pub nextCommand : Bool → List ℕ → ℕ → NextCommand.NextCommand
@@ -52,21 +47,7 @@ pub record CarriedOver (before tail : List ℕ) (long : Bool) (after : List ℕ)
 abbrev pub isLeft : Carry → Bool
 isLeft c = c .long || ltb 0 (c .kept)
 
-abbrev pub afterFirst : List Line → List Line
-afterFirst [] = []
-afterFirst (l ∷ ls) = ls
-
--- what the rest of an input asks for, of whose first line a part that was too long may be gone
-unfoldable pub commandsFrom : Bool → List ℕ → List Command
-commandsFrom false input = map lineCommand (linesOf input)
-commandsFrom true input = Malformed ∷ map lineCommand (afterFirst (linesOf input))
-
 -- ---- a chunk as a whole
-
--- what the lines ask for that end in it
-unfoldable pub asksOf : Bool → List Line → List Command
-asksOf long [] = []
-asksOf long (l ∷ ls) = if l .ended then asksAfter long l ∷ asksOf false ls else []
 
 -- the line that does not end in it, and whether a part of that line that was too long is gone
 unfoldable pub tailOf : List Line → List ℕ

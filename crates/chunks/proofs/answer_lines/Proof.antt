@@ -3,19 +3,20 @@ use Prim.Native.Nat.{_-_}
 use mathlib.Core.Path.{_≡_, refl, sym, ap, _∙_}
 use native.Mathlib.Omega.{arith}
 use lib.ListN.{length}
-use Rattle.text.specs.declared.NextCommand as NextCommand
-use Rattle.text.specs.Chunks.{nextCommand}
 use Rattle.chunks.specs.declared.Progress.{Progress}
 use Rattle.chunks.specs.Points.{pointOf}
-use Rattle.chunks.proofs.LineByLine.{Going, going-start, going-on, going-less, going-through, going-full}
-use Rattle.chunks.proofs.SoundDesks.{never-15}
+use Rattle.chunks.specs.SoundDesk.{SoundDesk}
+use Rattle.text.specs.Answers.{rehearsal}
+use Rattle.text.proofs.Chunks.{Taken, taken, all-taken}
+use Rattle.text.proofs.LineByLine.{Going, going-start, going-on, going-through, going-full, onward-kept}
+use Rattle.chunks.proofs.SoundDesks.{stays-sound, never-15}
 use borrow.Author.Needs.{needs}
 use Rattle.chunks.proofs.answer_lines.Statement.{statement}
 use Rattle.chunks.proofs.answer_lines.Tie as tie
 
 abbrev Inv-loop : tie.InvT-loop
 Inv-loop rows₀ trades₀ chunk out₀ room p₀ rows trades out p =
-    (length rows ≡ length rows₀) × (length trades ≡ length trades₀) × (length out ≡ length out₀) × Going chunk (pointOf p₀ rows₀) out₀ rows out p
+    (length rows ≡ length rows₀) × (length trades ≡ length trades₀) × (length out ≡ length out₀) × Going rehearsal chunk (pointOf p₀ rows₀) out₀ out (p .next) (p .done) (pointOf p rows)
 
 abbrev μ-loop : tie.MeasureT-loop
 μ-loop rows₀ trades₀ chunk out₀ room p₀ rows trades out p = length chunk - p .at
@@ -28,11 +29,14 @@ turn-of k = k .before .before .before .before .before .before
 abbrev start-of : tie.At-loop Inv-loop μ-loop → tie.Start Inv-loop μ-loop
 start-of l = l .before .before .before
 
+-- the line that was taken
 read :
     (k : tie.After-known-told Inv-loop μ-loop)
-    → nextCommand (turn-of k .loop .p .long) (start-of (turn-of k) .args .chunk .now) (turn-of k .loop .p .at)
-    ≡ NextCommand.the-variants.Found (k .before .command .given .0 .0) (k .before .command .given .0 .1 .0)
-read k = sym (k .before .before .before .next-command .ensures) ∙ k .before .command .given .1
+    → Taken (start-of (turn-of k) .args .chunk .now) (turn-of k .loop .p .at) (rehearsal .reader) (turn-of k .loop .p .long)
+    (k .before .command .given .0 .0) (k .before .command .given .0 .1 .0)
+read k =
+    taken (start-of (turn-of k) .args .chunk .now) (turn-of k .loop .p .at) (turn-of k .loop .p .long) _ _
+    (sym (k .before .before .before .next-command .ensures) ∙ k .before .command .given .1)
 
 sub-room : tie.Need-sub-room Inv-loop μ-loop
 sub-room c = search needs
@@ -40,8 +44,7 @@ sub-room c = search needs
 loop-holds : tie.Need-loop-holds Inv-loop μ-loop
 loop-holds c =
     let s = c .before .before in
-    let from = s .args .from in
-    (refl, refl, refl, going-start (s .args .chunk .now) _ (s .args .out .now) (from .desk) (from .at) (from .long) (s .args .rows .now) refl (s .pre .3))
+    (refl, refl, refl, going-start rehearsal (s .args .chunk .now) (pointOf (s .args .from) (s .args .rows .now)) (s .args .out .now) (s .pre .3))
 
 next-command-requires : tie.Need-next-command-requires Inv-loop μ-loop
 next-command-requires c κs = search needs
@@ -66,7 +69,8 @@ returns c =
     let asked = c .before .before in
     let turn = asked .before .before .before in
     let s = start-of turn .args in
-    going-through (s .chunk .now) _ (s .out .now) (turn .loop .inv .3) (sym (asked .next-command .ensures) ∙ c .enum-told .given .1)
+    going-through rehearsal (s .chunk .now) _ (s .out .now) (turn .loop .inv .3)
+    (all-taken (s .chunk .now) _ _ (sym (asked .next-command .ensures) ∙ c .enum-told .given .1))
 
 answer-command-requires : tie.Need-answer-command-requires Inv-loop μ-loop
 answer-command-requires c κs =
@@ -76,7 +80,7 @@ answer-command-requires c κs =
       i .0 ∙ s .0,
       i .1 ∙ s .1,
       omega (arith, i .2, s .2, k .before .before .before .before .if1 .taken),
-      never-15 _ _ (i .3 .answers .onward .sound (s .4)),
+      never-15 _ _ (onward-kept rehearsal _ SoundDesk stays-sound (i .3 .answers .onward) (s .4)),
     )
 
 past-line-requires : tie.Need-past-line-requires Inv-loop μ-loop
@@ -86,9 +90,8 @@ loop-less : tie.Need-loop-less Inv-loop μ-loop
 loop-less c =
     let answered = c .before .before .before .before .before in
     let k = answered .before .before .before .before in
-    let s = start-of (turn-of k) .args in
-    let n = going-less (s .chunk .now) _ (s .out .now) (turn-of k .loop .inv .3) _ _ (read k) _ (answered .answer-command .ensures .leaves) in
-    omega (arith, n .0, n .1, ap (λ (p : Progress). p .at) (c .past-line .ensures))
+    let n = read k in
+    omega (arith, n .onward, n .inside, ap (λ (p : Progress). p .at) (c .past-line .ensures))
 
 loop-again : tie.Need-loop-again Inv-loop μ-loop
 loop-again c =
@@ -100,7 +103,7 @@ loop-again c =
       a .kept .1 .0 ∙ i .0,
       a .kept .1 .1 .0 ∙ i .1,
       a .kept .1 .1 .1 .1 .0 ∙ i .2,
-      going-on (s .chunk .now) _ (s .out .now) (i .3) _ _ (read k) _ (a .ensures .leaves) (c .past-line .ensures),
+      rw (c .past-line .ensures) (going-on rehearsal (s .chunk .now) _ (s .out .now) (i .3) _ _ (read k) (a .ensures .leaves .text) (a .ensures .leaves .fits) _ (a .ensures .leaves .desk)),
     )
 
 same-length-4 : tie.Need-same-length-4 Inv-loop μ-loop
@@ -116,7 +119,7 @@ returns-2 : tie.Need-returns-2 Inv-loop μ-loop
 returns-2 c =
     let turn = c .before .before in
     let s = start-of turn .args in
-    going-full (s .chunk .now) _ (s .out .now) (turn .loop .inv .3) (omega (arith, c .if1 .left))
+    going-full rehearsal (s .chunk .now) _ (s .out .now) (turn .loop .inv .3) (omega (arith, c .if1 .left))
 
 pub answer-lines-spec : {M : Type 1} → statement M
 answer-lines-spec =

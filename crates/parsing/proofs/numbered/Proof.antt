@@ -1,10 +1,9 @@
 -- The numbers read so far stand in front of those after the place that is reached.
 use Prim.Native.Nat.{_+_, _-_}
-use mathlib.Core.Path.{_∙_}
 use native.Mathlib.Omega.{arith}
 use lib.ListN.{length, drop, length-drop}
 use Rattle.parsing.proofs.Words.{word-fits}
-use Rattle.parsing.proofs.Commands.{Gathered, gather-starts, gather-ends, gather-bad, gather-many, gather-on}
+use Rattle.parsing.proofs.Commands.{Gathered, gather-starts, gather-ends, gather-bad, gather-many, gather-on, unsaid-form}
 use borrow.Author.Needs.{needs}
 use Rattle.parsing.proofs.numbered.Statement.{statement}
 use Rattle.parsing.proofs.numbered.Tie as tie
@@ -18,9 +17,13 @@ abbrev μ-loop : tie.MeasureT-loop
 loop-holds : tie.Need-loop-holds Inv-loop μ-loop
 loop-holds c = gather-starts _ (c .before .pre)
 
+unsaid-requires : tie.Need-unsaid-requires Inv-loop μ-loop
+unsaid-requires c κs = search needs
+
 returns : tie.Need-returns Inv-loop μ-loop
 returns c =
-    gather-many _ _ _ _ (c .before .before .loop .inv) (c .before .loop-test .taken) _ (c .if1 .taken)
+    let t = c .before in
+    unsaid-form (c .unsaid .ensures) (gather-many _ _ _ _ (t .before .before .loop .inv) (t .before .loop-test .taken) _ (t .if1 .taken))
 
 add-start : tie.Need-add-start Inv-loop μ-loop
 add-start c = search needs
@@ -48,12 +51,16 @@ enum-known-value c = search needs
 enum-told : tie.Need-enum-told Inv-loop μ-loop
 enum-told c = search needs
 
+unsaid-requires-2 : tie.Need-unsaid-requires-2 Inv-loop μ-loop
+unsaid-requires-2 c κs = search needs
+
 returns-2 : tie.Need-returns-2 Inv-loop μ-loop
 returns-2 c =
-    let o = c .before .before in
+    let o = c .before .before .before in
     let w = o .before .before in
     let l = w .before .before .before in
-    gather-bad _ _ _ _ (l .loop .inv) (w .before .before .loop-test .taken) _ _ (w .word-end .ensures) (o .number-of .ensures) _ (c .enum-told .given .1)
+    unsaid-form (c .unsaid2 .ensures)
+    (gather-bad _ _ _ _ (l .loop .inv) (w .before .before .loop-test .taken) _ _ (w .word-end .ensures) (o .number-of .ensures) _ (c .before .enum-told .given .1))
 
 mul-values : tie.Need-mul-values Inv-loop μ-loop
 mul-values c = search needs
@@ -74,12 +81,8 @@ loop-again c =
     let l = w .before .before .before in
     gather-on _ _ _ _ (l .loop .inv) (w .before .before .loop-test .taken) _ _ (w .word-end .ensures) (o .number-of .ensures) _ (w .before .if1 .left) (c .before .value .given .1)
 
-asked-for-requires : tie.Need-asked-for-requires Inv-loop μ-loop
-asked-for-requires c κs = search needs
-
 returns-3 : tie.Need-returns-3 Inv-loop μ-loop
-returns-3 c =
-    c .asked-for .ensures ∙ gather-ends _ _ _ _ (c .before .before .loop .inv) _ (c .before .loop-test .left)
+returns-3 c = gather-ends _ _ _ _ (c .before .loop .inv) _ (c .loop-test .left)
 
 pub numbered-spec : {M : Type 1} → statement M
 numbered-spec =
@@ -88,6 +91,7 @@ numbered-spec =
     Inv-loop
     μ-loop
     loop-holds
+    unsaid-requires
     returns
     add-start
     word-end-requires
@@ -97,11 +101,11 @@ numbered-spec =
     number-of-requires
     enum-known-value
     enum-told
+    unsaid-requires-2
     returns-2
     mul-values
     array-write-values
     add-n
     loop-less
     loop-again
-    asked-for-requires
     returns-3)

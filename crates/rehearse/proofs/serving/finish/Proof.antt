@@ -3,7 +3,10 @@ use mathlib.Core.Path.{sym}
 use native.Mathlib.Omega.{arith}
 use lib.Seq.{length-take-le}
 use Rattle.printing.proofs.Printed.{put-long}
-use Rattle.rehearse.proofs.Turns.{end-fits}
+use mathlib.Core.Option.{none}
+use Rattle.text.specs.Answers.{rehearsal}
+use Rattle.text.proofs.Turns.{end-fits}
+use Rattle.rehearse.proofs.Malformed.{refused-16}
 use borrow.Author.Needs.{needs}
 use Rattle.rehearse.proofs.serving.finish.Statement.{statement}
 use Rattle.rehearse.proofs.serving.finish.Tie as tie
@@ -15,13 +18,13 @@ slice-reshare-prefix-reply : tie.Need-slice-reshare-prefix-reply
 slice-reshare-prefix-reply c =
     let a = c .before .before .before .before .before .args in
     let w = c .before .before .put-end .ensures in
-    omega (arith, w .place, end-fits (record { kept = a .h .kept; long = a .h .long }), put-long w)
+    omega (arith, w .place, end-fits rehearsal none refused-16 (record { kept = a .h .kept; long = a .h .long }), put-long w)
 
 slice-aggregate-reply : tie.Need-slice-aggregate-reply
 slice-aggregate-reply c =
     let a = c .before .before .before .before .before .before .args in
     let r = c .before .before .before .put-end in
-    sym (length-take-le (r .result) (r .last .1 .0) (omega (arith, r .ensures .place, end-fits (record { kept = a .h .kept; long = a .h .long }), put-long (r .ensures))))
+    sym (length-take-le (r .result) (r .last .1 .0) (omega (arith, r .ensures .place, end-fits rehearsal none refused-16 (record { kept = a .h .kept; long = a .h .long }), put-long (r .ensures))))
 
 reply-requires : tie.Need-reply-requires
 reply-requires c κs = search needs

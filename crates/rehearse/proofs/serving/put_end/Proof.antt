@@ -2,7 +2,10 @@
 use mathlib.Core.Path.{sym, _∙_}
 use borrow.Author.Tests.{not-true, not-false}
 use Rattle.printing.proofs.Printed.{nothing-put, put-as}
-use Rattle.rehearse.proofs.Turns.{end-left, end-none}
+use mathlib.Core.Option.{none}
+use Rattle.text.specs.Answers.{rehearsal}
+use Rattle.text.proofs.Turns.{end-left, end-none}
+use Rattle.rehearse.proofs.Malformed.{refused-16}
 use borrow.Author.Needs.{needs}
 use Rattle.rehearse.proofs.serving.put_end.Statement.{statement}
 use Rattle.rehearse.proofs.serving.put_end.Tie as tie
@@ -12,7 +15,7 @@ is-left-requires c κs = search needs
 
 returns : tie.Need-returns
 returns c =
-    put-as (end-none _ (sym (c .before .is-left .ensures) ∙ not-true _ (c .if1 .taken))) nothing-put
+    put-as (end-none rehearsal none refused-16 _ (sym (c .before .is-left .ensures) ∙ not-true _ (c .if1 .taken))) nothing-put
 
 put-refusal-requires : tie.Need-put-refusal-requires
 put-refusal-requires c κs = search needs
@@ -23,7 +26,7 @@ same-length c = search needs
 returns-2 : tie.Need-returns-2
 returns-2 c =
     let p = c .before .before in
-    put-as (end-left _ (sym (p .before .before .before .is-left .ensures) ∙ not-false _ (p .before .before .if1 .left))) (p .put-refusal .ensures)
+    put-as (end-left rehearsal none refused-16 _ (sym (p .before .before .before .is-left .ensures) ∙ not-false _ (p .before .before .if1 .left))) (p .put-refusal .ensures)
 
 pub put-end-spec : {M : Type 1} → statement M
 put-end-spec =

@@ -2,7 +2,9 @@
 use mathlib.Core.Path.{_≡_}
 use lib.ListN.{length}
 use Rattle.rehearse.specs.Serving.{Reached}
-use Rattle.rehearse.proofs.Turns.{at-outset, reached-on}
+use mathlib.Core.Option.{none}
+use Rattle.text.specs.Answers.{rehearsal}
+use Rattle.text.proofs.Turns.{at-outset, reached-on}
 use borrow.Author.Needs.{needs}
 use Rattle.rehearse.proofs.serving.run.Statement.{statement}
 use Rattle.rehearse.proofs.serving.run.Tie as tie
@@ -27,7 +29,7 @@ output-requires : tie.Need-output-requires Inv-loop μ-loop
 output-requires c κs = search needs
 
 loop-holds : tie.Need-loop-holds Inv-loop μ-loop
-loop-holds c = (search needs, search needs, search needs, search needs, at-outset _ _)
+loop-holds c = (search needs, search needs, search needs, search needs, at-outset rehearsal none _)
 
 sub-turns : tie.Need-sub-turns Inv-loop μ-loop
 sub-turns c = search needs
@@ -59,7 +61,7 @@ loop-again : tie.Need-loop-again Inv-loop μ-loop
 loop-again c =
     let t = c .before .before .before .before .before in
     let l = t .before .before .before .before .before .before .loop .inv in
-    (search needs, search needs, search needs, search needs, reached-on (l .4) (t .turn .ensures (c .if1 .left)))
+    (search needs, search needs, search needs, search needs, reached-on rehearsal (l .4) (t .turn .ensures (c .if1 .left)))
 
 returns-2 : tie.Need-returns-2 Inv-loop μ-loop
 returns-2 c = search needs

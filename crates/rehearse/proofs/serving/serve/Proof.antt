@@ -1,11 +1,12 @@
 -- The chunk is answered to its end, or the program stops; then its tail is carried over. Assumes nothing.
-use mathlib.Core.Path.{sym}
+use mathlib.Core.Path.{refl, sym}
 use native.Mathlib.Omega.{arith}
 use lib.ListN.{length-take}
 use lib.Seq.{length-take-le}
 use borrow.Author.Tests.{not-false}
 use Rattle.model.proofs.Bools.{not-both}
-use Rattle.rehearse.proofs.Rounds.{steps}
+use Rattle.text.specs.Answers.{rehearsal}
+use Rattle.text.proofs.Turns.{steps}
 use borrow.Author.Needs.{needs}
 use Rattle.rehearse.proofs.serving.serve.Statement.{statement}
 use Rattle.rehearse.proofs.serving.serve.Tie as tie
@@ -65,7 +66,7 @@ returns-2 c =
     let s = k .before .before .before .before .before .before .before .args in
     let o = k .answer-chunk .ensures (not-false _ (c .before .before .before .before .if1 .left)) in
     let v = c .before .before .carry-over in
-    λ e. steps (s .buf .now) (v .last .0) (s .n) (s .h .desk) (s .h .long) (s .rows .now) (k .answer-chunk .last .1 .0) (k .answer-chunk .result) (v .result) (o .0) (o .1) (v .ensures)
+    λ e. steps rehearsal (s .buf .now) (v .last .0) (s .n) _ _ (v .result) refl (o .0) (o .1) (v .ensures)
 
 pub serve-spec : {M : Type 1} → statement M
 serve-spec =

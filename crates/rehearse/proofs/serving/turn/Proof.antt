@@ -1,8 +1,12 @@
 -- A read that failed or ended stops the program; else the chunk is served. Assumes nothing.
 use native.Mathlib.Omega.{arith}
 use Rattle.model.proofs.Bools.{not-both}
-use Rattle.streams.proofs.Filling.{filled-with}
-use Rattle.rehearse.proofs.Turns.{turned, reached-few, reached-sound}
+use Rattle.streams.proofs.Filling.{filled-with, read-on}
+use Rattle.text.specs.Answers.{rehearsal}
+use Rattle.text.proofs.Turns.{turned, reached-few, reached-fair}
+use Rattle.chunks.specs.SoundDesk.{SoundDesk}
+use Rattle.chunks.proofs.SoundDesks.{stays-sound}
+use Rattle.rehearse.specs.Serving.{carryIn}
 use borrow.Author.Needs.{needs}
 use Rattle.rehearse.proofs.serving.turn.Statement.{statement}
 use Rattle.rehearse.proofs.serving.turn.Tie as tie
@@ -10,7 +14,7 @@ use Rattle.rehearse.proofs.serving.turn.Tie as tie
 fill-requires : tie.Need-fill-requires
 fill-requires c κs =
     let s = c .before .before .before in
-    omega (arith, s .pre .0, reached-few (s .pre .1))
+    omega (arith, s .pre .0, reached-few rehearsal SoundDesk stays-sound tt (s .pre .1))
 
 enum-told : tie.Need-enum-told
 enum-told c = search needs
@@ -38,7 +42,7 @@ serve-requires c κs =
     let f = c .before .before .before .before .before .before .before .before .before in
     let s = f .before .before .before .before in
     let n = filled-with (s .args .h .kept) (s .args .buf .now) (f .fill .last .0) (c .before .before .before .before .before .input .given .1) (f .fill .ensures) in
-    (search needs, search needs, search needs, n .1, reached-sound (s .pre .1))
+    (search needs, search needs, search needs, n .1, reached-fair rehearsal SoundDesk stays-sound tt (s .pre .1))
 
 same-length : tie.Need-same-length
 same-length c = search needs
@@ -74,7 +78,7 @@ returns-3 c =
     let f = i .before .before .before .before in
     let a = f .before .before .before .before .args in
     let n = filled-with (a .h .kept) (a .buf .now) (f .fill .last .0) (i .input .given .1) (f .fill .ensures) in
-    λ e. turned (a .h) (a .rows .now) (a .buf .now) (f .fill .last .0) _ n (k .serve .ensures e)
+    λ e. turned rehearsal (carryIn (a .h)) (a .buf .now) _ (f .fill .last .0) (i .input .given .0 .0) _ (read-on (a .h .kept) _ (a .buf .now) (f .fill .last .0) n) (k .serve .ensures e)
 
 pub turn-spec : {M : Type 1} → statement M
 turn-spec =

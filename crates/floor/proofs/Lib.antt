@@ -1,0 +1,2 @@
+-- The program before anything is read.
+pub mod Outset

@@ -1,0 +1,2 @@
+-- What ./floor promises between a read and a write.
+pub mod Serving

@@ -1,0 +1,2 @@
+-- How far a chunk of ./floor is answered.
+pub mod Points

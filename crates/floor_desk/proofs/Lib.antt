@@ -1,0 +1,3 @@
+-- The laws of an answer of ./floor.
+pub mod Questions
+pub mod Wishes

@@ -1,0 +1,2 @@
+-- ./floor as a program that answers line by line.
+pub mod Wishes
