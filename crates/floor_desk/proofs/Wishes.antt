@@ -1,7 +1,7 @@
 -- What a line of ./floor is answered with, as the definitions have it: a line of ./run, and a question with a day and without. Assumes nothing.
 use Prim.Native.Nat.{ℕ, _+_, _≤_}
 use mathlib.Core.Path.{_≡_, refl, sym, ap, ap₂, subst, _∙_}
-use mathlib.Core.Bool.{Bool, true, false, cond, not, _&&_}
+use mathlib.Core.Bool.{Bool, true, false, cond, _&&_}
 use mathlib.Core.List.{List, []}
 use mathlib.Core.Option.{Option, some}
 use native.Mathlib.Omega.{arith}
@@ -26,7 +26,7 @@ use Rattle.printing.proofs.Printed.{line-within}
 use Rattle.printing.proofs.Replied.{refusal-fits}
 use Rattle.desk.specs.declared.Desk as Desk
 use Rattle.desk.specs.declared.Answered as desk
-use Rattle.desk.specs.Desks.{deskOf, Answering}
+use Rattle.desk.specs.Desks.{Answering}
 use Rattle.floors.specs.declared.Question.{Question}
 use Rattle.floors.specs.declared.Wish.{Wish}
 use Rattle.floors.specs.declared.Wish.the-variants.{Says, Wants}

@@ -1,6 +1,6 @@
 -- What a line of ./floor asks for, by its form: a letter takes its own count of numbers and no other. Assumes nothing.
 use Prim.Native.Nat.{ℕ, _≤_, _<_}
-use mathlib.Core.Path.{_≡_, refl, sym, ap, ap₂, _∙_}
+use mathlib.Core.Path.{_≡_, refl, sym, ap₂, _∙_}
 use mathlib.Core.Bool.{Bool, true, false, cond, _&&_}
 use mathlib.Core.List.{List, [], _∷_}
 use mathlib.Core.Option.{Option, none, some}
@@ -11,7 +11,7 @@ use lib.Seq.{length-take-le}
 use borrow.Author.Tests.{eqb-true, leb-false}
 use Rattle.model.specs.declared.Command.{Command}
 use Rattle.model.specs.declared.Command.the-variants.{Malformed}
-use Rattle.model.specs.Lines.{Line, wordsOf, numbersOf, commandOf, lineCommand}
+use Rattle.model.specs.Lines.{Line, wordsOf, numbersOf, commandOf}
 use Rattle.model.proofs.Bools.{not-true-false}
 use Rattle.parsing.specs.declared.Form.{Form}
 use Rattle.parsing.specs.Words.{Phrase, phraseWith, wordsPhrase, linePhrase, Formed}

@@ -2,7 +2,6 @@
 use native.Mathlib.Omega.{arith}
 use Rattle.replies.proofs.Signs.{below-fits, below-casts, above-casts}
 use Rattle.floor_printing.proofs.Signing.{size-below, size-small, size-above}
-use borrow.Author.Needs.{needs}
 use Rattle.floor_printing.proofs.magnitude.Statement.{statement}
 use Rattle.floor_printing.proofs.magnitude.Tie as tie
 

@@ -1,8 +1,7 @@
 -- The prices put so far are the run's front. Assumes nothing.
-use Prim.Native.Nat.{_+_, _*_, _-_, _≤_}
+use Prim.Native.Nat.{_+_, _-_, _≤_}
 use mathlib.Core.Path.{_≡_}
 use native.Mathlib.Omega.{arith}
-use lib.ListN.{length}
 use Rattle.model.specs.Lists.{from}
 use Rattle.printing.specs.Printing.{Wrote}
 use Rattle.printing.proofs.Printed.{put-long}

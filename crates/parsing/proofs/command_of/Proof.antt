@@ -1,5 +1,5 @@
 -- A line of no form asks for nothing, any other for what its letter wants. Assumes nothing.
-use mathlib.Core.Path.{_∙_, sym}
+use mathlib.Core.Path.{_∙_}
 use borrow.Author.Tests.{not-true, not-false}
 use Rattle.parsing.proofs.Forms.{asks-unsaid, asks-said}
 use borrow.Author.Needs.{needs}

@@ -1,5 +1,5 @@
 -- The rest of a line that is too long asks for nothing. Assumes nothing.
-use mathlib.Core.Path.{sym, _∙_}
+use mathlib.Core.Path.{_∙_}
 use Rattle.wishes.proofs.Asking.{after-long, after-line}
 use borrow.Author.Needs.{needs}
 use Rattle.wishes.proofs.wish_after.Statement.{statement}

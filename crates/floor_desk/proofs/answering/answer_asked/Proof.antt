@@ -1,5 +1,4 @@
 -- No day is 17; else the answer to the question. Assumes nothing.
-use native.Mathlib.Omega.{arith}
 use Rattle.floor_desk.proofs.Wishes.{unasked-leaves, asked-leaves}
 use borrow.Author.Needs.{needs}
 use Rattle.floor_desk.proofs.answering.answer_asked.Statement.{statement}

@@ -1,5 +1,4 @@
 -- As ./run answers it; the claims stay, but after a new day none is noted. Assumes nothing.
-use native.Mathlib.Omega.{arith}
 use Rattle.chunks.proofs.SoundDesks.{never-15}
 use Rattle.floor_desk.proofs.Wishes.{said-leaves}
 use borrow.Author.Needs.{needs}

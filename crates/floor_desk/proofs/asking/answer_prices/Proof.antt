@@ -1,6 +1,5 @@
 -- The prices of a run and then the reply, or a refusal. Assumes nothing.
 use native.Mathlib.Omega.{arith}
-use mathlib.Core.Path.{_∙_, sym}
 use Rattle.book.specs.Rows.{bookOf}
 use Rattle.printing.proofs.Printed.{and-then, put-as}
 use Rattle.floor_desk.proofs.Questions.{list-refused, list-small, list-listed, prices-left, prices-within, refusal-within}

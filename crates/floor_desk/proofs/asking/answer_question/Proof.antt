@@ -1,7 +1,5 @@
 -- An arm for each question. Assumes nothing.
-use native.Mathlib.Omega.{arith}
 use mathlib.Core.Path.{ap}
-use Rattle.model.specs.declared.ReportReply.{ReportReply}
 use Rattle.book.specs.Rows.{bookOf}
 use Rattle.printing.proofs.Printed.{put-as}
 use Rattle.floors.specs.Floor.{reportLine}
