@@ -27,7 +27,7 @@ use Rattle.model.proofs.Examples.{bytes, untraded, five, shows}
 use Rattle.judge.specs.declared.Claim.{Claim}
 use Rattle.judge.specs.Judging.{judgeRules, judgeCall, verdictNumbers}
 use Rattle.floors.specs.Wishes.{questionOf, questionWith, wordsQuestion, lineQuestion, wishOf, lineWish}
-use Rattle.floors.specs.Floor.{Floor, Answered, signed, signedReply, reportLine, priceLines, writtenIn, listLines, levelLine, levelLines, screenLines, notedAfter, commandAnswer, lentPrices, questionText, notedThen, questionAnswer, wishAnswer, floorAnswers, noFloor, floorSession}
+use Rattle.floors.specs.Floor.{Floor, Answered, signed, signedReply, reportLine, priceLines, writtenIn, listLines, levelLine, levelLines, figuresLine, screenLines, notedAfter, commandAnswer, lentPrices, questionText, notedThen, questionAnswer, wishAnswer, floorAnswers, noFloor, floorSession}
 
 -- ---- how a table is read
 
@@ -113,7 +113,7 @@ pub floor-tried :
     × (replies (floor 0 (claim ∷ [])) notSound ≡ expected notSound)
     × (replies (floor 1000 (replicate 4_095 claim)) full ≡ expected full)
     × (floorSession (bytes "D 1000 1\nQ 100 1 2\n\nR 1\nQ 1 2 3") ≡ bytes "D\nQ 1\nX 16\nX 16\nX 16\n")
-unfolding noLevel noLevels noScreen all isTime laterRows holding rowAt phaseAt takesOrders takesCancels continuous passed free isLive isPrice inBand freshDay at hasPlaces isMark soundFigures soundAnywhere sound _when_ firstOf unsound openRules cleared openCall reportRules reportCall listRules listCall openNumbers listNumbers onto linesOf ontoWord wordsOf isDigit valueFrom bare numberOf numbersOf commandOf wordsCommand lineCommand digits spaced reply refusalLine replyLine openLine lentPlaces opened openAnswer eventAnswer onDesk answer judgeRules judgeCall verdictNumbers questionOf questionWith wordsQuestion lineQuestion wishOf lineWish signed signedReply reportLine priceLines writtenIn listLines levelLine levelLines screenLines notedAfter commandAnswer lentPrices questionText notedThen questionAnswer wishAnswer floorAnswers noFloor floorSession replies bytes
+unfolding noLevel noLevels noScreen all isTime laterRows holding rowAt phaseAt takesOrders takesCancels continuous passed free isLive isPrice inBand freshDay at hasPlaces isMark soundFigures soundAnywhere sound _when_ firstOf unsound openRules cleared openCall reportRules reportCall listRules listCall openNumbers listNumbers onto linesOf ontoWord wordsOf isDigit valueFrom bare numberOf numbersOf commandOf wordsCommand lineCommand digits spaced reply refusalLine replyLine openLine lentPlaces opened openAnswer eventAnswer onDesk answer judgeRules judgeCall verdictNumbers questionOf questionWith wordsQuestion lineQuestion wishOf lineWish signed signedReply reportLine priceLines writtenIn listLines levelLine levelLines figuresLine screenLines notedAfter commandAnswer lentPrices questionText notedThen questionAnswer wishAnswer floorAnswers noFloor floorSession replies bytes
 floor-tried = (refl, refl, refl, refl, refl)
 
 -- the lines of a report with either sign, and of a price list that has more to give, and of one that has none
@@ -155,5 +155,5 @@ pub screens-tried :
     × (screenLines (shows 1001 1005 998 900 900_900 [] (1002 ∷ 300 ∷ 1003 ∷ 1 ∷ 1005 ∷ 100 ∷ 1006 ∷ 200 ∷ 1010 ∷ 500 ∷ []))
     ≡ bytes "S 1001 1005 998 900 900900 0 0 0\n- 1002 300\n- 1003 1\n- 1005 100\n- 1006 200\n- 1010 500\n")
     × (screenLines noScreen ≡ bytes "S 0 0 0 0 0 0 0 0\n")
-unfolding noLevel noLevels noScreen digits spaced reply signed signedReply levelLine levelLines screenLines bytes
+unfolding noLevel noLevels noScreen digits spaced reply signed signedReply levelLine levelLines figuresLine screenLines bytes
 screens-tried = (refl, refl, refl, refl, refl)

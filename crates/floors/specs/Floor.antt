@@ -72,15 +72,17 @@ levelLines c ls =
     ++ levelLine c (ls .fourth)
     ++ levelLine c (ls .fifth)
 
--- the day's figures and the auction's, then the buys and the sells
-unfoldable pub screenLines : Screen → List ℕ
-screenLines s =
+-- the day's figures, then the auction's
+unfoldable pub figuresLine : Screen → List ℕ
+figuresLine s =
     signedReply
     (code "S")
     (s .last ∷ s .high ∷ s .low ∷ s .shares ∷ s .turnover ∷ s .price ∷ s .volume ∷ [])
     (s .surplus)
-    ++ levelLines (code "+") (s .buys)
-    ++ levelLines (code "-") (s .sells)
+
+-- the buys stand before the sells
+unfoldable pub screenLines : Screen → List ℕ
+screenLines s = figuresLine s ++ levelLines (code "+") (s .buys) ++ levelLines (code "-") (s .sells)
 
 -- ---- the answers
 
