@@ -1,4 +1,4 @@
--- What each question is answered with, as the definitions have it: report, price list, claim and verdict. Assumes nothing.
+-- What each question is answered with, as the definitions have it: report, price list, claim, verdict and screen. Assumes nothing.
 use Prim.Native.Nat.{ℕ, suc, _+_, _≤_, _<_, min}
 use mathlib.Core.Path.{_≡_, refl, sym, ap, subst, _∙_}
 use mathlib.Core.Bool.{true, false}
@@ -32,9 +32,10 @@ use Rattle.printing.proofs.Printed.{put-long, line-within, reply-fits}
 use Rattle.printing.proofs.Replied.{refusal-fits, answer-fits}
 use Rattle.floor_printing.proofs.Signing.{report-fits}
 use Rattle.floor_printing.proofs.Listing.{from-long, prices-fit}
+use Rattle.floor_printing.proofs.Screening.{screen-fits}
 use Rattle.floors.specs.declared.Question.{Question}
-use Rattle.floors.specs.declared.Question.the-variants.{Report, Prices, Claims, Judge}
-use Rattle.floors.specs.Floor.{reportLine, priceLines, writtenIn, listLines, lentPrices, questionText, notedThen}
+use Rattle.floors.specs.declared.Question.the-variants.{Report, Prices, Claims, Judge, Screen}
+use Rattle.floors.specs.Floor.{reportLine, priceLines, writtenIn, listLines, lentPrices, screenLines, questionText, notedThen}
 use Rattle.floor_desk.specs.declared.Told.{Told}
 use Rattle.floor_desk.specs.Floors.{notedIn, verdictLine, Replied}
 
@@ -164,6 +165,18 @@ module _ {before after : List ℕ} {at : ℕ} (claims : List (List ℕ)) (noted 
       fits = line-within w (verdict-fits (judgeCall (s .day) price (s .book) (notedIn claims noted))) (omega arith);
       kept = refl;
       few = omega arith;
+    }
+
+    pub screen-told :
+        Wrote before at (screenLines (s .day .screen)) after next
+        → at + 94_318 ≤ length before
+        → Replied Screen s claims noted before at claims after (record { noted = noted; next = next })
+    unfolding questionText notedThen
+    screen-told w h = record {
+      text = w;
+      fits = omega (arith, w .place, put-long w, screen-fits (s .day .screen));
+      kept = refl;
+      few = few;
     }
 
 -- the question is the one that it was taken for

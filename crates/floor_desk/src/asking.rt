@@ -9,6 +9,7 @@ use floor_printing::put_noted;
 use floor_printing::put_prices;
 use floor_printing::put_report;
 use floor_printing::put_verdict;
+use floor_printing::screens::put_screen;
 use floors::MOST_LISTED;
 use floors::Question;
 use judge::Claim;
@@ -119,6 +120,10 @@ pub fn answer_question(
         Question::Judge(price) => {
             let next = answer_verdict(d, rows, claims, noted, price, out, at);
             Told { noted: 0, next }
+        }
+        Question::Screen => {
+            let next = put_screen(d.screen, out, at);
+            Told { noted, next }
         }
     }
 }

@@ -1,8 +1,8 @@
 -- A number with a sign, put as its digits: below zero a minus sign and its size. Assumes nothing.
-use Prim.Native.Nat.{ℕ, suc, _+_, _-_, _^_, _≤_, _<_}
-use mathlib.Core.Path.{_≡_, refl, ap}
+use Prim.Native.Nat.{ℕ, suc, _+_, _-_, _*_, _^_, _≤_, _<_}
+use mathlib.Core.Path.{_≡_, refl, sym, ap, _∙_}
 use mathlib.Core.Bool.{true, false}
-use mathlib.Core.List.{List, [], _∷_, _++_, append-assoc, append-nil}
+use mathlib.Core.List.{List, [], _∷_, _++_, append-nil}
 use native.Mathlib.Omega.{arith}
 use lib.ListN.{length, length-append}
 use lib.IntN.{ℤ, pos, negsuc, natAbs, _-ℤ_}
@@ -15,11 +15,11 @@ use Rattle.model.specs.declared.ReportReply.{ReportReply}
 use Rattle.model.specs.declared.ReportReply.the-variants.{Refused, Priced}
 use Rattle.model.specs.Lines.{digits, spaced, refusalLine}
 use Rattle.replies.specs.Words.{word}
-use Rattle.replies.proofs.Signs.{below-small, below-word}
+use Rattle.replies.proofs.Signs.{below-small, below-word, above-word}
 use Rattle.printing.specs.Printing.{Wrote}
-use Rattle.printing.proofs.Printed.{and-then, put-as, spaced-fits}
+use Rattle.printing.proofs.Printed.{and-then, spaced-fits}
 use Rattle.printing.proofs.Replied.{refusal-fits}
-use Rattle.floors.specs.Floor.{signed, reportLine}
+use Rattle.floors.specs.Floor.{signed, signedReply, reportLine}
 
 -- ---- the size of a number
 
@@ -83,35 +83,40 @@ unfolding signed
 signed-fits (pos n) = omega (arith, number-fits n)
 signed-fits (negsuc n) = omega (arith, number-fits (suc n))
 
+-- ---- a line whose last number has a sign
+
+pub signed-reply-fits : (c : ℕ) (ns : List ℕ) (z : ℤ) → length (signedReply c ns z) ≤ 21 * length ns + 24
+unfolding signedReply
+signed-reply-fits c ns z =
+    let h = spaced-fits ns in
+    let g = signed-fits z in
+    rw (length-append, length-append) (omega (arith, h, g))
+
+-- letter, numbers, the one with a sign and newline one after the other
+pub put-signed-whole :
+    (c : ℕ) (ns : List ℕ) (z : ℤ) {o o₁ o₂ o₃ o₄ : List ℕ} {at p q r s : ℕ}
+    → Wrote o at (c ∷ []) o₁ p
+    → Wrote o₁ p (spaced ns) o₂ q
+    → Wrote o₂ q (32 ∷ signed z) o₃ r
+    → Wrote o₃ r (10 ∷ []) o₄ s
+    → Wrote o at (signedReply c ns z) o₄ s
+unfolding signedReply
+put-signed-whole c ns z u v w x = and-then (and-then (and-then u v) w) x
+
 -- ---- the report
-
-priced-line :
-    (price volume : ℕ) (surplus : ℤ)
-    → (82 ∷ []) ++ (32 ∷ digits 20 price) ++ (32 ∷ digits 20 volume) ++ (32 ∷ signed surplus) ++ (10 ∷ [])
-    ≡ reportLine (Priced price volume surplus)
-unfolding reportLine spaced
-priced-line price volume surplus = rw (append-nil, append-assoc)
-
--- letter, price, volume, surplus and newline one after the other
-pub put-priced :
-    (price volume : ℕ) (surplus : ℤ) {o o₁ o₂ o₃ o₄ o₅ : List ℕ} {at p q r s t : ℕ}
-    → Wrote o at (82 ∷ []) o₁ p
-    → Wrote o₁ p (32 ∷ digits 20 price) o₂ q
-    → Wrote o₂ q (32 ∷ digits 20 volume) o₃ r
-    → Wrote o₃ r (32 ∷ signed surplus) o₄ s
-    → Wrote o₄ s (10 ∷ []) o₅ t
-    → Wrote o at (reportLine (Priced price volume surplus)) o₅ t
-put-priced price volume surplus u v w x y =
-    put-as (priced-line price volume surplus) (and-then (and-then (and-then (and-then u v) w) x) y)
 
 -- a report's line never needs more than 110 bytes
 pub report-fits : (told : ReportReply) → length (reportLine told) ≤ 110
 unfolding reportLine
 report-fits (Refused n) = refusal-fits n
-report-fits (Priced price volume surplus) =
-    let h = spaced-fits (price ∷ volume ∷ []) in
-    let g = signed-fits surplus in
-    rw (length-append, length-append) (omega (arith, h, g))
+report-fits (Priced price volume surplus) = omega (arith, signed-reply-fits 82 (price ∷ volume ∷ []) surplus)
+
+pub priced-line :
+    (price volume : ℕ) {surplus shown : ℤ}
+    → shown ≡ surplus
+    → signedReply 82 (price ∷ volume ∷ []) shown ≡ reportLine (Priced price volume surplus)
+unfolding reportLine
+priced-line price volume e = rw e
 
 -- the report by its cases
 pub refused-report : {told : ReportReply} {n : ℕ} → told ≡ Refused n → refusalLine n ≡ reportLine told

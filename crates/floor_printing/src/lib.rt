@@ -1,5 +1,7 @@
-// The lines that ./floor has beside those of ./run, put into a lent buffer at a place: report, price list, claim and verdict. Each function
-// answers the place after what it put.
+// The lines that ./floor has beside those of ./run, put into a lent buffer at a place: report, price list, claim, verdict and screen. Each
+// function answers the place after what it put.
+pub mod screens;
+
 ghost use mathlib.Core.Path.{_≡_};
 ghost use Prim.Native.Nat.{_+_, _*_, _≤_};
 ghost use mathlib.Core.List.{[], _∷_};
@@ -11,7 +13,7 @@ ghost use Rattle.model.specs.Replies.{listNumbers};
 ghost use Rattle.model.specs.Lines.{reply, replyLine};
 ghost use Rattle.judge.specs.Judging.{verdictNumbers};
 ghost use Rattle.printing.specs.Printing.{Wrote};
-ghost use Rattle.floors.specs.Floor.{signed, reportLine, priceLines};
+ghost use Rattle.floors.specs.Floor.{signed, signedReply, reportLine, priceLines};
 use judge::Verdict;
 use model::ListReply;
 use model::ReportReply;
@@ -19,6 +21,7 @@ use printing::put_answer;
 use printing::put_byte;
 use printing::put_digits;
 use printing::put_number;
+use printing::put_numbers;
 use printing::put_refusal;
 use printing::put_reply;
 use replies::list_numbers;
@@ -51,16 +54,24 @@ fn put_signed(z: i64, out: &mut [u8], at: usize) -> usize
     put_number(n, out, at)
 }
 
+// A letter and numbers, the last of them with a sign.
+pub fn put_signed_reply(letter: u8, numbers: &[u64], z: i64, out: &mut [u8], at: usize) -> usize
+    requires { ⌜ at + 21 * length (now numbers) + 24 ≤ length (now out) ⌝ }
+    ensures { λ r. ⌜ Wrote (now (out .entry)) at (signedReply letter (now (numbers .entry)) z) (now (out .exit)) r ⌝ }
+{
+    let p = put_byte(letter, out, at);
+    let q = put_numbers(numbers, out, p);
+    let s = put_signed(z, out, q);
+    put_byte(b'\n', out, s)
+}
+
 // Price, volume and surplus.
 fn put_priced(price: u64, volume: u64, surplus: i64, out: &mut [u8], at: usize) -> usize
     requires { ⌜ at + 110 ≤ length (now out) ⌝ }
     ensures { λ r. ⌜ Wrote (now (out .entry)) at (reportLine (Priced price volume surplus)) (now (out .exit)) r ⌝ }
 {
-    let p = put_byte(b'R', out, at);
-    let q = put_number(price, out, p);
-    let s = put_number(volume, out, q);
-    let t = put_signed(surplus, out, s);
-    put_byte(b'\n', out, t)
+    let numbers = [price, volume];
+    put_signed_reply(b'R', &numbers, surplus, out, at)
 }
 
 pub fn put_report(told: ReportReply, out: &mut [u8], at: usize) -> usize

@@ -28,28 +28,31 @@ record Other (c : ℕ) : Type 0 where
   l : eqb c 76 ≡ false
   q : eqb c 81 ≡ false
   j : eqb c 74 ≡ false
+  s : eqb c 83 ≡ false
 
 other : (c : ℕ) → not (isOwnLetter c) ≡ true → Other c
 unfolding isOwnLetter
-other c e = go (eqb c 82) (eqb c 76) (eqb c 81) (eqb c 74) refl refl refl refl e
+other c e = go (eqb c 82) (eqb c 76) (eqb c 81) (eqb c 74) (eqb c 83) refl refl refl refl refl e
   where
     go :
-        (x y z w : Bool)
+        (x y z w v : Bool)
         → eqb c 82 ≡ x
         → eqb c 76 ≡ y
         → eqb c 81 ≡ z
         → eqb c 74 ≡ w
-        → not (x || y || z || w) ≡ true
+        → eqb c 83 ≡ v
+        → not (x || y || z || w || v) ≡ true
         → Other c
-    go true y z w r l q j e = let f : _≡_ {A = ℕ} 0 1 = cc in absurd (omega arith)
-    go false true z w r l q j e = let f : _≡_ {A = ℕ} 0 1 = cc in absurd (omega arith)
-    go false false true w r l q j e = let f : _≡_ {A = ℕ} 0 1 = cc in absurd (omega arith)
-    go false false false true r l q j e = let f : _≡_ {A = ℕ} 0 1 = cc in absurd (omega arith)
-    go false false false false r l q j e = record { r = r; l = l; q = q; j = j }
+    go true y z w v r l q j s e = let f : _≡_ {A = ℕ} 0 1 = cc in absurd (omega arith)
+    go false true z w v r l q j s e = let f : _≡_ {A = ℕ} 0 1 = cc in absurd (omega arith)
+    go false false true w v r l q j s e = let f : _≡_ {A = ℕ} 0 1 = cc in absurd (omega arith)
+    go false false false true v r l q j s e = let f : _≡_ {A = ℕ} 0 1 = cc in absurd (omega arith)
+    go false false false false true r l q j s e = let f : _≡_ {A = ℕ} 0 1 = cc in absurd (omega arith)
+    go false false false false false r l q j s e = record { r = r; l = l; q = q; j = j; s = s }
 
 no-question : (c : ℕ) (ns : List ℕ) → Other c → questionOf c ns ≡ none
 unfolding questionOf
-no-question c [] o = rw (o .r)
+no-question c [] o = rw (o .r, o .s)
 no-question c (x ∷ []) o = rw (o .j)
 no-question c (x ∷ y ∷ []) o = rw (o .l)
 no-question c (x ∷ y ∷ z ∷ []) o = rw (o .q)

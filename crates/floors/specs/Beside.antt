@@ -11,7 +11,7 @@ use Rattle.floors.specs.Wishes.{lineWish}
 use Rattle.floors.specs.Floor.{Floor, wishAnswer}
 
 unfoldable pub isOwnLetter : ℕ → Bool
-isOwnLetter c = eqb c (code "R") || eqb c (code "L") || eqb c (code "Q") || eqb c (code "J")
+isOwnLetter c = eqb c (code "R") || eqb c (code "L") || eqb c (code "Q") || eqb c (code "J") || eqb c (code "S")
 
 -- the line does not begin with a letter of ./floor's own
 unfoldable pub isPlain : Line → Bool

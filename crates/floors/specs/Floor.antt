@@ -6,7 +6,10 @@ use mathlib.Core.List.{List, [], _∷_, _++_}
 use mathlib.Core.Option.{Option, none, some}
 use lib.ListN.{length, replicate, take}
 use lib.IntN.{ℤ, pos, negsuc}
-use lib.Dec.{ltb}
+use lib.Dec.{ltb, eqb}
+use Rattle.model.specs.declared.Level.{Level}
+use Rattle.model.specs.declared.Levels.{Levels}
+use Rattle.model.specs.declared.Screen.{Screen}
 use Rattle.model.specs.declared.Command.{Command}
 use Rattle.model.specs.declared.Command.the-variants.{Malformed, Asks}
 use Rattle.model.specs.declared.Event.the-variants.{Open, Clock, Order, Cancel}
@@ -22,7 +25,7 @@ use Rattle.model.specs.Session.{Desk, answer, lentPlaces}
 use Rattle.judge.specs.declared.Claim.{Claim}
 use Rattle.judge.specs.Judging.{judgeCall, verdictNumbers}
 use Rattle.floors.specs.declared.Question.{Question}
-use Rattle.floors.specs.declared.Question.the-variants.{Report, Prices, Claims, Judge}
+use Rattle.floors.specs.declared.Question.the-variants.{Report, Prices, Claims, Judge, Screen as Screened}
 use Rattle.floors.specs.declared.Wish.{Wish}
 use Rattle.floors.specs.declared.Wish.the-variants.{Says, Wants}
 use Rattle.floors.specs.Wishes.{lineWish}
@@ -34,11 +37,14 @@ unfoldable pub signed : ℤ → List ℕ
 signed (pos n) = digits 20 n
 signed (negsuc n) = code "-" ∷ digits 20 (suc n)
 
+-- a letter and numbers, the last of them with a sign
+unfoldable pub signedReply : ℕ → List ℕ → ℤ → List ℕ
+signedReply c ns z = c ∷ spaced ns ++ (code " " ∷ signed z) ++ (code "\n" ∷ [])
+
 -- price, volume and surplus
 unfoldable pub reportLine : ReportReply.ReportReply → List ℕ
 reportLine (ReportReply.the-variants.Refused n) = refusalLine n
-reportLine (ReportReply.the-variants.Priced price volume surplus) =
-    code "R" ∷ spaced (price ∷ volume ∷ []) ++ (code " " ∷ signed surplus) ++ (code "\n" ∷ [])
+reportLine (ReportReply.the-variants.Priced price volume surplus) = signedReply (code "R") (price ∷ volume ∷ []) surplus
 
 unfoldable pub priceLines : List ℕ → List ℕ
 priceLines [] = []
@@ -52,6 +58,31 @@ writtenIn (ListReply.the-variants.Listed count next) = count
 -- the prices come first; then how many they are, and the next one due, or 0
 unfoldable pub listLines : ListOutcome → List ℕ
 listLines o = priceLines (take (writtenIn (o .reply)) (o .prices)) ++ replyLine (code "N") (listNumbers (o .reply))
+
+-- a price of a side and the shares there; a level that is not in use has no line
+unfoldable pub levelLine : ℕ → Level → List ℕ
+levelLine c l = if eqb (l .price) 0 then [] else reply c (l .price ∷ l .shares ∷ [])
+
+-- the best first
+unfoldable pub levelLines : ℕ → Levels → List ℕ
+levelLines c ls =
+    levelLine c (ls .first)
+    ++ levelLine c (ls .second)
+    ++ levelLine c (ls .third)
+    ++ levelLine c (ls .fourth)
+    ++ levelLine c (ls .fifth)
+
+-- the day's figures, then the auction's
+unfoldable pub figuresLine : Screen → List ℕ
+figuresLine s =
+    signedReply
+    (code "S")
+    (s .last ∷ s .high ∷ s .low ∷ s .shares ∷ s .turnover ∷ s .price ∷ s .volume ∷ [])
+    (s .surplus)
+
+-- the buys stand before the sells
+unfoldable pub screenLines : Screen → List ℕ
+screenLines s = figuresLine s ++ levelLines (code "+") (s .buys) ++ levelLines (code "-") (s .sells)
 
 -- ---- the answers
 
@@ -96,6 +127,7 @@ questionText (Prices asked count) s noted = listLines (listCall (s .day) asked (
 questionText (Claims c) s noted =
     if ltb (length noted) 4_096 then reply (code "Q") (suc (length noted) ∷ []) else refusalLine 13
 questionText (Judge price) s noted = replyLine (code "J") (verdictNumbers (judgeCall (s .day) price (s .book) noted))
+questionText Screened s noted = screenLines (s .day .screen)
 
 -- the claims that are noted then: one more while there are less than 4,096, and none after a verdict
 unfoldable pub notedThen : Question → List Claim → List Claim
@@ -103,6 +135,7 @@ notedThen Report noted = noted
 notedThen (Prices asked count) noted = noted
 notedThen (Claims c) noted = if ltb (length noted) 4_096 then noted ++ (c ∷ []) else noted
 notedThen (Judge price) noted = []
+notedThen Screened noted = noted
 
 -- 17: no day opened yet
 unfoldable pub questionAnswer : Question → Floor → Answered

@@ -11,13 +11,13 @@ use Rattle.model.specs.declared.Command.{Command}
 use Rattle.model.specs.Choice.{if_then_else_}
 use Rattle.model.specs.Lines.{Line, wordsOf, numbersOf, lineCommand}
 use Rattle.floors.specs.declared.Question.{Question}
-use Rattle.floors.specs.declared.Question.the-variants.{Report, Prices, Claims, Judge}
+use Rattle.floors.specs.declared.Question.the-variants.{Report, Prices, Claims, Judge, Screen}
 use Rattle.floors.specs.declared.Wish.{Wish}
 use Rattle.floors.specs.declared.Wish.the-variants.{Says, Wants}
 
 -- a letter, with as many numbers as it wants
 unfoldable pub questionOf : ℕ → List ℕ → Option Question
-questionOf c [] = if eqb c (code "R") then some Report else none
+questionOf c [] = if eqb c (code "R") then some Report else if eqb c (code "S") then some Screen else none
 questionOf c (price ∷ []) = if eqb c (code "J") then some (Judge price) else none
 questionOf c (price ∷ count ∷ []) = if eqb c (code "L") then some (Prices price count) else none
 questionOf c (shares ∷ buyer ∷ seller ∷ []) =

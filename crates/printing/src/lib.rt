@@ -3,7 +3,7 @@ ghost use mathlib.Core.Path.{_≡_};
 ghost use Prim.Native.Nat.{_+_, _*_, _≤_};
 ghost use mathlib.Core.List.{[], _∷_};
 ghost use lib.ListN.{length, take};
-ghost use Rattle.model.specs.Lines.{digits, reply, refusalLine, tradeLines, replyLine, openLine, clockLine, orderLine, cancelLine};
+ghost use Rattle.model.specs.Lines.{digits, spaced, reply, refusalLine, tradeLines, replyLine, openLine, clockLine, orderLine, cancelLine};
 ghost use Rattle.book.specs.Rows.{tradesOf};
 ghost use Rattle.printing.specs.Printing.{Wrote};
 use model::CancelReply;
@@ -60,19 +60,29 @@ pub fn put_number(x: u64, out: &mut [u8], at: usize) -> usize
     put_digits(x, out, p)
 }
 
-// A letter and numbers.
-pub fn put_reply(letter: u8, numbers: &[u64], out: &mut [u8], at: usize) -> usize
-    requires { ⌜ at + 21 * length (now numbers) + 2 ≤ length (now out) ⌝ }
-    ensures { λ r. ⌜ Wrote (now (out .entry)) at (reply letter (now (numbers .entry))) (now (out .exit)) r ⌝ }
+// Numbers, each with a space in front.
+pub fn put_numbers(numbers: &[u64], out: &mut [u8], at: usize) -> usize
+    requires { ⌜ at + 21 * length (now numbers) ≤ length (now out) ⌝ }
+    ensures { λ r. ⌜ Wrote (now (out .entry)) at (spaced (now (numbers .entry))) (now (out .exit)) r ⌝ }
 {
-    let mut p = put_byte(letter, out, at);
+    let mut p = at;
     let mut i: usize = 0;
     while i < numbers.len() {
         let x = numbers[i];
         p = put_number(x, out, p);
         i = i + 1;
     }
-    put_byte(b'\n', out, p)
+    p
+}
+
+// A letter and numbers.
+pub fn put_reply(letter: u8, numbers: &[u64], out: &mut [u8], at: usize) -> usize
+    requires { ⌜ at + 21 * length (now numbers) + 2 ≤ length (now out) ⌝ }
+    ensures { λ r. ⌜ Wrote (now (out .entry)) at (reply letter (now (numbers .entry))) (now (out .exit)) r ⌝ }
+{
+    let p = put_byte(letter, out, at);
+    let q = put_numbers(numbers, out, p);
+    put_byte(b'\n', out, q)
 }
 
 fn put_trade(t: Trade, out: &mut [u8], at: usize) -> usize

@@ -18,7 +18,7 @@ use Rattle.parsing.specs.Words.{Phrase, phraseWith, wordsPhrase, linePhrase, Fo
 use Rattle.parsing.proofs.Forms.{commandBy, line-asks, unended-form, long-form}
 use Rattle.text.specs.Readers.{Strict, asksAfter}
 use Rattle.floors.specs.declared.Question.{Question}
-use Rattle.floors.specs.declared.Question.the-variants.{Report, Prices, Claims, Judge}
+use Rattle.floors.specs.declared.Question.the-variants.{Report, Prices, Claims, Judge, Screen}
 use Rattle.floors.specs.declared.Wish.{Wish}
 use Rattle.floors.specs.declared.Wish.the-variants.{Says, Wants}
 use Rattle.floors.specs.Wishes.{questionOf, questionWith, wordsQuestion, lineQuestion, wishOf, lineWish}
@@ -29,6 +29,7 @@ use Rattle.wishes.specs.Wishes.{claimFrom, wishes}
 -- the letter does not want this count
 pub record Unasked (c n : ℕ) : Type 0 where
   pub report : c ≡ 82 → n ≡ 0 → ⊥
+  pub screen : c ≡ 83 → n ≡ 0 → ⊥
   pub judge : c ≡ 74 → n ≡ 1 → ⊥
   pub prices : c ≡ 76 → n ≡ 2 → ⊥
   pub claim : c ≡ 81 → n ≡ 3 → ⊥
@@ -38,7 +39,7 @@ other c d h = not-true-false (λ e. h (eqb-true c d e))
 
 unasked-is : (c : ℕ) (ns : List ℕ) → Unasked c (length ns) → questionOf c ns ≡ none
 unfolding questionOf
-unasked-is c [] u = rw (other c 82 (λ e. u .report e refl))
+unasked-is c [] u = rw (other c 82 (λ e. u .report e refl), other c 83 (λ e. u .screen e refl))
 unasked-is c (x ∷ []) u = rw (other c 74 (λ e. u .judge e refl))
 unasked-is c (x ∷ y ∷ []) u = rw (other c 76 (λ e. u .prices e refl))
 unasked-is c (x ∷ y ∷ z ∷ []) u = rw (other c 81 (λ e. u .claim e refl))
@@ -59,6 +60,10 @@ module _ (c n : ℕ) (v : List ℕ) (h : length v ≡ 6) where
   pub wants-report : c ≡ 82 → n ≡ 0 → Wants Report ≡ wish
   unfolding questionOf wishOf
   wants-report p q = rw (p, q)
+
+  pub wants-screen : c ≡ 83 → n ≡ 0 → Wants Screen ≡ wish
+  unfolding questionOf wishOf
+  wants-screen p q = rw (p, q)
 
   pub wants-verdict : c ≡ 74 → n ≡ 1 → Wants (Judge (getD v 0 0)) ≡ wish
   unfolding questionOf wishOf
@@ -94,7 +99,7 @@ questionBy (some p) = questionOf (p .letter) (p .numbers)
 many : (c : ℕ) (ns : List ℕ) → 6 < length ns → questionOf c ns ≡ none
 many c ns h =
     unasked-is c ns
-    (record { report = λ p q. omega arith; judge = λ p q. omega arith; prices = λ p q. omega arith; claim = λ p q. omega arith })
+    (record { report = λ p q. omega arith; screen = λ p q. omega arith; judge = λ p q. omega arith; prices = λ p q. omega arith; claim = λ p q. omega arith })
 
 with-phrase : (c : ℕ) (o : Option (List ℕ)) → questionWith c o ≡ questionBy (phraseWith c o)
 unfolding questionWith phraseWith

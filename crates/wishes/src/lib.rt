@@ -33,6 +33,9 @@ fn wished(letter: u8, n: usize, v: [u64; 6]) -> Wish
     if letter == b'R' && n == 0 {
         return Wish::Wants(Question::Report);
     }
+    if letter == b'S' && n == 0 {
+        return Wish::Wants(Question::Screen);
+    }
     if letter == b'J' && n == 1 {
         return Wish::Wants(Question::Judge(v[0]));
     }

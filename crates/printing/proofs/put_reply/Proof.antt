@@ -1,99 +1,34 @@
--- The numbers put so far are the front of all; a letter stands before them, a newline after.
-use Prim.Native.Nat.{ℕ, _+_, _*_, _≤_, _-_}
-use mathlib.Core.Path.{_≡_, _∙_}
-use mathlib.Core.List.{List}
+-- A letter stands before the numbers, a newline after.
 use native.Mathlib.Omega.{arith}
-use lib.ListN.{length, take}
-use lib.Seq.{take-length}
-use Rattle.model.specs.Lines.{spaced}
-use Rattle.printing.specs.Printing.{Wrote}
-use Rattle.printing.proofs.Printed.{numbers-start, numbers-room, numbers-on, put-long, put-whole}
+use Rattle.printing.proofs.Printed.{put-long, put-whole, spaced-fits}
 use borrow.Author.Needs.{needs}
 use Rattle.printing.proofs.put_reply.Statement.{statement}
 use Rattle.printing.proofs.put_reply.Tie as tie
 
-abbrev Inv-loop : tie.InvT-loop
-Inv-loop letter numbers out₀ at p₀ i₀ out p i = (i ≤ length numbers) × Wrote out₀ p₀ (spaced (take i numbers)) out p
-
-abbrev μ-loop : tie.MeasureT-loop
-μ-loop letter numbers out₀ at p₀ i₀ out p i = length numbers - i
-
-abbrev Place : Type 0
-Place = tie.At-loop Inv-loop μ-loop
-
-abbrev start : Place → tie.Start Inv-loop μ-loop
-start l = l .before .before .before .before .before .before .before
-
-abbrev numbers-of : Place → List ℕ
-numbers-of l = start l .args .numbers .now
-
--- there is room for the numbers that are left, and for the newline
-room :
-    (l : Place)
-    → (l .loop .p + 21 * (length (numbers-of l) - l .loop .i) + 1 ≤ length (l .loop .out))
-    × (length (l .loop .out) ≡ length (start l .args .out .now))
-room l =
-    let v = l .before .before .before .put-byte .ensures in
-    let w = l .loop .inv .1 in
-    let h = start l .pre in
-    let i : l .loop .i ≤ length (numbers-of l) = l .loop .inv .0 in
-    let r = numbers-room (numbers-of l) (l .loop .i) w i in
-    (omega (arith, v .place, put-long v, put-long w), put-long w ∙ put-long v)
-
-put-byte-requires : tie.Need-put-byte-requires Inv-loop μ-loop
+put-byte-requires : tie.Need-put-byte-requires
 put-byte-requires c κs = search needs
 
-loop-holds : tie.Need-loop-holds Inv-loop μ-loop
-loop-holds c = (search needs, numbers-start (c .before .before .before .before .before .before .args .numbers .now))
+put-numbers-requires : tie.Need-put-numbers-requires
+put-numbers-requires c κs = search needs
 
-mul-x : tie.Need-mul-x Inv-loop μ-loop
-mul-x c = search needs
+put-byte-requires-2 : tie.Need-put-byte-requires-2
+put-byte-requires-2 c κs =
+    let q = c .before .before .before in
+    let p = q .before .before .before .before in
+    let s = p .before .before .before .before in
+    omega (arith, s .pre, p .put-byte .ensures .place, put-long (p .put-byte .ensures), q .put-numbers .ensures .place, put-long (q .put-numbers .ensures), spaced-fits (s .args .numbers .now))
 
-shared-slice-read-x : tie.Need-shared-slice-read-x Inv-loop μ-loop
-shared-slice-read-x c = search needs
+same-length : tie.Need-same-length
+same-length c = search needs
 
-put-number-requires : tie.Need-put-number-requires Inv-loop μ-loop
-put-number-requires c κs = omega (arith, room (c .before .before .before))
-
-add-i : tie.Need-add-i Inv-loop μ-loop
-add-i c = search needs
-
-loop-less : tie.Need-loop-less Inv-loop μ-loop
-loop-less c = search needs
-
-loop-again : tie.Need-loop-again Inv-loop μ-loop
-loop-again c =
-    let n = c .before .before in
-    let l = n .before .before .before .before in
-    (omega arith, numbers-on (numbers-of l) (l .loop .i) (l .loop .inv .1) (omega arith) (n .put-number .ensures))
-
-put-byte-requires-2 : tie.Need-put-byte-requires-2 Inv-loop μ-loop
-put-byte-requires-2 c κs = omega (arith, room (c .before .before))
-
-same-length : tie.Need-same-length Inv-loop μ-loop
-same-length c = put-long (c .before .before .put-byte2 .ensures) ∙ room (c .before .before .before .before .before) .1
-
-returns : tie.Need-returns Inv-loop μ-loop
+returns : tie.Need-returns
 returns c =
-    let b = c .before .before in
-    let l = b .before .before .before in
-    let e : l .loop .i ≡ length (numbers-of l) = omega arith in
-    put-whole _ _ (l .before .before .before .put-byte .ensures) (rw (e, take-length (numbers-of l)) at (l .loop .inv .1)) (b .put-byte2 .ensures)
+    let n = c .before .before in
+    let q = n .before .before .before .before in
+    let p = q .before .before .before .before in
+    put-whole _ _ (p .put-byte .ensures) (q .put-numbers .ensures) (n .put-byte2 .ensures)
 
 pub put-reply-spec : {M : Type 1} → statement M
 put-reply-spec =
     tie.close
-    (tie.spec
-    Inv-loop
-    μ-loop
-    put-byte-requires
-    loop-holds
-    mul-x
-    shared-slice-read-x
-    put-number-requires
-    add-i
-    loop-less
-    loop-again
-    put-byte-requires-2
-    same-length
-    returns)
+    (tie.spec put-byte-requires put-numbers-requires put-byte-requires-2 same-length returns)

@@ -3,7 +3,7 @@ use mathlib.Core.Path.{ap}
 use Rattle.book.specs.Rows.{bookOf}
 use Rattle.printing.proofs.Printed.{put-as}
 use Rattle.floors.specs.Floor.{reportLine}
-use Rattle.floor_desk.proofs.Questions.{report-told, list-told, verdict-told, as-question}
+use Rattle.floor_desk.proofs.Questions.{report-told, list-told, verdict-told, screen-told, as-question}
 use borrow.Author.Needs.{needs}
 use Rattle.floor_desk.proofs.asking.answer_question.Statement.{statement}
 use Rattle.floor_desk.proofs.asking.answer_question.Tie as tie
@@ -34,6 +34,12 @@ enum-known-q-3 c = search needs
 
 answer-verdict-requires : tie.Need-answer-verdict-requires
 answer-verdict-requires c κs = search needs
+
+enum-told-2 : tie.Need-enum-told-2
+enum-told-2 c = search needs
+
+put-screen-requires : tie.Need-put-screen-requires
+put-screen-requires c κs = search needs
 
 same-length : tie.Need-same-length
 same-length c = search needs
@@ -85,6 +91,17 @@ returns-4 c =
     as-question (q .q3 .given .1)
     (verdict-told (s .args .claims .now) (s .args .noted) (record { day = s .args .d; book = bookOf (s .args .rows .now) }) _ (s .pre .1) _ (p .answer-verdict .ensures) (s .pre .2))
 
+same-length-7 : tie.Need-same-length-7
+same-length-7 c = search needs
+
+returns-5 : tie.Need-returns-5
+returns-5 c =
+    let p = c .before .before in
+    let e = p .before .before in
+    let s = e .before .before .before in
+    as-question (e .enum-told2 .given .1)
+    (screen-told (s .args .claims .now) (s .args .noted) (record { day = s .args .d; book = bookOf (s .args .rows .now) }) _ (s .pre .1) (p .put-screen .ensures) (s .pre .2))
+
 pub answer-question-spec : {M : Type 1} → statement M
 answer-question-spec =
     tie.close
@@ -98,6 +115,8 @@ answer-question-spec =
     answer-claim-requires
     enum-known-q-3
     answer-verdict-requires
+    enum-told-2
+    put-screen-requires
     same-length
     returns
     same-length-2
@@ -107,4 +126,6 @@ answer-question-spec =
     returns-3
     same-length-5
     same-length-6
-    returns-4)
+    returns-4
+    same-length-7
+    returns-5)
