@@ -3,6 +3,7 @@
 mod showing;
 
 use book::places::free_place;
+use figures::fresh_day;
 use lent::Answer;
 use lent::OnDay;
 use lent::Question;
@@ -36,7 +37,7 @@ fn day_after(day: Day, answer: Answer) -> Day {
         },
         Answer::Clock(moved) => moved.day,
         Answer::Order(entered) => entered.day,
-        Answer::Cancel(_) => day,
+        Answer::Cancel(withdrawn) => withdrawn.day,
     }
 }
 
@@ -107,19 +108,7 @@ fn asked(side: u64, kind: u64, account: u64, quantity: u64, price: u64) -> Asked
 fn before_the_day() -> Stand {
     let free = free_place();
     let book = [free; 16];
-    let day = Day {
-        close: 0,
-        limited: 0,
-        time: 0,
-        issued: 0,
-        shares: 0,
-        turnover: 0,
-        first: 0,
-        last: 0,
-        halt: 0,
-        used30: 0,
-        used60: 0,
-    };
+    let day = fresh_day(0, 0);
     Stand { day, book }
 }
 

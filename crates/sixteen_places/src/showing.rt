@@ -55,7 +55,10 @@ fn put_lines(event: Event, answer: Answer, trades: &[[u64; 6]], out: &mut [u8]) 
             let reply = entered.reply;
             put_order(reply, out, at)
         }
-        Answer::Cancel(reply) => put_cancel(number_asked(event), reply, out, 0),
+        Answer::Cancel(withdrawn) => {
+            let reply = withdrawn.reply;
+            put_cancel(number_asked(event), reply, out, 0)
+        }
     }
 }
 
