@@ -55,7 +55,7 @@ fn put_signed(z: i64, out: &mut [u8], at: usize) -> usize
 }
 
 // A letter and numbers, the last of them with a sign.
-pub fn put_signed_reply(letter: u8, numbers: &[u64], z: i64, out: &mut [u8], at: usize) -> usize
+fn put_signed_reply(letter: u8, numbers: &[u64], z: i64, out: &mut [u8], at: usize) -> usize
     requires { ⌜ at + 21 * length (now numbers) + 24 ≤ length (now out) ⌝ }
     ensures { λ r. ⌜ Wrote (now (out .entry)) at (signedReply letter (now (numbers .entry)) z) (now (out .exit)) r ⌝ }
 {
