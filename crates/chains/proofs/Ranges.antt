@@ -1,7 +1,7 @@
 -- High and low stand in the screen alone, and soundness does not bound them: those that are read from bytes are numbers of 64 bits, and
 -- an event's trades keep them so. Assumes nothing.
-use Prim.Native.Nat.{ℕ, max, min, _<_, _^_}
-use mathlib.Core.Path.{_≡_, refl, sym, ap, subst, _∙_}
+use Prim.Native.Nat.{ℕ, max, min}
+use mathlib.Core.Path.{_≡_, refl, sym, ap, subst}
 use mathlib.Core.Bool.{Bool, true, false, cond}
 use mathlib.Core.List.{List, [], _∷_}
 use native.Mathlib.Omega.{arith}

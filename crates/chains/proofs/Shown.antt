@@ -1,7 +1,6 @@
 -- What the screen of a sound day shows of its book fits numbers of 64 bits: five levels a side, and the auction's price, volume and
 -- surplus. Assumes nothing.
 use Prim.Native.Nat.{ℕ, zero, suc, _≤_, _<_, _^_}
-use mathlib.Core.Path.{_≡_}
 use mathlib.Core.Logic.{⊎-elim}
 use mathlib.Core.Bool.{Bool, true, false, cond, not, _&&_}
 use mathlib.Core.List.{List, [], _∷_, _++_, map}
@@ -13,7 +12,7 @@ use lib.Dec.{eqb}
 use Rattle.model.specs.declared.Order.{Order}
 use Rattle.model.specs.declared.Level.{Level}
 use Rattle.model.specs.declared.Day.{Day}
-use Rattle.model.specs.Lists.{among, keep, once}
+use Rattle.model.specs.Lists.{among, once}
 use Rattle.model.specs.Book.{standsOn, queue}
 use Rattle.model.specs.Matching.{fiveBest}
 use Rattle.model.specs.Figures.{noLevel}

@@ -9,7 +9,6 @@ use lib.Seq.{drop-cons, take-all}
 use lib.Dec.{leb}
 use borrow.Author.Tests.{leb-true, leb-false}
 use Rattle.model.specs.Lists.{from}
-use Rattle.model.specs.declared.Event.{Event}
 use Rattle.model.specs.declared.Event.the-variants.{Clock}
 use Rattle.octets.specs.Numbers.{AllBytes, flat}
 use Rattle.records.specs.Layout.{over}

@@ -34,7 +34,7 @@ use Rattle.floors.specs.Floor as Floor
 use Rattle.floors.specs.Floor.{notedAfter, commandAnswer, questionAnswer, wishAnswer}
 use Rattle.floor_desk.specs.declared.Told.{Told}
 use Rattle.floor_desk.specs.declared.FloorAnswered.{FloorAnswered}
-use Rattle.floor_desk.specs.Floors.{notedIn, floorOf, startsOver, notedPast, Replied, Leaves}
+use Rattle.floor_desk.specs.Floors.{notedIn, startsOver, notedPast, Replied, Leaves}
 
 -- ---- a new day
 

@@ -1,6 +1,6 @@
 -- A number with a sign, put as its digits: below zero a minus sign and its size. Assumes nothing.
 use Prim.Native.Nat.{ℕ, suc, _+_, _-_, _*_, _^_, _≤_, _<_}
-use mathlib.Core.Path.{_≡_, refl, sym, ap, _∙_}
+use mathlib.Core.Path.{_≡_, refl, ap}
 use mathlib.Core.Bool.{true, false}
 use mathlib.Core.List.{List, [], _∷_, _++_, append-nil}
 use native.Mathlib.Omega.{arith}
@@ -15,7 +15,7 @@ use Rattle.model.specs.declared.ReportReply.{ReportReply}
 use Rattle.model.specs.declared.ReportReply.the-variants.{Refused, Priced}
 use Rattle.model.specs.Lines.{digits, spaced, refusalLine}
 use Rattle.replies.specs.Words.{word}
-use Rattle.replies.proofs.Signs.{below-small, below-word, above-word}
+use Rattle.replies.proofs.Signs.{below-small, below-word}
 use Rattle.printing.specs.Printing.{Wrote}
 use Rattle.printing.proofs.Printed.{and-then, spaced-fits}
 use Rattle.printing.proofs.Replied.{refusal-fits}

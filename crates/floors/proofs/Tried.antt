@@ -22,7 +22,7 @@ use Rattle.model.specs.Calls.{openRules, cleared, openCall}
 use Rattle.model.specs.AuctionCalls.{reportRules, reportCall, listRules, listCall}
 use Rattle.model.specs.Replies.{openNumbers, listNumbers}
 use Rattle.model.specs.Lines.{onto, linesOf, ontoWord, wordsOf, isDigit, valueFrom, bare, numberOf, numbersOf, commandOf, wordsCommand, lineCommand, digits, spaced, reply, refusalLine, replyLine, openLine}
-use Rattle.model.specs.Session.{Desk, lentPlaces, opened, openAnswer, eventAnswer, onDesk, answer}
+use Rattle.model.specs.Session.{lentPlaces, opened, openAnswer, eventAnswer, onDesk, answer}
 use Rattle.model.proofs.Examples.{bytes, untraded, five, shows}
 use Rattle.judge.specs.declared.Claim.{Claim}
 use Rattle.judge.specs.Judging.{judgeRules, judgeCall, verdictNumbers}

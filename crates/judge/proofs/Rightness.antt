@@ -3,7 +3,7 @@ use Prim.Native.Nat.{ℕ}
 use mathlib.Core.Path.{_≡_, refl, sym, _∙_}
 use mathlib.Core.Logic.{_↔_}
 use mathlib.Core.Bool.{Bool, true, false, not, _||_}
-use mathlib.Core.List.{List, [], _∷_}
+use mathlib.Core.List.{List}
 use native.Mathlib.Omega.{arith}
 use lib.Dec.{eqb}
 use borrow.Author.Tests.{eqb-true, eq-eqb}
@@ -18,7 +18,6 @@ use Rattle.model.proofs.Bools.{not-both}
 use Rattle.soundness.proofs.Says.{Says, says-and, says-all, says-le, says-eq, says-itself, says-too}
 use Rattle.demands.proofs.Pricings.{not-unsound, sound-if}
 use Rattle.judge.specs.declared.Claim.{Claim}
-use Rattle.judge.specs.declared.Verdict.{Verdict}
 use Rattle.judge.specs.declared.Verdict.the-variants.{Refused, Yes, No}
 use Rattle.judge.specs.Judging.{hasOrder, joins, claimedFor, grantedTo, fillsRight, claimsRight, agrees, judgeRules, judgeCall}
 use Rattle.judge.specs.Verdicts.{Joins, Right}
