@@ -6,6 +6,7 @@
 #define _POSIX_C_SOURCE 199309L
 #include "chance.h"
 #include "plain.h"
+#include <stdbool.h>
 #include <stdio.h>
 #include <stdlib.h>
 #include <string.h>
@@ -18,7 +19,7 @@ struct memory {
     uint8_t day[DAY_BYTES], book[40 * MOST], list[TRADE_BYTES * MOST], reply[48];
 };
 static struct memory now, before, after;
-static size_t places, live, buys;
+static size_t places, live, buys, claims;
 
 /* ---- the books */
 
@@ -110,6 +111,33 @@ static void ask_any(uint64_t *a) {
     a[1] = chance(5);
 }
 
+static struct lent lend_now(int which) {
+    size_t list = which == JUDGE ? 24 * claims : sizeof now.list;
+    return (struct lent){now.day, now.book, now.list, now.reply, sizeof now.day, 40 * places, list, sizeof now.reply};
+}
+
+static void put_claim(uint64_t shares, size_t trade) {
+    put_number(before.list, 3 * claims, shares);
+    for (size_t i = 1; i < 3; i++) put_number(before.list, 3 * claims + i, number_at(now.list, 6 * trade + 1 + i));
+    claims++;
+}
+
+/* The judge is asked about the auction that would be held: its price, and of each trade a share and the others as a claim each, so that
+ * a nearly full book has nearly as many claims as places. The list is the judge's from then on, so it comes last. */
+static void ask_verdict(uint64_t *a) {
+    const uint64_t opening[ASKED] = {33900};
+    struct lent m = lend_now(CLOCK);
+    now = before;
+    calls[CLOCK].proved(&m, opening);
+    a[0] = number_at(now.list, 0);
+    claims = 0;
+    for (size_t t = 0; t < MOST && number_at(now.list, 6 * t); t++) {
+        uint64_t shares = number_at(now.list, 6 * t + 1);
+        put_claim(1, t);
+        if (shares > 1) put_claim(shares - 1, t);
+    }
+}
+
 static const struct event {
     const char *name;
     int which, shape;
@@ -128,27 +156,27 @@ static const struct event {
     {"order that takes all, sells alone", ORDER, SELLS, ask_side},
     {"report", REPORT, CROSSED, ask_nothing},
     {"list", LIST, CROSSED, ask_nothing},
+    {"judge", JUDGE, CROSSED, ask_verdict},
 };
 
 enum { EVENTS = sizeof events / sizeof events[0] };
 
-static struct lent lend_now(void) {
-    return (struct lent){now.day, now.book, now.list, now.reply, sizeof now.day, 40 * places, sizeof now.list, sizeof now.reply};
-}
-
-/* All three engines accept the event and leave the same bytes. Returns how many trades it has. */
+/* All engines accept the event and leave the same bytes; the plain one does not judge. Returns how many trades it has, or claims. */
 static size_t must_agree(const struct event *e, const uint64_t *asked) {
     call *const ways[] = {calls[e->which].independent, calls[e->which].proved, plain[e->which]};
-    struct lent m = lend_now();
+    struct lent m = lend_now(e->which);
     for (int way = 0; way < 3; way++) {
+        if (!ways[way]) continue;
         now = before;
         uint64_t refusal = ways[way](&m, asked);
         if (way == 0) after = now;
-        if (refusal || memcmp(&now, &after, sizeof now)) {
-            printf("%s: refused, or the engines differ\n", e->name);
+        bool no = e->which == JUDGE && number_at(now.reply, 1) != 1;
+        if (refusal || no || memcmp(&now, &after, sizeof now)) {
+            printf("%s: refused, a no, or the engines differ\n", e->name);
             exit(1);
         }
     }
+    if (e->which == JUDGE) return claims;
     size_t trades = 0;
     while (e->which != LIST && trades < MOST && number_at(after.list, 6 * trades)) trades++;
     return trades;
@@ -175,10 +203,12 @@ static void time_clock(void) {
     }
 }
 
-static void time_call(call *made, const uint64_t *asked, double *least) {
-    struct lent m = lend_now();
+static void time_call(int which, call *made, const uint64_t *asked, double *least) {
+    struct lent m = lend_now(which);
+    if (!made) return;
     memcpy(now.day, before.day, sizeof now.day);
     memcpy(now.book, before.book, m.book_length);
+    if (which == JUDGE) memcpy(now.list, before.list, m.list_length);
     double start = nanoseconds();
     made(&m, asked);
     keep_least(least, nanoseconds() - start - clock_takes);
@@ -213,14 +243,15 @@ static void measure(struct times *t, int round, int shape, int random, int book)
     prepare(shape, random);
     for (int e = 0; e < EVENTS; e++) {
         uint64_t asked[ASKED] = {0};
+        int which = events[e].which;
         if (events[e].shape != shape) continue;
         events[e].ask(asked);
         if (round == 0) t->trades[e][random][book] = (double)must_agree(&events[e], asked);
         for (int turn = round; turn < round + 2; turn++) { /* each way is the first in every other round */
             if (turn % 2)
-                time_call(calls[events[e].which].proved, asked, &t->proved[e][random][book]);
+                time_call(which, calls[which].proved, asked, &t->proved[e][random][book]);
             else
-                time_call(plain[events[e].which], asked, &t->plain[e][random][book]);
+                time_call(which, plain[which], asked, &t->plain[e][random][book]);
         }
     }
     time_pass(&t->pass);
@@ -242,8 +273,12 @@ static void print_row(const struct times *t, int e) {
     printf("| %s |", events[e].name);
     for (int random = 0; random < 2; random++) {
         const double *proved = t->proved[e][random];
-        printf(" %.0f | %.1f | %.1f | %.1f |", mean(t->trades[e][random]), mean(t->plain[e][random]) / t->pass,
-               mean(proved) / t->pass, most(proved) / t->pass);
+        printf(" %.0f |", mean(t->trades[e][random]));
+        if (plain[events[e].which])
+            printf(" %.1f |", mean(t->plain[e][random]) / t->pass);
+        else
+            printf(" |");
+        printf(" %.1f | %.1f |", mean(proved) / t->pass, most(proved) / t->pass);
     }
     printf("\n");
 }
