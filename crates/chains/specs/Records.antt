@@ -1,5 +1,5 @@
 -- Chains of calls on a lent slice of order records. The caller lends the same records again, and hands in the day that the last event
--- handed back; a cancel hands back none, and the day goes on.
+-- handed back.
 use Prim.Native.Nat.{ℕ}
 use mathlib.Core.Path.{_≡_}
 use mathlib.Core.Bool.{false}
