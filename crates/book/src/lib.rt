@@ -29,6 +29,12 @@ pub struct Head {
     pub left: u64,
 }
 
+// A run of trades: how many, and the shares that they are of.
+pub struct Dealt {
+    pub made: usize,
+    pub shares: u64,
+}
+
 pub fn smaller(a: u64, b: u64) -> u64
     ensures { λ r. ⌜ r ≡ min a b ⌝ }
 {

@@ -2,6 +2,7 @@
 pub mod Bools
 pub mod Rules
 pub mod Seconds
+pub mod Evening
 pub mod HaltEnds
 pub mod SameScreens
 pub mod Examples
@@ -10,3 +11,5 @@ pub mod TriedSound
 pub mod TriedCalls
 pub mod TriedScreen
 pub mod TriedHalts
+pub mod TriedFixed
+pub mod TriedBlocks

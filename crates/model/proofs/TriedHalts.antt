@@ -16,16 +16,16 @@ use Rattle.model.specs.declared.ClockReply as ClockReply
 use Rattle.model.specs.declared.OrderAnswer.{OrderAnswer}
 use Rattle.model.specs.Choice.{if_then_else_}
 use Rattle.model.specs.Lists.{keep, all, any, total, least, atLeast, from, among, once, different}
-use Rattle.model.specs.Clock.{isTime, closed, laterRows, holding, rowAt, phaseAt, takesOrders, takesCancels, continuous, passed}
+use Rattle.model.specs.Clock.{isTime, closed, laterRows, holding, rowAt, phaseAt, takesOrders, takesCancels, continuous, passed, dayEnd, matchingFrom}
 use Rattle.model.specs.Book.{free, isLive, standsOn, better, ahead, insert, inPriority, queue, other, headPrice, best, arranged, mayFollow, inOrder}
 use Rattle.model.specs.Matching.{meets, within, fiveBest, atFiveBest, tradeWith, sweep, filled, levels, lastPrice, firstPrice, isIn, filledOf, lessBy, settle, highest, lowest}
 use Rattle.model.specs.Limits.{isPrice, isQuantity, inBand, buyInRange, sellInRange, inRange}
-use Rattle.model.specs.Figures.{freshDay, at, nextNumber, issue, money, tally, reference, openPrice, closePrice, noLevel, noLevels, noScreen}
+use Rattle.model.specs.Figures.{freshDay, at, nextNumber, issue, money, tally, reference, openPrice, closePrice, noLevel, noLevels, noScreen, publishedShares, publishedTurnover}
 use Rattle.model.specs.Halts.{runs, phaseNow, away, reach, haltEnd, halting, fires, fired, resumed}
 use Rattle.model.specs.Entry.{bestWithin, entryPrice, opposite, entryTrades, restPrice, base}
 use Rattle.model.specs.Auction.{distance, sharesOf, demand, supply, volume, buysAbove, sellsBelow, buysAt, sellsAt, betterFill, oneSideFills, surplus}
 use Rattle.model.specs.Screen.{levelAt, levelsOf, shownPrice, screenOf, highWith, lowWith, update, sameLevel, sameLevels, sameSurplus, sameScreen}
-use Rattle.model.specs.Sound.{hasPlaces, isMark, mayStand, soundFigures, isFree, isOrder, ownNumbers, isEmpty, crosses, between, sharesFit, pricesFit, turnoverFits, isLedTo, isUsed, haltFits, soundAnywhere, sound, encloses, screenFits}
+use Rattle.model.specs.Sound.{hasPlaces, isMark, mayStand, soundFigures, isFree, isOrder, ownNumbers, isEmpty, crosses, between, sharesFit, pricesFit, turnoverFits, isLedTo, isUsed, haltFits, soundAnywhere, sound, encloses, screenFits, blocksFit, fixedFits, isOrderOf}
 use Rattle.model.specs.Refusals.{_when_, firstOf, unsound}
 use Rattle.model.specs.Calls.{Outcome, written, openRules, cleared, openCall, orderRules, ended, joined, entered, orderCall, isOwn, cancelRules, cancelCall}
 use Rattle.model.specs.ClockCall.{auctionTrades, Held, auction, resume, lapse, pass, through, start, moved, clockRules, clockCall}
@@ -123,7 +123,7 @@ pub orders-tried :
     × (entering 40_799 200 13 ≡ 200 ∷ 0 ∷ 0 ∷ 2 ∷ 7 ∷ 41_399 ∷ 1 ∷ 0 ∷ [])
     × (entering 40_800 200 13 ≡ 200 ∷ 0 ∷ 0 ∷ 2 ∷ 7 ∷ 46_800 ∷ 1 ∷ 0 ∷ [])
     × (entering 53_819 200 13 ≡ 200 ∷ 0 ∷ 0 ∷ 2 ∷ 7 ∷ 53_820 ∷ 1 ∷ 0 ∷ [])
-unfolding keep all any total least atLeast from among once different isTime closed laterRows holding rowAt phaseAt takesOrders takesCancels continuous passed free isLive standsOn better ahead insert inPriority queue other headPrice best arranged mayFollow inOrder meets within fiveBest atFiveBest tradeWith sweep filled levels lastPrice firstPrice highest lowest isIn filledOf lessBy settle isPrice isQuantity inBand buyInRange sellInRange inRange noLevel noLevels noScreen freshDay at nextNumber issue money tally reference openPrice closePrice runs phaseNow away reach haltEnd halting fires fired resumed bestWithin entryPrice opposite entryTrades restPrice base distance sharesOf demand supply volume buysAbove sellsBelow buysAt sellsAt betterFill oneSideFills surplus levelAt levelsOf shownPrice screenOf highWith lowWith update sameLevel sameLevels sameSurplus sameScreen hasPlaces isMark mayStand soundFigures isFree isOrder ownNumbers isEmpty crosses between sharesFit pricesFit turnoverFits encloses screenFits isLedTo isUsed haltFits soundAnywhere sound _when_ firstOf unsound written openRules cleared openCall orderRules ended joined entered orderCall isOwn cancelRules cancelCall restingOf withdrawnOf entryNumbers openNumbers orderNumbers cancelNumbers clockNumbers reportNumbers listNumbers
+unfolding keep all any total least atLeast from among once different isTime closed laterRows holding rowAt phaseAt takesOrders takesCancels continuous passed free isLive standsOn better ahead insert inPriority queue other headPrice best arranged mayFollow inOrder meets within fiveBest atFiveBest tradeWith sweep filled levels lastPrice firstPrice highest lowest isIn filledOf lessBy settle isPrice isQuantity inBand buyInRange sellInRange inRange noLevel noLevels noScreen freshDay at nextNumber issue money tally reference openPrice closePrice runs phaseNow away reach haltEnd halting fires fired resumed bestWithin entryPrice opposite entryTrades restPrice base distance sharesOf demand supply volume buysAbove sellsBelow buysAt sellsAt betterFill oneSideFills surplus levelAt levelsOf shownPrice screenOf highWith lowWith update sameLevel sameLevels sameSurplus sameScreen hasPlaces isMark mayStand soundFigures isFree isOrder ownNumbers isEmpty crosses between sharesFit pricesFit turnoverFits encloses screenFits isLedTo isUsed haltFits soundAnywhere sound _when_ firstOf unsound written openRules cleared openCall orderRules ended joined entered orderCall isOwn cancelRules cancelCall restingOf withdrawnOf entryNumbers openNumbers orderNumbers cancelNumbers clockNumbers reportNumbers listNumbers isOrderOf publishedShares publishedTurnover dayEnd fixedFits blocksFit matchingFrom
 orders-tried = (refl, refl, refl, refl, refl, refl)
 
 -- the first trade of the day is the open, and the same order may go on to what fires
@@ -132,7 +132,7 @@ pub first-tried :
     orderCall (fitting sells (untraded 10 0 34_200 4)) (buying 400 17) sells (replicate 6 (made 1))
     in
     (o .answer .day .first ≡ 12) × (o .answer .day .halt ≡ 34_800) × (o .answer .day .used30 ≡ 1) × (o .answer .day .used60 ≡ 0)
-unfolding keep all any total least atLeast from among once different isTime closed laterRows holding rowAt phaseAt takesOrders takesCancels continuous passed free isLive standsOn better ahead insert inPriority queue other headPrice best arranged mayFollow inOrder meets within fiveBest atFiveBest tradeWith sweep filled levels lastPrice firstPrice highest lowest isIn filledOf lessBy settle isPrice isQuantity inBand buyInRange sellInRange inRange noLevel noLevels noScreen freshDay at nextNumber issue money tally reference openPrice closePrice runs phaseNow away reach haltEnd halting fires fired resumed bestWithin entryPrice opposite entryTrades restPrice base distance sharesOf demand supply volume buysAbove sellsBelow buysAt sellsAt betterFill oneSideFills surplus levelAt levelsOf shownPrice screenOf highWith lowWith update sameLevel sameLevels sameSurplus sameScreen hasPlaces isMark mayStand soundFigures isFree isOrder ownNumbers isEmpty crosses between sharesFit pricesFit turnoverFits encloses screenFits isLedTo isUsed haltFits soundAnywhere sound _when_ firstOf unsound written openRules cleared openCall orderRules ended joined entered orderCall isOwn cancelRules cancelCall
+unfolding keep all any total least atLeast from among once different isTime closed laterRows holding rowAt phaseAt takesOrders takesCancels continuous passed free isLive standsOn better ahead insert inPriority queue other headPrice best arranged mayFollow inOrder meets within fiveBest atFiveBest tradeWith sweep filled levels lastPrice firstPrice highest lowest isIn filledOf lessBy settle isPrice isQuantity inBand buyInRange sellInRange inRange noLevel noLevels noScreen freshDay at nextNumber issue money tally reference openPrice closePrice runs phaseNow away reach haltEnd halting fires fired resumed bestWithin entryPrice opposite entryTrades restPrice base distance sharesOf demand supply volume buysAbove sellsBelow buysAt sellsAt betterFill oneSideFills surplus levelAt levelsOf shownPrice screenOf highWith lowWith update sameLevel sameLevels sameSurplus sameScreen hasPlaces isMark mayStand soundFigures isFree isOrder ownNumbers isEmpty crosses between sharesFit pricesFit turnoverFits encloses screenFits isLedTo isUsed haltFits soundAnywhere sound _when_ firstOf unsound written openRules cleared openCall orderRules ended joined entered orderCall isOwn cancelRules cancelCall isOrderOf publishedShares publishedTurnover dayEnd fixedFits blocksFit matchingFrom
 first-tried = (refl, refl, refl, refl)
 
 -- ---- what phase 7 takes, behind 15: limit orders, whatever their range, and cancels; at noon nothing
@@ -154,7 +154,7 @@ pub taken-tried :
     × (entered (stopped 40_800) (buying 100 12) sells [] .answer .reply
     ≡ OrderReply.the-variants.Accepted (record { number = 5; filled = 0; levels = 0; remainder = Rests 100 }))
     × (shownPrice (stopped 40_800) sells ≡ 0)
-unfolding keep all any total least atLeast from among once different isTime closed laterRows holding rowAt phaseAt takesOrders takesCancels continuous passed free isLive standsOn better ahead insert inPriority queue other headPrice best arranged mayFollow inOrder meets within fiveBest atFiveBest tradeWith sweep filled levels lastPrice firstPrice highest lowest isIn filledOf lessBy settle isPrice isQuantity inBand buyInRange sellInRange inRange noLevel noLevels noScreen freshDay at nextNumber issue money tally reference openPrice closePrice runs phaseNow away reach haltEnd halting fires fired resumed bestWithin entryPrice opposite entryTrades restPrice base levelAt levelsOf shownPrice screenOf highWith lowWith update sameLevel sameLevels sameSurplus sameScreen _when_ firstOf unsound written openRules cleared openCall orderRules ended joined entered orderCall isOwn cancelRules cancelCall distance sharesOf demand supply volume buysAbove sellsBelow buysAt sellsAt betterFill oneSideFills surplus encloses screenFits
+unfolding keep all any total least atLeast from among once different isTime closed laterRows holding rowAt phaseAt takesOrders takesCancels continuous passed free isLive standsOn better ahead insert inPriority queue other headPrice best arranged mayFollow inOrder meets within fiveBest atFiveBest tradeWith sweep filled levels lastPrice firstPrice highest lowest isIn filledOf lessBy settle isPrice isQuantity inBand buyInRange sellInRange inRange noLevel noLevels noScreen freshDay at nextNumber issue money tally reference openPrice closePrice runs phaseNow away reach haltEnd halting fires fired resumed bestWithin entryPrice opposite entryTrades restPrice base levelAt levelsOf shownPrice screenOf highWith lowWith update sameLevel sameLevels sameSurplus sameScreen _when_ firstOf unsound written openRules cleared openCall orderRules ended joined entered orderCall isOwn cancelRules cancelCall distance sharesOf demand supply volume buysAbove sellsBelow buysAt sellsAt betterFill oneSideFills surplus encloses screenFits publishedShares publishedTurnover dayEnd
 taken-tried = (refl, refl, refl, refl, refl, refl)
 
 -- ---- the end of a halt, for auctions that trade at a price, or not at all
@@ -214,7 +214,7 @@ pub crossing-tried :
     map (λ (d : Day). soundAnywhere d crossing)
     (haltDay 34_300 34_900 1 0 0 100 ∷ haltDay 41_400 46_800 1 0 0 100 ∷ haltDay 34_300 0 1 0 0 100 ∷ haltDay 34_300 0 0 0 0 100 ∷ [])
     ≡ true ∷ true ∷ false ∷ false ∷ []
-unfolding keep all any total least atLeast from among once different isTime closed laterRows holding rowAt phaseAt takesOrders takesCancels continuous passed free isLive standsOn better ahead insert inPriority queue other headPrice best arranged mayFollow inOrder isPrice isQuantity inBand buyInRange sellInRange inRange runs phaseNow away reach haltEnd halting fires fired resumed hasPlaces isMark mayStand soundFigures isFree isOrder ownNumbers isEmpty crosses between sharesFit pricesFit turnoverFits encloses screenFits isLedTo isUsed haltFits soundAnywhere sound highest lowest noLevel noLevels noScreen distance sharesOf demand supply volume buysAbove sellsBelow buysAt sellsAt betterFill oneSideFills surplus levelAt levelsOf shownPrice screenOf highWith lowWith update sameLevel sameLevels sameSurplus sameScreen
+unfolding keep all any total least atLeast from among once different isTime closed laterRows holding rowAt phaseAt takesOrders takesCancels continuous passed free isLive standsOn better ahead insert inPriority queue other headPrice best arranged mayFollow inOrder isPrice isQuantity inBand buyInRange sellInRange inRange runs phaseNow away reach haltEnd halting fires fired resumed hasPlaces isMark mayStand soundFigures isFree isOrder ownNumbers isEmpty crosses between sharesFit pricesFit turnoverFits encloses screenFits isLedTo isUsed haltFits soundAnywhere sound highest lowest noLevel noLevels noScreen distance sharesOf demand supply volume buysAbove sellsBelow buysAt sellsAt betterFill oneSideFills surplus levelAt levelsOf shownPrice screenOf highWith lowWith update sameLevel sameLevels sameSurplus sameScreen isOrderOf publishedShares publishedTurnover dayEnd fixedFits blocksFit matchingFrom reference closePrice
 crossing-tried = refl
 
 -- with no end: which marks
@@ -230,7 +230,7 @@ pub marks-tried :
     ∷ haltDay 0 0 1 0 0 0
     ∷ [])
     ≡ true ∷ true ∷ true ∷ false ∷ false ∷ false ∷ false ∷ false ∷ []
-unfolding keep all any total least atLeast from among once different isTime closed laterRows holding rowAt phaseAt takesOrders takesCancels continuous passed free isLive standsOn better ahead insert inPriority queue other headPrice best arranged mayFollow inOrder isPrice isQuantity inBand buyInRange sellInRange inRange runs phaseNow away reach haltEnd halting fires fired resumed hasPlaces isMark mayStand soundFigures isFree isOrder ownNumbers isEmpty crosses between sharesFit pricesFit turnoverFits isLedTo isUsed haltFits soundAnywhere sound highest lowest noLevel noLevels noScreen distance sharesOf demand supply volume buysAbove sellsBelow buysAt sellsAt betterFill oneSideFills surplus levelAt levelsOf shownPrice screenOf highWith lowWith update sameLevel sameLevels sameSurplus sameScreen encloses screenFits
+unfolding keep all any total least atLeast from among once different isTime closed laterRows holding rowAt phaseAt takesOrders takesCancels continuous passed free isLive standsOn better ahead insert inPriority queue other headPrice best arranged mayFollow inOrder isPrice isQuantity inBand buyInRange sellInRange inRange runs phaseNow away reach haltEnd halting fires fired resumed hasPlaces isMark mayStand soundFigures isFree isOrder ownNumbers isEmpty crosses between sharesFit pricesFit turnoverFits isLedTo isUsed haltFits soundAnywhere sound highest lowest noLevel noLevels noScreen distance sharesOf demand supply volume buysAbove sellsBelow buysAt sellsAt betterFill oneSideFills surplus levelAt levelsOf shownPrice screenOf highWith lowWith update sameLevel sameLevels sameSurplus sameScreen encloses screenFits isOrderOf publishedShares publishedTurnover dayEnd fixedFits blocksFit matchingFrom reference closePrice
 marks-tried = refl
 
 -- ends that a continuous second so far leads to: by search from 9:30 on, and else by the hours that stand for it (HaltEnds); noon's end

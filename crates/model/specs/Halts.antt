@@ -46,6 +46,8 @@ halting end used30 used60 d =
       halt = end;
       used30 = used30;
       used60 = used60;
+      fixed = d .fixed;
+      blocks = d .blocks;
     }
 
 -- each threshold fires once a day, on unlimited days

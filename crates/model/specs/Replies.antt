@@ -8,8 +8,11 @@ use Rattle.model.specs.declared.Remainder.{Remainder}
 use Rattle.model.specs.declared.Remainder.the-variants.{Nothing, Rests, Withdrawn}
 use Rattle.model.specs.declared.OpenReply as OpenReply
 use Rattle.model.specs.declared.OrderReply as OrderReply
+use Rattle.model.specs.declared.BlockReply as BlockReply
 use Rattle.model.specs.declared.CancelReply as CancelReply
 use Rattle.model.specs.declared.ClockReply as ClockReply
+use Rattle.model.specs.declared.Move.{Move}
+use Rattle.model.specs.declared.MoveReply as MoveReply
 use Rattle.model.specs.declared.ReportReply as ReportReply
 use Rattle.model.specs.declared.ListReply as ListReply
 
@@ -36,6 +39,12 @@ unfoldable pub orderNumbers : OrderReply.OrderReply → List ℕ
 orderNumbers (OrderReply.the-variants.Refused n) = n ∷ 0 ∷ 0 ∷ 0 ∷ 0 ∷ 0 ∷ []
 orderNumbers (OrderReply.the-variants.Accepted e) = 0 ∷ entryNumbers e
 
+-- number, and how many confirmations: 0 where it is held, 1 where it is confirmed
+unfoldable pub blockNumbers : BlockReply.BlockReply → List ℕ
+blockNumbers (BlockReply.the-variants.Refused n) = n ∷ 0 ∷ 0 ∷ []
+blockNumbers (BlockReply.the-variants.Held number) = 0 ∷ number ∷ 0 ∷ []
+blockNumbers (BlockReply.the-variants.Confirmed number) = 0 ∷ number ∷ 1 ∷ []
+
 -- the shares withdrawn
 unfoldable pub cancelNumbers : CancelReply.CancelReply → List ℕ
 cancelNumbers (CancelReply.the-variants.Refused n) = n ∷ 0 ∷ []
@@ -45,6 +54,13 @@ cancelNumbers (CancelReply.the-variants.Withdrawn q) = 0 ∷ q ∷ []
 unfoldable pub clockNumbers : ClockReply.ClockReply → List ℕ
 clockNumbers (ClockReply.the-variants.Refused n) = n ∷ 0 ∷ 0 ∷ []
 clockNumbers (ClockReply.the-variants.Moved phase trades) = 0 ∷ phase ∷ trades ∷ []
+
+-- the same over all lists: behind the trades of the main book the blocks confirmed and the fixed-price trades, then the void and
+-- the lapsed fixed-price shares
+unfoldable pub moveNumbers : MoveReply.MoveReply → List ℕ
+moveNumbers (MoveReply.the-variants.Refused n) = n ∷ 0 ∷ 0 ∷ 0 ∷ 0 ∷ 0 ∷ 0 ∷ []
+moveNumbers (MoveReply.the-variants.Moved m) =
+    0 ∷ m .phase ∷ m .trades ∷ m .confirmed ∷ m .fixed ∷ m .void ∷ m .lapsed ∷ []
 
 -- price, volume, surplus, which has a sign
 unfoldable pub reportNumbers : ReportReply.ReportReply → List ℤ

@@ -1,4 +1,4 @@
-// The words of the day: what stands at a place of the book, an order as it comes in, a trade, the public screen, the day's own
+// The words of the day: what stands at a place of a book, an order as it comes in, a trade, the public screen, the day's own
 // figures, the rows of the clock, and the answers of the calls. What they mean is defined in specs/.
 
 // The bounds of document 01: places of a book, fen of a price, shares of an order, numbers of a day, and its last second.
@@ -11,6 +11,13 @@ pub const MOST_SHARES: u64 = 1_000_000;
 pub const LAST_NUMBER: u64 = 999_999;
 
 pub const LAST_SECOND: u64 = 86_399;
+
+// Blocks are confirmed from 15:00 on, fixed-price orders match from 15:05 on, and at 15:30 what is left of both lapses.
+pub const CONFIRMING_FROM: u64 = 54_000;
+
+pub const MATCHING_FROM: u64 = 54_300;
+
+pub const DAY_END: u64 = 55_800;
 
 // The phase in which orders trade on entry, and the phase of a halt.
 pub const CONTINUOUS: u64 = 4;
@@ -37,7 +44,37 @@ pub struct Asked {
     pub balance: u64,
 }
 
-// A trade. Buyer and seller are order numbers; what is left of their orders is counted right after it.
+// A fixed-price order as it is asked for: its price is a limit, and it trades at the day's close or not at all.
+pub struct AskedFixed {
+    pub side: u64,
+    pub account: u64,
+    pub quantity: u64,
+    pub price: u64,
+    pub balance: u64,
+}
+
+// A held declaration of a block trade: counter is the account that it names. A free place is all zeros.
+pub struct Declaration {
+    pub side: u64,
+    pub account: u64,
+    pub counter: u64,
+    pub quantity: u64,
+    pub price: u64,
+    pub agreement: u64,
+    pub number: u64,
+}
+
+// A declaration as it is asked for.
+pub struct AskedBlock {
+    pub side: u64,
+    pub account: u64,
+    pub counter: u64,
+    pub quantity: u64,
+    pub price: u64,
+    pub agreement: u64,
+}
+
+// A trade. Buyer and seller are order numbers, of a block declaration numbers; what is left of their orders is counted right after it.
 pub struct Trade {
     pub price: u64,
     pub quantity: u64,
@@ -84,6 +121,19 @@ pub struct Screen {
     pub surplus: i64,
 }
 
+// The figures of the fixed-price book: numbers issued, shares and money traded.
+pub struct Fixed {
+    pub issued: u64,
+    pub shares: u64,
+    pub money: u64,
+}
+
+// The figures of block trades: declaration numbers issued, and shares confirmed.
+pub struct Blocks {
+    pub issued: u64,
+    pub shares: u64,
+}
+
 // The day's own figures, and its screen. First and last are the prices of the first and the last trade, 0 while nothing has
 // traded. Halt is the end of the halt that runs, 0 when none does; used30 and used60 are 1 once that threshold is used.
 pub struct Day {
@@ -99,6 +149,8 @@ pub struct Day {
     pub halt: u64,
     pub used30: u64,
     pub used60: u64,
+    pub fixed: Fixed,
+    pub blocks: Blocks,
 }
 
 // A row of the clock: it holds from its first second up to the next row.
@@ -134,6 +186,13 @@ pub enum OrderReply {
     Accepted(Entry),
 }
 
+// A declaration is held, or confirmed at once; both tell its number.
+pub enum BlockReply {
+    Refused(u64),
+    Held(u64),
+    Confirmed(u64),
+}
+
 pub enum CancelReply {
     Refused(u64),
     Withdrawn(u64),
@@ -142,6 +201,23 @@ pub enum CancelReply {
 pub enum ClockReply {
     Refused(u64),
     Moved { phase: u64, trades: usize },
+}
+
+// The accepted case of a move of the clock over all lists, in time order: the phase of the new time, how many trades the main book's
+// auctions had, how many blocks were confirmed, how many fixed-price trades there were, and the fixed-price shares that dropped out
+// as void and that lapsed.
+pub struct Move {
+    pub phase: u64,
+    pub trades: usize,
+    pub confirmed: usize,
+    pub fixed: usize,
+    pub void: u64,
+    pub lapsed: u64,
+}
+
+pub enum MoveReply {
+    Refused(u64),
+    Moved(Move),
 }
 
 pub enum ReportReply {
@@ -166,8 +242,20 @@ pub struct OrderAnswer {
     pub day: Day,
 }
 
+pub struct BlockAnswer {
+    pub reply: BlockReply,
+    pub made: usize,
+    pub day: Day,
+}
+
 pub struct ClockAnswer {
     pub reply: ClockReply,
+    pub made: usize,
+    pub day: Day,
+}
+
+pub struct MoveAnswer {
+    pub reply: MoveReply,
     pub made: usize,
     pub day: Day,
 }
