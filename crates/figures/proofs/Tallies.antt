@@ -112,6 +112,8 @@ with d shares turnover first last =
       halt = d .halt;
       used30 = d .used30;
       used60 = d .used60;
+      fixed = d .fixed;
+      blocks = d .blocks;
     }
 
 tally-none : (d : Day) → d ≡ tally [] d

@@ -1,6 +1,9 @@
 // The day's own figures: what trades add to them, and what is read off them.
 use book::trade_at;
+use model::Blocks;
+use model::DAY_END;
 use model::Day;
+use model::Fixed;
 use model::Level;
 use model::Levels;
 use model::Screen;
@@ -10,9 +13,9 @@ ghost use lib.ListN.{length, take};
 ghost use Rattle.model.specs.Matching.{filled};
 ghost use Rattle.model.specs.Figures.{noLevels, noScreen, freshDay, at, issue, money, tally, reference};
 ghost use Rattle.book.specs.Rows.{tradesOf};
-ghost use Rattle.figures.specs.Figures.{totals};
+ghost use Rattle.figures.specs.Figures.{totals, Publishable, published};
 
-// What a run of trades adds to the day's figures.
+// Shares and money: what a run of trades adds to the day's figures, and what is published of a day.
 pub struct Totals {
     pub shares: u64,
     pub money: u64,
@@ -70,6 +73,15 @@ pub fn fresh_day(close: u64, mark: u64) -> Day
         halt: 0,
         used30: 0,
         used60: 0,
+        fixed: Fixed {
+            issued: 0,
+            shares: 0,
+            money: 0,
+        },
+        blocks: Blocks {
+            issued: 0,
+            shares: 0,
+        },
     }
 }
 
@@ -96,6 +108,25 @@ pub fn reference_of(day: Day) -> u64
     ensures { λ r. ⌜ r ≡ reference day ⌝ }
 {
     if day.last == 0 { day.close } else { day.last }
+}
+
+// From 15:30 on the figures of the fixed-price book and the confirmed blocks are published too; the money of blocks never is.
+pub fn published(day: Day) -> Totals
+    requires { ⌜ Publishable day ⌝ }
+    ensures { λ r. ⌜ r ≡ published day ⌝ }
+{
+    if day.time < DAY_END {
+        return Totals {
+            shares: day.shares,
+            money: day.turnover,
+        };
+    }
+    let fixed = day.fixed;
+    let blocks = day.blocks;
+    Totals {
+        shares: day.shares + fixed.shares + blocks.shares,
+        money: day.turnover + fixed.money,
+    }
 }
 
 // Shares and money of the first n trades of the list.

@@ -37,10 +37,11 @@ use Rattle.pairing.proofs.Auctioned.{volume-filled}
 use Rattle.pairing.proofs.Auctions.{uncrossed-none, auction-trades-are, auction-priced, auction-money, auction-shares, auction-cases}
 use Rattle.pairing.proofs.Moves.{pass-due}
 use Rattle.halts.specs.Priced.{Priced}
-use Rattle.moves.specs.declared.Dealt.{Dealt}
+use Rattle.book.specs.declared.Dealt.{Dealt}
+use Rattle.book.specs.Deals.{dealt}
 use Rattle.moves.specs.declared.Passage.{Passage}
 use Rattle.moves.specs.Stops.{isStop}
-use Rattle.moves.specs.Moving.{dealt, soFar, Underway, Reached}
+use Rattle.moves.specs.Moving.{soFar, Underway, Reached}
 use Rattle.moves.proofs.NextStop.{stop-due}
 
 -- ---- its trades

@@ -28,12 +28,15 @@ use Rattle.book.specs.Standing.{Ranked}
 use Rattle.book.proofs.Written.{trades-drop}
 use Rattle.book.specs.Promises.{callLeft}
 use Rattle.pairing.proofs.Moves.{moved-few}
+use Rattle.figures.specs.Figures.{Publishable}
 use Rattle.soundness.specs.Ready.{Ready}
-use Rattle.moves.specs.declared.Dealt.{Dealt}
+use Rattle.book.specs.declared.Dealt.{Dealt}
+use Rattle.book.specs.Deals.{dealt}
 use Rattle.moves.specs.declared.Passage.{Passage}
 use Rattle.moves.specs.Stops.{isStop, nextStop}
-use Rattle.moves.specs.Moving.{dealt, soFar, Underway, Reached}
+use Rattle.moves.specs.Moving.{soFar, Underway, Reached}
 use Rattle.moves.proofs.NextStop.{stop-there, through-none, through-to}
+use Rattle.moves.proofs.OtherLists.{moved-publishable}
 use Rattle.moves.proofs.Stopping.{start-underway, through-underway, pass-grows, through-grows, moved-none, moved-trades}
 
 -- ---- the places for its trades
@@ -236,6 +239,16 @@ left-ranked d t rows lent {p} {rows₁} {after} s r =
     unfold moved in through-underway (passed (d .time) t) (start d (bookOf rows)) (start-underway d (bookOf rows) s) in
     let b : bookOf rows₁ ≡ moved d t (bookOf rows) .book = ap (λ (h : Held). h .book) (r .state) in
     rw b (u .ranked)
+
+-- what is published then are numbers of 64 bits
+pub left-publishable :
+    (d : Day) (t : ℕ) (rows lent : List (List ℕ)) {p : Passage} {rows₁ after : List (List ℕ)} {day : Day}
+    → Ready d (bookOf rows)
+    → Reached (moved d t (bookOf rows)) lent p rows₁ after
+    → day ≡ at t (p .day)
+    → Publishable day
+left-publishable d t rows lent s r e =
+    moved-publishable d t (bookOf rows) s (e ∙ ap (λ (h : Held). at t (h .day)) (r .state))
 
 -- the row of the new time
 pub row-then : (d : Day) (t : ℕ) {day : Day} {row : Row} → day ≡ at t d → row ≡ rowAt t → row ≡ rowAt (day .time)

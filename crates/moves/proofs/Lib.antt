@@ -1,4 +1,5 @@
 pub mod NextStop
 pub mod AuctionHeld
 pub mod Stopping
+pub mod OtherLists
 pub mod ClockLaws

@@ -1,21 +1,14 @@
--- A move of the clock as the code makes it: what an auction's trades come to, and the state that it has reached, in memory.
+-- A move of the clock as the code makes it: the state that it has reached, in memory.
 use Prim.Native.Nat.{ℕ, _+_, _*_, _≤_}
 use mathlib.Core.Path.{_≡_}
 use mathlib.Core.List.{List}
 use lib.ListN.{length, take, drop}
 use Rattle.model.specs.declared.Order.{Order}
-use Rattle.model.specs.declared.Trade.{Trade}
 use Rattle.model.specs.Lists.{total}
-use Rattle.model.specs.Matching.{filled}
 use Rattle.model.specs.ClockCall.{Held}
 use Rattle.book.specs.Rows.{bookOf, tradesOf}
 use Rattle.book.specs.Standing.{Ranked}
-use Rattle.moves.specs.declared.Dealt.{Dealt}
 use Rattle.moves.specs.declared.Passage.{Passage}
-
--- what a run of an auction's trades comes to
-unfoldable pub dealt : List Trade → Dealt
-dealt ts = record { made = length ts; shares = filled ts }
 
 -- a day and its book in the middle of a move, with the trades so far at the front of the lent list
 abbrev pub soFar : Passage → List (List ℕ) → List (List ℕ) → Held

@@ -1,9 +1,9 @@
 // What is due at each stop of the clock: the opening auction, the end of a halt, the closing auction with the lapse.
-use crate::Dealt;
 use crate::Passage;
 use crate::stops::OPENING_AUCTION;
 use auction::depth::volume_at;
 use auction::price::auction_price;
+use book::Dealt;
 use book::settling::clear_rows;
 use figures::reference_of;
 use figures::tally_trades;
@@ -20,9 +20,10 @@ ghost use lib.ListN.{length};
 ghost use Rattle.model.specs.ClockCall.{auctionTrades, auction, resume, lapse, pass, start};
 ghost use Rattle.book.specs.Rows.{bookOf, tradeRows};
 ghost use Rattle.book.specs.Standing.{Ranked};
+ghost use Rattle.book.specs.Deals.{dealt};
 ghost use Rattle.book.specs.Writing.{fitted};
 ghost use Rattle.moves.specs.Stops.{isStop};
-ghost use Rattle.moves.specs.Moving.{dealt, Underway, Reached};
+ghost use Rattle.moves.specs.Moving.{Underway, Reached};
 
 // At 14:57 no halt starts and no threshold is used up.
 const CLOSING_CALL: u64 = 53_820;

@@ -62,7 +62,7 @@ fn pass_next(p: Passage, rows: &mut [[u64; 5]], trades: &mut [[u64; 6]], second:
 }
 
 // The stops on the way. A halt that one of them starts has its end among those to come.
-fn pass_stops(d: Day, rows: &mut [[u64; 5]], trades: &mut [[u64; 6]], time: u64) -> Passage
+pub fn pass_stops(d: Day, rows: &mut [[u64; 5]], trades: &mut [[u64; 6]], time: u64) -> Passage
     requires { ⌜ Ready d (bookOf (now rows)) ⌝ }
     requires { ⌜ d .time ≤ time ⌝ }
     requires { ⌜ time ≤ 86_399 ⌝ }

@@ -8,7 +8,7 @@ pub const OPENING_AUCTION: u64 = 33_900;
 const STOPS: [u64; 2] = [33_900, 54_000];
 
 // A second is passed when the old time is below it and the new time isn't.
-fn passes(second: u64, old: u64, new: u64) -> bool
+pub fn passes(second: u64, old: u64, new: u64) -> bool
     ensures { λ r. ⌜ r ≡ stops.passes second old new ⌝ }
 {
     old < second && second <= new

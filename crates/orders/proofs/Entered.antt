@@ -1,6 +1,6 @@
 -- An order that no rule refuses: its trades are read back from the list, the day's figures have room for them, the book is settled,
 -- and what is left of the order joins it. Assumes nothing.
-use Prim.Native.Nat.{ℕ, _+_, _-_, _*_, _≤_, _<_}
+use Prim.Native.Nat.{ℕ, _+_, _-_, _*_, _^_, _≤_, _<_}
 use mathlib.Core.Path.{_≡_, sym, ap, _∙_}
 use mathlib.Core.Logic.{⊎-elim}
 use mathlib.Core.Bool.{Bool, true, false, _||_}
@@ -22,7 +22,7 @@ use Rattle.model.specs.Lists.{all, total}
 use Rattle.model.specs.Book.{isLive, queue, best, other, arranged}
 use Rattle.model.specs.Matching.{filled, levels, lastPrice, settle}
 use Rattle.model.specs.Figures.{nextNumber, issue, money, tally}
-use Rattle.model.specs.Halts.{fired}
+use Rattle.model.specs.Halts.{halting, fired}
 use Rattle.model.specs.Entry.{entryTrades, restPrice}
 use Rattle.model.specs.Screen.{update}
 use Rattle.model.specs.Calls.{written, ended, joined, entered}
@@ -35,6 +35,10 @@ use Rattle.book.proofs.Written.{fitted-trades, fitted-written}
 use Rattle.book.proofs.Kept.{New, standing-settle}
 use Rattle.book.proofs.Counting.{queues-orders, fewer-orders, not-full}
 use Rattle.book.proofs.Arranging.{arranged-buys, arranged-sells, arranged-length, arranged-ranked, arranged-again, arranged-with}
+use Rattle.figures.specs.Figures.{Publishable}
+use Rattle.halts.proofs.Kept.{fired-cases}
+use Rattle.soundness.specs.SoundDay.{EveningDay}
+use Rattle.soundness.proofs.EveningClauses.{fixed-paid}
 use Rattle.soundness.proofs.SoundDays.{next-new}
 use Rattle.matching.specs.declared.Swept.{Swept}
 use Rattle.matching.specs.Sweeping.{comesTo}
@@ -186,6 +190,23 @@ module _ (d : Day) (a : Asked) (rows lent : List (List ℕ)) where
             opened = opened;
             priced = priced;
           })
+
+      -- what is published then are numbers of 64 bits
+      pub then-publishable :
+          {next : Day}
+          → next ≡ fired (d .time) (tradesOf (take (s .trades) trades)) (tally (tradesOf (take (s .trades) trades)) (issue d))
+          → Publishable next
+      unfolding halting tally issue
+      then-publishable e =
+          let m : money ts ≤ 999_999 * filled ts = money-within 999_999 ts priced in
+          let v : EveningDay d = t .ready .evening in
+          let p : d .fixed .money ≤ 999_999 * d .fixed .shares = fixed-paid d book (t .ready .sound) v in
+          let b : d .shares + filled ts + d .fixed .shares + d .blocks .shares < 2 ^ 64 =
+          omega (arith, few, t .ready .sound .shares, t .ready .sound .issued, v .fixed-shares, v .fixed-issued, v .blocks-shares, v .blocks-issued) in
+          let c : d .turnover + money ts + d .fixed .money < 2 ^ 64 =
+          omega (arith, few, t .ready .sound .shares, t .ready .sound .issued, t .ready .sound .most, v .fixed-shares, v .fixed-issued) in
+          rw (e, back)
+          (fired-cases Publishable (d .time) ts (tally ts (issue d)) (λ _. record { shares = λ _. b; money = λ _. c }) (λ _. record { shares = λ _. b; money = λ _. c }))
 
       -- ---- the book after the trades
 

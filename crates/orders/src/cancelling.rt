@@ -15,6 +15,7 @@ ghost use Rattle.model.specs.Screen.{update};
 ghost use Rattle.model.specs.Calls.{cancelCall};
 ghost use Rattle.book.specs.Rows.{bookOf};
 ghost use Rattle.book.specs.Standing.{Ranked};
+ghost use Rattle.figures.specs.Figures.{Publishable};
 ghost use Rattle.book.specs.Promises.{cancelLeft, cancelRefused};
 
 pub fn cancel_refused(d: Day, n: u64) -> CancelAnswer
@@ -29,6 +30,7 @@ pub fn cancel_refused(d: Day, n: u64) -> CancelAnswer
 // The day after a cancel, which trades nothing.
 fn day_without(d: Day, rows: &[[u64; 5]]) -> Day
     requires { ⌜ Ranked (bookOf (now rows)) ⌝ }
+    requires { ⌜ Publishable d ⌝ }
     ensures { λ r. ⌜ r ≡ update [] (bookOf (now (rows .entry))) d ⌝ }
 {
     let none = [[0; 6]; 1];

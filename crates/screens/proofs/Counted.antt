@@ -20,6 +20,8 @@ use Rattle.model.specs.Figures.{reference}
 use Rattle.model.specs.Halts.{phaseNow}
 use Rattle.model.specs.Auction.{leftBy, auctionPrice}
 use Rattle.model.specs.Screen.{levelsOf, shownPrice, screenOf, update}
+use Rattle.figures.specs.declared.Totals.{Totals}
+use Rattle.figures.specs.Figures.{published}
 use Rattle.auction.specs.declared.Fixing.{Fixing}
 use Rattle.auction.specs.Fixings.{fixingAt}
 use Rattle.screens.specs.declared.Range.{Range}
@@ -70,17 +72,18 @@ module _ (d : Day) (book : List Order) {phase : ℕ} {b : Bool} (e : phase ≡ p
 -- ---- the screen
 
 pub screen-is :
-    (d : Day) (book : List Order) (high low : ℕ) {buys sells : Levels} {shown : Fixing}
+    (d : Day) (book : List Order) (high low : ℕ) {buys sells : Levels} {shown : Fixing} {totals : Totals}
     → buys ≡ levelsOf 0 book
     → sells ≡ levelsOf 1 book
     → shown ≡ fixingAt (shownPrice d book) book
+    → totals ≡ published d
     → SFits w64 (shown .surplus)
     → record {
       last = d .last;
       high = high;
       low = low;
-      shares = d .shares;
-      turnover = d .turnover;
+      shares = totals .shares;
+      turnover = totals .money;
       buys = buys;
       sells = sells;
       price = shown .price;
@@ -88,8 +91,8 @@ pub screen-is :
       surplus = toZ w64 (ofZ w64 (shown .surplus));
     }
     ≡ screenOf d book high low
-unfolding screenOf fixingAt
-screen-is d book high low {shown = shown} e f g h = rw (toZ-ofZ w64 (shown .surplus) h, e, f, g)
+unfolding screenOf fixingAt published
+screen-is d book high low {shown = shown} e f g p h = rw (toZ-ofZ w64 (shown .surplus) h, e, f, g, p)
 
 pub update-is :
     (d : Day) (ts : List Trade) (book : List Order) {range : Range} {screen : Screen}
@@ -108,6 +111,8 @@ pub update-is :
       halt = d .halt;
       used30 = d .used30;
       used60 = d .used60;
+      fixed = d .fixed;
+      blocks = d .blocks;
     }
     ≡ update ts book d
 unfolding update rangeWith

@@ -12,11 +12,14 @@ use Rattle.model.specs.declared.Day.{Day}
 use Rattle.model.specs.declared.Level.{Level}
 use Rattle.model.specs.declared.Levels.{Levels}
 use Rattle.model.specs.declared.Screen.{Screen}
+use Rattle.model.specs.Figures.{publishedShares, publishedTurnover}
 use Rattle.model.specs.Screen.{sameLevel, sameLevels, sameSurplus}
 use Rattle.model.specs.Sound.{encloses}
 use Rattle.model.proofs.Bools.{not-true-false}
 use Rattle.model.proofs.SameScreens.{surplus-same, surplus-equal}
 use Rattle.auction.specs.declared.Fixing.{Fixing}
+use Rattle.figures.specs.declared.Totals.{Totals}
+use Rattle.figures.specs.Figures.{published}
 use Rattle.screens.specs.Parts.{figuresFit, sameFixing}
 
 -- a test whose outcome is handed in, and was looked at
@@ -116,14 +119,24 @@ module _ (d : Day) where
   unfolding figuresFit
   figures-last n = rw (ne-eqb (d .screen .last) (d .last) n)
 
-  module _ (e : d .screen .last ≡ d .last) where
-    pub figures-shares : (d .screen .shares ≡ d .shares → ⊥) → false ≡ figuresFit d
-    unfolding figuresFit
-    figures-shares n = rw (eq-eqb (d .screen .last) (d .last) e, ne-eqb (d .screen .shares) (d .shares) n)
+  module _ (e : d .screen .last ≡ d .last) {totals : Totals} (p : totals ≡ published d) where
+    shares-are : totals .shares ≡ publishedShares d
+    unfolding published
+    shares-are = rw p
 
-    pub figures-turnover : d .screen .shares ≡ d .shares → eqb (d .screen .turnover) (d .turnover) ≡ figuresFit d
+    turnover-is : totals .money ≡ publishedTurnover d
+    unfolding published
+    turnover-is = rw p
+
+    pub figures-shares : (d .screen .shares ≡ totals .shares → ⊥) → false ≡ figuresFit d
     unfolding figuresFit
-    figures-turnover f = rw (eq-eqb (d .screen .last) (d .last) e, eq-eqb (d .screen .shares) (d .shares) f)
+    figures-shares n =
+        rw (eq-eqb (d .screen .last) (d .last) e, ne-eqb (d .screen .shares) (publishedShares d) (λ s. n (s ∙ sym shares-are)))
+
+    pub figures-turnover : d .screen .shares ≡ totals .shares → eqb (d .screen .turnover) (totals .money) ≡ figuresFit d
+    unfolding figuresFit
+    figures-turnover f =
+        rw (eq-eqb (d .screen .last) (d .last) e, eq-eqb (d .screen .shares) (publishedShares d) (f ∙ shares-are), turnover-is)
 
   -- ---- low and high
 

@@ -6,6 +6,7 @@ use lib.Dec.{eqb}
 use borrow.Author.Tests.{eq-eqb}
 use Rattle.model.specs.declared.Order.{Order}
 use Rattle.model.specs.declared.Day.{Day}
+use Rattle.model.specs.Figures.{publishedShares, publishedTurnover}
 use Rattle.model.specs.Screen.{levelsOf, shownPrice, screenOf, sameLevels, sameSurplus, sameScreen}
 use Rattle.model.specs.Sound.{encloses, screenFits}
 use Rattle.auction.specs.declared.Fixing.{Fixing}
@@ -40,7 +41,7 @@ module _ (d : Day) (book : List Order) where
   unfolding screenFits sameScreen screenOf figuresFit sameFixing fixingAt
   fits-groups =
       rw (eq-eqb (d .screen .high) (d .screen .high) refl, eq-eqb (d .screen .low) (d .screen .low) refl)
-      (reordered (eqb (d .screen .last) (d .last)) (eqb (d .screen .shares) (d .shares)) (eqb (d .screen .turnover) (d .turnover))
+      (reordered (eqb (d .screen .last) (d .last)) (eqb (d .screen .shares) (publishedShares d)) (eqb (d .screen .turnover) (publishedTurnover d))
       (sameLevels (d .screen .buys) (levelsOf 0 book)) (sameLevels (d .screen .sells) (levelsOf 1 book))
       (eqb (d .screen .price) (f .price)) (eqb (d .screen .volume) (f .volume)) (sameSurplus (d .screen .surplus) (f .surplus)) (encloses d))
     where

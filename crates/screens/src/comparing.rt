@@ -1,5 +1,6 @@
 // A screen held against what is counted, part by part.
 use auction::Fixing;
+use figures::published;
 use model::Day;
 use model::Level;
 use model::Levels;
@@ -7,6 +8,7 @@ use model::Screen;
 ghost use mathlib.Core.Path.{_≡_};
 ghost use Rattle.model.specs.Screen as screen;
 ghost use Rattle.model.specs.Sound as sound;
+ghost use Rattle.figures.specs.Figures.{Publishable};
 ghost use Rattle.screens.specs.Parts.{figuresFit, sameFixing};
 
 fn same_level(a: Level, b: Level) -> bool
@@ -54,16 +56,18 @@ pub fn same_fixing(s: Screen, f: Fixing) -> bool
 
 // The day's figures that its screen shows.
 pub fn figures_fit(day: Day) -> bool
+    requires { ⌜ Publishable day ⌝ }
     ensures { λ r. ⌜ r ≡ figuresFit day ⌝ }
 {
     let s = day.screen;
     if s.last != day.last {
         return false;
     }
-    if s.shares != day.shares {
+    let totals = published(day);
+    if s.shares != totals.shares {
         return false;
     }
-    s.turnover == day.turnover
+    s.turnover == totals.money
 }
 
 // Low and high enclose first and last trade; all are 0 if none.

@@ -3,6 +3,7 @@ use auction::Fixing;
 use auction::fixings::fixing_of;
 use clock::phase_now;
 use clock::row_at;
+use figures::published;
 use figures::reference_of;
 use levels::levels_of;
 use model::Day;
@@ -14,6 +15,7 @@ ghost use Rattle.model.specs.Screen.{shownPrice, screenOf};
 ghost use Rattle.book.specs.Rows.{bookOf};
 ghost use Rattle.book.specs.Standing.{Ranked};
 ghost use Rattle.auction.specs.Fixings.{fixingAt};
+ghost use Rattle.figures.specs.Figures.{Publishable};
 
 // The phases in which the auction's figures are shown.
 fn shows(phase: u64) -> bool
@@ -43,17 +45,19 @@ pub fn shown_of(day: Day, rows: &[[u64; 5]]) -> Fixing
 
 pub fn screen_of(day: Day, rows: &[[u64; 5]], high: u64, low: u64) -> Screen
     requires { ⌜ Ranked (bookOf (now rows)) ⌝ }
+    requires { ⌜ Publishable day ⌝ }
     ensures { λ r. ⌜ r ≡ screenOf day (bookOf (now (rows .entry))) high low ⌝ }
 {
     let buys = levels_of(rows, 0);
     let sells = levels_of(rows, 1);
     let shown = shown_of(day, rows);
+    let totals = published(day);
     Screen {
         last: day.last,
         high,
         low,
-        shares: day.shares,
-        turnover: day.turnover,
+        shares: totals.shares,
+        turnover: totals.money,
         buys,
         sells,
         price: shown.price,

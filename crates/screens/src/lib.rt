@@ -19,6 +19,7 @@ ghost use Rattle.model.specs.Screen.{update};
 ghost use Rattle.model.specs.Sound.{screenFits};
 ghost use Rattle.book.specs.Rows.{bookOf, tradesOf};
 ghost use Rattle.book.specs.Standing.{Ranked};
+ghost use Rattle.figures.specs.Figures.{Publishable};
 
 // The highest and the lowest price that has traded; zeros while nothing has.
 pub struct Range {
@@ -30,6 +31,7 @@ pub struct Range {
 pub fn update_screen(day: Day, rows: &[[u64; 5]], trades: &[[u64; 6]], n: usize) -> Day
     requires { ⌜ Ranked (bookOf (now rows)) ⌝ }
     requires { ⌜ n ≤ length (now trades) ⌝ }
+    requires { ⌜ Publishable day ⌝ }
     ensures { λ r. ⌜ r ≡ update (tradesOf (take n (now (trades .entry)))) (bookOf (now (rows .entry))) day ⌝ }
 {
     let range = range_with(day.screen, trades, n);
@@ -42,6 +44,7 @@ pub fn update_screen(day: Day, rows: &[[u64; 5]], trades: &[[u64; 6]], n: usize)
 // Whether a day's screen does not differ from its book and its figures: what is cheap is tested first, the auction's figures last.
 pub fn screen_fits(day: Day, rows: &[[u64; 5]]) -> bool
     requires { ⌜ Ranked (bookOf (now rows)) ⌝ }
+    requires { ⌜ Publishable day ⌝ }
     ensures { λ r. ⌜ r ≡ screenFits day (bookOf (now (rows .entry))) ⌝ }
 {
     if !figures_fit(day) {

@@ -10,7 +10,7 @@ use Rattle.model.specs.declared.Day.{Day}
 use Rattle.model.specs.Lists.{all, any, total}
 use Rattle.model.specs.Limits.{isPrice, inBand}
 use Rattle.model.specs.Book.{free, isLive, best}
-use Rattle.model.specs.Sound.{isMark, mayStand, soundFigures, isFree, isOrder, ownNumbers, isEmpty, crosses, between, sharesFit, pricesFit, turnoverFits}
+use Rattle.model.specs.Sound.{isMark, mayStand, soundFigures, isFree, isOrderOf, isOrder, ownNumbers, isEmpty, crosses, between, sharesFit, pricesFit, turnoverFits}
 use Rattle.model.specs.Clock.{isTime}
 use Rattle.model.specs.Words.{Each, Price, Apart}
 use Rattle.book.proofs.Lists.{each, every}
@@ -43,7 +43,7 @@ unfolding mayStand
 says-stand d p = says-and (says-price p) (says-unless (says-eq (d .limited) 0) (says-band (d .close) p))
 
 pub says-rests : (d : Day) (o : Order) → Says (isOrder d o) (Rests d o)
-unfolding isOrder
+unfolding isOrder isOrderOf
 says-rests d o =
     says-too
     (λ h.

@@ -8,14 +8,14 @@ use Rattle.model.specs.declared.Day.{Day}
 use Rattle.model.specs.Sound.{hasPlaces, sound}
 use Rattle.model.specs.Refusals.{unsound}
 use Rattle.model.proofs.Bools.{and-right}
-use Rattle.soundness.proofs.SoundDays.{sound-day, sound-halt, ranked}
+use Rattle.soundness.proofs.SoundDays.{sound-day, sound-halt, sound-evening, ranked}
 use Rattle.soundness.specs.Ready.{Ready}
 
 module _ (d : Day) (book : List Order) where
   tested : (hasPlaces book && sound d book) ≡ true → Ready d book
   tested e =
       let h : sound d book ≡ true = and-right (hasPlaces book) (sound d book) e in
-      record { sound = sound-day d book h; ranked = ranked d book e; halt = sound-halt d book h }
+      record { sound = sound-day d book h; ranked = ranked d book e; halt = sound-halt d book h; evening = sound-evening d book h }
 
   pub ready-if : unsound d book ≡ false → Ready d book
   unfolding unsound

@@ -13,18 +13,19 @@ use Rattle.model.specs.declared.Order.{Order}
 use Rattle.model.specs.declared.Day.{Day}
 use Rattle.model.specs.Book.{free, inOrder}
 use Rattle.model.specs.Figures.{nextNumber}
-use Rattle.model.specs.Sound.{hasPlaces, isFree, isOrder, screenFits, haltFits, soundAnywhere, sound}
+use Rattle.model.specs.Sound.{hasPlaces, isFree, isOrder, screenFits, haltFits, fixedFits, blocksFit, soundAnywhere, sound}
 use Rattle.model.proofs.Bools.{and-left, and-right, and-both}
 use Rattle.model.specs.Words.{Each, Apart, Ordered}
 use Rattle.book.specs.Standing.{Fair, Standing, Ranked}
 use Rattle.book.proofs.Lists.{each, both}
 use Rattle.book.proofs.Kept.{New, fair-free, free-number}
 use Rattle.book.proofs.Orderly.{told-ordered, ordered-told}
-use Rattle.soundness.specs.SoundDay.{Rests, Place, Empty, SoundDay, HaltDay, standsSound}
+use Rattle.soundness.specs.SoundDay.{Rests, Place, Empty, SoundDay, HaltDay, EveningDay, standsSound}
 use Rattle.soundness.proofs.Numbers.{issued-number}
 use Rattle.soundness.proofs.Says.{Says, says-and, says-unless, says-too, says-not, says-all}
 use Rattle.soundness.proofs.Clauses.{says-place, says-between, says-empty, says-apart, says-crosses, says-figures, says-fit, says-traded, says-turnover}
 use Rattle.soundness.proofs.HaltClauses.{says-runs, says-halt}
+use Rattle.soundness.proofs.EveningClauses.{says-evening}
 
 -- ---- an empty book: no number, so every place is free
 
@@ -139,19 +140,26 @@ standing d book l p a = record { fair = each (Place d) Fair book (λ o h. fair-p
 pub day-stands : (d : Day) (book : List Order) → SoundDay d book → Standing book
 day-stands d book s = standing d book (s .issued) (s .places) (s .apart)
 
--- ---- the whole test: the facts, the order of the places, the screen and the halt
+-- ---- the whole test: the facts, the order of the places, the screen, the halt and the figures of the other lists
 
 module _ (d : Day) (book : List Order) where
   abbrev orderly : Bool
   orderly = soundAnywhere d book && inOrder book
 
-  stands-of : sound d book ≡ true → standsSound d book ≡ true
-  unfolding sound
-  stands-of e =
-      let h : (orderly && screenFits d book) ≡ true = and-left (orderly && screenFits d book) (haltFits d) e in
-      and-both (and-left orderly (screenFits d book) h) (and-right (orderly && screenFits d book) (haltFits d) e)
+  abbrev untilHalt : Bool
+  untilHalt = orderly && screenFits d book && haltFits d
 
-  stands-day : standsSound d book ≡ true → SoundDay d book
+  until-halt : sound d book ≡ true → untilHalt ≡ true
+  unfolding sound
+  until-halt e = and-left untilHalt (fixedFits d) (and-left (untilHalt && fixedFits d) (blocksFit d) e)
+
+  stands-of : sound d book ≡ true → standsSound d book ≡ true
+  stands-of e =
+      let u : untilHalt ≡ true = until-halt e in
+      let h : (orderly && screenFits d book) ≡ true = and-left (orderly && screenFits d book) (haltFits d) u in
+      and-both (and-left orderly (screenFits d book) h) (and-right (orderly && screenFits d book) (haltFits d) u)
+
+  pub stands-day : standsSound d book ≡ true → SoundDay d book
   stands-day e = says-anywhere d book .0 (and-left (soundAnywhere d book) (inOrder book) (and-left orderly (haltFits d) e))
 
   stands-ordered : standsSound d book ≡ true → Ordered book
@@ -165,19 +173,29 @@ module _ (d : Day) (book : List Order) where
   sound-ordered e = stands-ordered (stands-of e)
 
   pub sound-screen : sound d book ≡ true → screenFits d book ≡ true
-  unfolding sound
-  sound-screen e = and-right orderly (screenFits d book) (and-left (orderly && screenFits d book) (haltFits d) e)
+  sound-screen e = and-right orderly (screenFits d book) (and-left (orderly && screenFits d book) (haltFits d) (until-halt e))
 
   pub sound-halt : sound d book ≡ true → HaltDay d
-  unfolding sound
-  sound-halt e = says-halt d .0 (and-right (orderly && screenFits d book) (haltFits d) e)
+  sound-halt e = says-halt d .0 (and-right (orderly && screenFits d book) (haltFits d) (until-halt e))
 
-  pub day-sound : SoundDay d book → Ordered book → screenFits d book ≡ true → HaltDay d → sound d book ≡ true
+  pub sound-evening : sound d book ≡ true → EveningDay d
   unfolding sound
-  day-sound s o f h =
+  sound-evening e =
+      let f : (untilHalt && fixedFits d) ≡ true = and-left (untilHalt && fixedFits d) (blocksFit d) e in
+      says-evening d .0 (and-both (and-right untilHalt (fixedFits d) f) (and-right (untilHalt && fixedFits d) (blocksFit d) e))
+
+  pub day-sound :
+      SoundDay d book → Ordered book → screenFits d book ≡ true → HaltDay d → EveningDay d → sound d book ≡ true
+  unfolding sound
+  day-sound s o f h v =
+      let w : (fixedFits d && blocksFit d) ≡ true = says-evening d .1 v in
       and-both
+      (and-both
+      (and-both
       (and-both (and-both (says-anywhere d book .1 s) (ordered-told book (day-stands d book s) o)) f)
-      (says-halt d .1 h)
+      (says-halt d .1 h))
+      (and-left (fixedFits d) (blocksFit d) w))
+      (and-right (fixedFits d) (blocksFit d) w)
 
 pub few-places : (book : List Order) → hasPlaces book ≡ true → length book ≤ 4_096
 unfolding hasPlaces

@@ -10,15 +10,18 @@ use borrow.Author.Tests.{eq-eqb, ne-eqb}
 use Rattle.model.specs.declared.Order.{Order}
 use Rattle.model.specs.declared.Day.{Day}
 use Rattle.model.specs.Lists.{total}
-use Rattle.model.specs.Sound.{hasPlaces, soundFigures, isEmpty, crosses, between, sharesFit, pricesFit, turnoverFits, screenFits, haltFits, soundAnywhere, sound}
+use Rattle.model.specs.Figures.{closePrice}
+use Rattle.model.specs.Sound.{hasPlaces, soundFigures, isEmpty, crosses, between, sharesFit, pricesFit, turnoverFits, screenFits, haltFits, fixedFits, blocksFit, soundAnywhere, sound}
 use Rattle.model.specs.Book.{inOrder}
 use Rattle.model.specs.Halts.{runs}
 use Rattle.model.proofs.Bools.{and-left, and-right}
 use Rattle.book.specs.Standing.{Standing, Ranked}
 use Rattle.book.proofs.Orderly.{told-ordered}
-use Rattle.soundness.specs.SoundDay.{standsSound}
+use Rattle.figures.specs.Figures.{Publishable}
+use Rattle.soundness.specs.SoundDay.{SoundDay, standsSound}
 use Rattle.soundness.proofs.Clauses.{whole, says-whole, says-figures, says-fit}
-use Rattle.soundness.proofs.SoundDays.{standing, few-places, standing-ranked}
+use Rattle.soundness.proofs.EveningClauses.{says-evening, close-small, publishable}
+use Rattle.soundness.proofs.SoundDays.{standing, few-places, standing-ranked, stands-day}
 use Rattle.soundness.proofs.Totals.{empty-is, shares-within}
 
 -- a book out of order is not sound, nor is a day whose halt does not fit
@@ -109,23 +112,40 @@ module _ (d : Day) (book : List Order) (s : Seated d book) where
     unfolding sharesFit
     fit-by t e = rw (← r, e)
 
--- ---- the screen, last
+-- ---- the figures of the other lists, and the screen last
 
-screen-last : (p a o s h : Bool) → (p && (a && o && s && h)) ≡ ((p && (a && o && h)) && s)
-screen-last true true true true true = refl
-screen-last true true true true false = refl
-screen-last true true true false true = refl
-screen-last true true true false false = refl
-screen-last true true false s h = refl
-screen-last true false o s h = refl
-screen-last false a o s h = refl
+screen-last : (p a o s h f k : Bool) → (p && (a && o && s && h && f && k)) ≡ (((p && (a && o && h)) && (f && k)) && s)
+screen-last true true true true true f k = sym (and-true (f && k))
+screen-last true true true true false f k = refl
+screen-last true true true false true f k = sym (and-false (f && k))
+screen-last true true true false false f k = refl
+screen-last true true false s h f k = refl
+screen-last true false o s h f k = refl
+screen-last false a o s h f k = refl
 
 module _ (d : Day) (book : List Order) where
-  pub then-screen : (hasPlaces book && sound d book) ≡ ((hasPlaces book && standsSound d book) && screenFits d book)
-  unfolding sound
-  then-screen = screen-last (hasPlaces book) (soundAnywhere d book) (inOrder book) (screenFits d book) (haltFits d)
+  abbrev stands : Bool
+  stands = hasPlaces book && standsSound d book
 
-  pub stands-ranked : (hasPlaces book && standsSound d book) ≡ true → Ranked book
-  stands-ranked e =
-      let h : standsSound d book ≡ true = and-right (hasPlaces book) (standsSound d book) e in
-      standing-ranked d book (and-left (hasPlaces book) (standsSound d book) e) h
+  abbrev fits : Bool
+  fits = fixedFits d && blocksFit d
+
+  pub then-screen : (hasPlaces book && sound d book) ≡ ((stands && fits) && screenFits d book)
+  unfolding sound
+  then-screen =
+      screen-last (hasPlaces book) (soundAnywhere d book) (inOrder book) (screenFits d book) (haltFits d) (fixedFits d) (blocksFit d)
+
+  module _ (e : stands ≡ true) where
+    stands-so : SoundDay d book
+    stands-so = stands-day d book (and-right (hasPlaces book) (standsSound d book) e)
+
+    pub stands-ranked : Ranked book
+    stands-ranked =
+        let h : standsSound d book ≡ true = and-right (hasPlaces book) (standsSound d book) e in
+        standing-ranked d book (and-left (hasPlaces book) (standsSound d book) e) h
+
+    pub stands-close : closePrice d ≤ 999_999
+    stands-close = close-small d book stands-so
+
+    pub stands-publishable : fits ≡ true → Publishable d
+    stands-publishable f = publishable d book stands-so (says-evening d .0 f)

@@ -1,4 +1,5 @@
--- A sound day as a record of plain facts, and its halt as another: all that a call may use once the test has passed.
+-- A sound day as a record of plain facts, its halt as another, and its figures of the other lists as a third: all that a call may use
+-- once the test has passed.
 use Prim.Native.Nat.{ℕ, _+_, _*_, _≤_, _<_}
 use mathlib.Core.Path.{_≡_}
 use mathlib.Core.Logic.{_⊎_}
@@ -8,6 +9,7 @@ use Rattle.model.specs.declared.Order.{Order}
 use Rattle.model.specs.declared.Day.{Day}
 use Rattle.model.specs.Lists.{total}
 use Rattle.model.specs.Book.{free, best, inOrder}
+use Rattle.model.specs.Figures.{closePrice}
 use Rattle.model.specs.Sound.{isLedTo, haltFits, soundAnywhere}
 use Rattle.model.specs.Words.{Each, Price, Apart}
 
@@ -67,6 +69,16 @@ pub record HaltDay (d : Day) : Type 0 where
   pub uses : (d .halt ≡ 0 → ⊥) → d .used30 ≡ 1
   pub unlimited : d .used30 ≡ 1 → (d .limited ≡ 1 → ⊥) × (d .shares ≡ 0 → ⊥)
 
--- all of the test but the screen, which is counted from a book that stands in order
+-- the day's figures of the fixed-price book and of block trades
+pub record EveningDay (d : Day) : Type 0 where
+  pub fixed-issued : d .fixed .issued ≤ 999_999
+  -- each share traded was bought and sold, out of at most 1,000,000 for each number
+  pub fixed-shares : 2 * d .fixed .shares ≤ 1_000_000 * d .fixed .issued
+  pub fixed-money : d .fixed .money ≡ closePrice d * d .fixed .shares
+  pub none-yet : d .time < 54_300 → d .fixed .shares ≡ 0
+  pub blocks-issued : d .blocks .issued ≤ 999_999
+  pub blocks-shares : d .blocks .shares ≤ 50_000_000 * d .blocks .issued
+
+-- all of the test but these figures and the screen, which is counted from a book that stands in order
 abbrev pub standsSound : Day → List Order → Bool
 standsSound d book = soundAnywhere d book && inOrder book && haltFits d

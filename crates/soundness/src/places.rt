@@ -10,7 +10,7 @@ ghost use Rattle.bits.specs.Maps.{hasBit};
 ghost use Rattle.book.specs.Rows.{bookOf};
 ghost use Rattle.book.specs.Standing.{Ranked};
 ghost use Rattle.soundness.specs.Numbers.{noNumbers, FreshMap};
-use crate::figures::is_between;
+use crate::day_figures::is_between;
 use bits::has;
 use bits::set_bit;
 use book::order_at;

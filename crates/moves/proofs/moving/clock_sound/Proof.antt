@@ -8,7 +8,7 @@ use Rattle.model.specs.ClockCall.{clockRules}
 use Rattle.book.specs.Rows.{bookOf}
 use Rattle.book.specs.Promises.{callLeft}
 use Rattle.soundness.proofs.Readiness.{ready-if}
-use Rattle.moves.proofs.ClockLaws.{clock-late, clock-back, clock-list, clock-none, move-fits, clock-refused, row-then, left-ranked, clock-accepted}
+use Rattle.moves.proofs.ClockLaws.{clock-late, clock-back, clock-list, clock-none, move-fits, clock-refused, row-then, left-ranked, left-publishable, clock-accepted}
 use borrow.Author.Needs.{needs}
 use borrow.Author.Tests.{eqb-false, ltb-false}
 use Rattle.moves.proofs.moving.clock_sound.Statement.{statement}
@@ -104,7 +104,14 @@ update-screen-requires c κs =
     let s = began (p .before .before .before .before) in
     let a = s .args in
     let ready = ready-if (a .d) (bookOf (a .rows .now)) (s .pre) in
-    (left-ranked (a .d) (a .time) (a .rows .now) (a .trades .now) ready (p .pass-stops .ensures), p .pass-stops .ensures .within)
+    let left = left-ranked (a .d) (a .time) (a .rows .now) (a .trades .now) ready (p .pass-stops .ensures) in
+    let then = c .before .before .before .before in (
+      left,
+      (
+        p .pass-stops .ensures .within,
+        left-publishable (a .d) (a .time) (a .rows .now) (a .trades .now) ready (p .pass-stops .ensures) (then .day-at .ensures),
+      ),
+    )
 
 same-length-2 : tie.Need-same-length-2
 same-length-2 c = search needs

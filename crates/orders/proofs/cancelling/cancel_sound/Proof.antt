@@ -10,6 +10,7 @@ use Rattle.model.specs.Calls.{cancelRules}
 use Rattle.book.specs.Rows.{bookOf}
 use Rattle.book.specs.Standing.{Ranked}
 use Rattle.book.specs.Promises.{cancelLeft}
+use Rattle.soundness.proofs.EveningClauses.{publishable}
 use Rattle.soundness.proofs.Readiness.{ready-if}
 use Rattle.orders.proofs.Cancels.{cancel-shut, cancel-unknown, cancel-none, cancel-refused, cancel-live, cancel-ranked, cancel-accepted}
 use Rattle.orders.proofs.cancelling.cancel_sound.Statement.{statement}
@@ -89,7 +90,10 @@ day-without-requires c κs =
     let e = o .before .before .before .before in
     let s = began (e .before) in
     let a = s .args in
-    cancel-ranked (a .d) (a .account) (a .number) (a .rows .now) (none e) refl (e .before .place-of .ensures) (o .take-out .last .0) (in-order s) (o .take-out .ensures)
+    let r = ready-if (a .d) (bookOf (a .rows .now)) (s .pre) in (
+      cancel-ranked (a .d) (a .account) (a .number) (a .rows .now) (none e) refl (e .before .place-of .ensures) (o .take-out .last .0) (in-order s) (o .take-out .ensures),
+      publishable (a .d) (bookOf (a .rows .now)) (r .sound) (r .evening),
+    )
 
 same-length-2 : tie.Need-same-length-2
 same-length-2 c = search needs

@@ -7,7 +7,7 @@ use borrow.Author.Needs.{needs}
 use Rattle.model.specs.Book.{best, other}
 use Rattle.book.specs.Rows.{bookOf}
 use Rattle.matching.specs.Entering.{restAt}
-use Rattle.orders.proofs.Entered.{rest-found, filled-fits, count-fits, room-for, then-ranked, then-joins, left-ranked, entered-is}
+use Rattle.orders.proofs.Entered.{rest-found, filled-fits, count-fits, room-for, then-publishable, then-ranked, then-joins, left-ranked, entered-is}
 use Rattle.orders.proofs.entering.enter.Statement.{statement}
 use Rattle.orders.proofs.entering.enter.Tie as tie
 
@@ -93,7 +93,10 @@ update-screen-requires c κs =
           (j .join-rest .last .0)
           (rest (priced j))
           (j .join-rest .ensures),
-      count-fits (a .d) (a .a) (a .rows .now) (a .trades .now) (s .pre .0 .fits) (e .enter-trades .ensures .0) (e .enter-trades .ensures .1) (s .pre .0) (e .enter-trades .kept .1 .1 .0),
+      (
+        count-fits (a .d) (a .a) (a .rows .now) (a .trades .now) (s .pre .0 .fits) (e .enter-trades .ensures .0) (e .enter-trades .ensures .1) (s .pre .0) (e .enter-trades .kept .1 .1 .0),
+        then-publishable (a .d) (a .a) (a .rows .now) (a .trades .now) (s .pre .0 .fits) (e .enter-trades .ensures .0) (e .enter-trades .ensures .1) (s .pre .0) (c .before .before .day-after .ensures),
+      ),
     )
 
 add-t23 : tie.Need-add-t23

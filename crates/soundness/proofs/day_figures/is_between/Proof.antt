@@ -2,8 +2,8 @@
 use mathlib.Core.Path.{refl}
 use Rattle.model.specs.Sound.{between}
 use Rattle.limits.proofs.Spans.{too-low, from-low}
-use Rattle.soundness.proofs.figures.is_between.Statement.{statement}
-use Rattle.soundness.proofs.figures.is_between.Tie as tie
+use Rattle.soundness.proofs.day_figures.is_between.Statement.{statement}
+use Rattle.soundness.proofs.day_figures.is_between.Tie as tie
 
 returns : tie.Need-returns
 unfolding between

@@ -3,8 +3,8 @@ use mathlib.Core.Path.{refl}
 use borrow.Author.Needs.{needs}
 use Rattle.model.specs.Sound.{turnoverFits}
 use Rattle.limits.proofs.Spans.{too-low, from-low}
-use Rattle.soundness.proofs.figures.turnover_fits.Statement.{statement}
-use Rattle.soundness.proofs.figures.turnover_fits.Tie as tie
+use Rattle.soundness.proofs.day_figures.turnover_fits.Statement.{statement}
+use Rattle.soundness.proofs.day_figures.turnover_fits.Tie as tie
 
 mul-result : tie.Need-mul-result
 mul-result c = search needs

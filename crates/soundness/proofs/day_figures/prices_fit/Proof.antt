@@ -3,8 +3,8 @@ use mathlib.Core.Path.{sym, _∙_}
 use borrow.Author.Tests.{eq-eqb, ne-eqb, not-true, not-false}
 use borrow.Author.Needs.{needs}
 use Rattle.model.specs.Sound.{pricesFit}
-use Rattle.soundness.proofs.figures.prices_fit.Statement.{statement}
-use Rattle.soundness.proofs.figures.prices_fit.Tie as tie
+use Rattle.soundness.proofs.day_figures.prices_fit.Statement.{statement}
+use Rattle.soundness.proofs.day_figures.prices_fit.Tie as tie
 
 returns : tie.Need-returns
 unfolding pricesFit

@@ -2,8 +2,8 @@
 use mathlib.Core.Path.{refl, sym, _∙_}
 use borrow.Author.Needs.{needs}
 use Rattle.soundness.proofs.Says.{or-yes, or-no}
-use Rattle.soundness.proofs.figures.fits_hours.Statement.{statement}
-use Rattle.soundness.proofs.figures.fits_hours.Tie as tie
+use Rattle.soundness.proofs.day_figures.fits_hours.Statement.{statement}
+use Rattle.soundness.proofs.day_figures.fits_hours.Tie as tie
 
 is-between-requires : tie.Need-is-between-requires
 is-between-requires c κs = search needs

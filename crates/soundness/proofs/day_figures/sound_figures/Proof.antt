@@ -4,8 +4,8 @@ use borrow.Author.Tests.{le-leb, lt-leb, not-true, not-false}
 use borrow.Author.Needs.{needs}
 use Rattle.model.specs.Clock.{isTime}
 use Rattle.model.specs.Sound.{soundFigures, isMark}
-use Rattle.soundness.proofs.figures.sound_figures.Statement.{statement}
-use Rattle.soundness.proofs.figures.sound_figures.Tie as tie
+use Rattle.soundness.proofs.day_figures.sound_figures.Statement.{statement}
+use Rattle.soundness.proofs.day_figures.sound_figures.Tie as tie
 
 is-price-requires : tie.Need-is-price-requires
 is-price-requires c κs = search needs

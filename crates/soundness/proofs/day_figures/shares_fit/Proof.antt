@@ -4,8 +4,8 @@ use mathlib.Core.Path.{sym}
 use native.Mathlib.Omega.{arith}
 use borrow.Author.Tests.{lt-leb}
 use borrow.Author.Needs.{needs}
-use Rattle.soundness.proofs.figures.shares_fit.Statement.{statement}
-use Rattle.soundness.proofs.figures.shares_fit.Tie as tie
+use Rattle.soundness.proofs.day_figures.shares_fit.Statement.{statement}
+use Rattle.soundness.proofs.day_figures.shares_fit.Tie as tie
 
 mul-if1 : tie.Need-mul-if1
 mul-if1 c = search needs
