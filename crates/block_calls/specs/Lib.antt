@@ -1,0 +1,2 @@
+-- What the call of a declaration promises.
+pub mod Promises

@@ -1,0 +1,2 @@
+-- What a new declaration meets.
+pub mod Meeting

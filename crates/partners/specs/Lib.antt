@@ -1,0 +1,3 @@
+-- Who is confirmed with whom.
+pub mod Partners
+pub mod Places
