@@ -1,4 +1,4 @@
--- What each of the six calls on rows promises: of the day, the rows and the list that it is lent and of what is asked, its reply and the
+-- What each of the calls on rows promises: of the day, the rows and the list that it is lent and of what is asked, its reply and the
 -- rows and the list that it leaves are those of the definitions' call.
 use Prim.Native.Nat.{ℕ}
 use mathlib.Core.Path.{_≡_}
@@ -9,13 +9,15 @@ use Rattle.model.specs.declared.OpenReply.{OpenReply}
 use Rattle.model.specs.declared.ClockAnswer.{ClockAnswer}
 use Rattle.model.specs.declared.OrderAnswer.{OrderAnswer}
 use Rattle.model.specs.declared.CancelAnswer.{CancelAnswer}
+use Rattle.model.specs.declared.MoveAnswer.{MoveAnswer}
 use Rattle.model.specs.declared.ReportReply.{ReportReply}
 use Rattle.model.specs.declared.ListReply.{ListReply}
 use Rattle.model.specs.Calls.{openCall, orderCall, cancelCall}
 use Rattle.model.specs.ClockCall.{clockCall}
+use Rattle.model.specs.AllCalls.{openAllCall, clockAllCall}
 use Rattle.model.specs.AuctionCalls.{reportCall, listCall}
-use Rattle.book.specs.Rows.{bookOf, tradesOf}
-use Rattle.book.specs.Promises.{openLeft, callLeft, cancelLeft, listLeft}
+use Rattle.book.specs.Rows.{bookOf, booksOf, tradesOf}
+use Rattle.book.specs.Promises.{openLeft, callLeft, cancelLeft, openAllLeft, clockAllLeft, listLeft}
 
 -- the rows of a book or of a trade list
 abbrev pub Rows : Type 0
@@ -34,6 +36,15 @@ OrderPromise d rows trades a answer rows' trades' =
 
 abbrev pub CancelPromise : Day → Rows → ℕ → ℕ → CancelAnswer → Rows → Type 0
 CancelPromise d rows account number answer rows' = cancelLeft answer rows' ≡ cancelCall d account number (bookOf rows)
+
+-- over all lists: the main book, the fixed-price book and the declarations
+abbrev pub OpenAllPromise : Rows → Rows → Rows → ℕ → ℕ → OpenReply → Rows → Rows → Rows → Type 0
+OpenAllPromise main fixed blocks close mark reply main' fixed' blocks' =
+    openAllLeft reply main' fixed' blocks' ≡ openAllCall close mark (booksOf main fixed blocks)
+
+abbrev pub ClockAllPromise : Day → Rows → Rows → Rows → Rows → ℕ → MoveAnswer → Rows → Rows → Rows → Rows → Type 0
+ClockAllPromise d main fixed blocks trades time answer main' fixed' blocks' trades' =
+    clockAllLeft answer main' fixed' blocks' trades' ≡ clockAllCall d time (booksOf main fixed blocks) (tradesOf trades)
 
 -- it can change nothing
 abbrev pub ReportPromise : Day → Rows → ReportReply → Type 0

@@ -1,0 +1,2 @@
+-- The close after a move, by its trades.
+pub mod Closes
