@@ -37,7 +37,7 @@ event-sound (Event.the-variants.Cancel account number) o lent s k = cancel-kept 
 
 -- ---- 15 is the first rule of each, and no other has its number
 
-other : (n : ℕ) → eqb n 15 ≡ false → n ≡ 15 → ⊥
+pub other : (n : ℕ) → eqb n 15 ≡ false → n ≡ 15 → ⊥
 other n = eqb-false n 15
 
 module _ (d : Day) (book : List Order) (k : Sound d book) where

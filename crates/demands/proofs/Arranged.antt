@@ -19,7 +19,7 @@ use Rattle.book.proofs.Best.{each-on}
 use Rattle.book.proofs.Kept.{free-left}
 use Rattle.book.proofs.Parts.{spareIn, arranged-is}
 use Rattle.book.proofs.Arranging.{each-arranged, arranged-length, arranged-stands, arranged-ranked, arranged-crosses, total-arranged}
-use Rattle.soundness.specs.SoundDay.{Place, HaltDay}
+use Rattle.soundness.specs.SoundDay.{Place, HaltDay, EveningDay}
 use Rattle.soundness.proofs.SoundDays.{few-places}
 use Rattle.demands.specs.Owning.{StandsOnce}
 use Rattle.demands.proofs.Elements.{some-left, some-right, some-at, each-some}
@@ -122,13 +122,15 @@ pub arranged-before :
     → Whole d os
     → Timely (d .time) (d .halt) os
     → HaltDay d
+    → EveningDay d
     → length (queue 0 os) + length (queue 1 os) ≤ length book
     → BeforeScreen d (arranged (length book) os)
-arranged-before d book os many w t halt fit =
+arranged-before d book os many w t halt evening fit =
     let n = length book in
     record {
       places = arranged-many book os many;
       day = sound-of d (arranged n os) (arranged-whole d n os w fit) (arranged-timely d n os w fit (d .time) (d .halt) t);
       ordered = arranged-ordered d n os w fit (few-places book many);
       halt = halt;
+      evening = evening;
     }

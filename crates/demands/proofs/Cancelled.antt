@@ -15,7 +15,7 @@ use Rattle.book.proofs.Kept.{standing-keep}
 use Rattle.book.proofs.Counting.{queues-fit}
 use Rattle.book.proofs.Crossing.{SellsAbove, Uncrossed, uncrossed, not-crossed}
 use Rattle.soundness.specs.SoundDay.{Place, SoundDay}
-use Rattle.soundness.proofs.SoundDays.{sound-day, sound-halt}
+use Rattle.soundness.proofs.SoundDays.{sound-day, sound-halt, sound-evening}
 use Rattle.model.specs.Words.{Sound}
 use Rattle.demands.proofs.Pricings.{sound-stands}
 use Rattle.demands.proofs.Wholes.{Whole, Timely, whole-of, timely-of}
@@ -65,4 +65,4 @@ module _ (p : Order → Bool) (d : Day) (book : List Order) (s : Sound d book) w
   kept-fit = omega (arith, queues-fit (keep p book) (standing-keep p book stands .fair), length-keep p book)
 
   pub kept-before : BeforeScreen d (arranged (length book) (keep p book))
-  kept-before = arranged-before d book (keep p book) (s .0) kept-whole kept-timely (sound-halt d book (s .1)) kept-fit
+  kept-before = arranged-before d book (keep p book) (s .0) kept-whole kept-timely (sound-halt d book (s .1)) (sound-evening d book (s .1)) kept-fit

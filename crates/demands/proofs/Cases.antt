@@ -25,7 +25,7 @@ use Rattle.model.specs.Calls.{Outcome, written, CancelOutcome, isOwn, orderRule
 use Rattle.model.specs.ClockCall.{Held, moved, clockRules, clockCall}
 
 -- a number is 0 or not
-by-number : {A : Type 0} (P : A → Type 0) (n : ℕ) (x y : A) → (n ≡ 0 → P x) → ((n ≡ 0 → ⊥) → P y) → P (cond (eqb n 0) x y)
+pub by-number : {A : Type 0} (P : A → Type 0) (n : ℕ) (x y : A) → (n ≡ 0 → P x) → ((n ≡ 0 → ⊥) → P y) → P (cond (eqb n 0) x y)
 by-number P n x y f g = go (eqb n 0) refl
   where
     go : (b : Bool) → eqb n 0 ≡ b → P (cond b x y)

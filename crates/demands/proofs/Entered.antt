@@ -5,6 +5,7 @@ use mathlib.Core.Logic.{inr, ⊎-elim}
 use mathlib.Core.Bool.{Bool, true, false, cond, not, _&&_, _||_}
 use mathlib.Core.List.{List, _∷_}
 use native.Mathlib.Omega.{arith}
+use native.Mathlib.Nat.{lt-of-not-le}
 use lib.ListN.{length}
 use lib.Dec.{leb, eqb}
 use borrow.Author.Tests.{leb-true, eqb-false, eq-eqb, not-false}
@@ -29,10 +30,10 @@ use Rattle.book.specs.Standing.{Standing}
 use Rattle.book.proofs.Lists.{each}
 use Rattle.book.proofs.Kept.{New, free-number}
 use Rattle.halts.proofs.Kept.{fired-cases}
-use Rattle.soundness.specs.SoundDay.{InBand, Rests, Place, Empty, SoundDay}
+use Rattle.soundness.specs.SoundDay.{InBand, Rests, Place, Empty, SoundDay, EveningDay}
 use Rattle.soundness.proofs.Clauses.{says-price, says-band}
 use Rattle.soundness.proofs.Sizes.{says-quantity, sized-most}
-use Rattle.soundness.proofs.SoundDays.{sound-day, sound-halt, next-new}
+use Rattle.soundness.proofs.SoundDays.{sound-day, sound-halt, sound-evening, next-new}
 use Rattle.matching.proofs.EntryLaws.{entry-filled, remainder, ordersThen}
 use Rattle.matching.proofs.EntryKept.{entered-standing, entered-fits, entered-shares}
 use Rattle.matching.proofs.AfterEntry.{entered-uncrossed}
@@ -43,6 +44,7 @@ use Rattle.demands.proofs.Pricings.{sound-stands}
 use Rattle.demands.proofs.Wholes.{Traded, Whole, timely-of}
 use Rattle.demands.proofs.Hours.{none-early, none-late, then-continuous, phase-unhalted, now-continuous}
 use Rattle.demands.proofs.SameFigures.{same-whole, same-halting}
+use Rattle.demands.proofs.Evenings.{evening-early}
 use Rattle.demands.proofs.HaltDays.{halt-waits, halt-begins}
 use Rattle.demands.proofs.Firing.{fires-unlimited, fires-some, traded-now, mark-set}
 use Rattle.demands.proofs.Tallied.{traded-tally}
@@ -234,6 +236,11 @@ module _ (d : Day) (a : Asked) (book : List Order) (s : Sound d book) (k : Allow
   late : 54_000 ≤ d .time → Empty orders
   late l = absurd (not-both (k .hours) (none-late (d .time) l))
 
+  -- no order is taken after the close
+  evening : (e : Day) → e .fixed ≡ d .fixed → e .blocks ≡ d .blocks → EveningDay e
+  evening e f b =
+      evening-early d e f b (sound-evening d book (s .1)) (lt-of-not-le (λ l. not-both (k .hours) (none-late (d .time) (omega arith))))
+
   abbrev Then : Day → Type 0
   Then e = BeforeScreen e (arranged (length book) orders)
 
@@ -251,6 +258,7 @@ module _ (d : Day) (a : Asked) (book : List Order) (s : Sound d book) (k : Allow
       })
       (halt-waits d next (sound-halt d book (s .1))
       (record { thirty = refl; sixty = refl; limited = refl; shares = omega arith }) refl (omega arith) (sound-halt d book (s .1) .ahead))
+      (evening next refl refl)
       orders-fit
 
   begun : fires ts next ≡ true → Then (halting (haltEnd (d .time)) 1 (cond (reach 60 ts next) 1 (next .used60)) next)
@@ -270,6 +278,7 @@ module _ (d : Day) (a : Asked) (book : List Order) (s : Sound d book) (k : Allow
       (mark-set (reach 60 ts next) (next .used60) (sound-halt d book (s .1) .sixty))
       (fires-unlimited ts next f)
       (λ z. fires-some ts next f (entry-proper d a book (stands .fair) entered-prices .some (omega (arith, z)))))
+      (evening e refl refl)
       orders-fit
 
   pub entered-before : Then (fired (d .time) ts next)

@@ -5,6 +5,7 @@ use mathlib.Core.Logic.{inl}
 use mathlib.Core.Bool.{Bool, true, false, not, _&&_}
 use mathlib.Core.List.{List, [], _∷_}
 use native.Mathlib.Omega.{arith}
+use native.Mathlib.Nat.{mul-zero}
 use lib.ListN.{length, length-map}
 use lib.Dec.{eqb}
 use Rattle.model.specs.declared.Order.{Order}
@@ -13,10 +14,10 @@ use Rattle.model.specs.declared.OpenReply as OpenReply
 use Rattle.model.specs.Choice.{if_then_else_}
 use Rattle.model.specs.Lists.{any, total, among, once}
 use Rattle.model.specs.Limits.{isPrice}
-use Rattle.model.specs.Clock.{closed, laterRows, holding, rowAt, phaseAt, continuous}
+use Rattle.model.specs.Clock.{closed, laterRows, holding, rowAt, phaseAt, continuous, dayEnd}
 use Rattle.model.specs.Book.{free, inPriority, queue}
 use Rattle.model.specs.Matching.{fiveBest}
-use Rattle.model.specs.Figures.{noLevels, noScreen, freshDay}
+use Rattle.model.specs.Figures.{noLevels, noScreen, freshDay, closePrice, publishedShares, publishedTurnover}
 use Rattle.model.specs.Halts.{phaseNow}
 use Rattle.model.specs.Screen.{levelsOf, shownPrice, screenOf}
 use Rattle.model.specs.Sound.{isMark, hasPlaces, encloses, screenFits}
@@ -29,7 +30,7 @@ use Rattle.book.proofs.Lists.{each, total-zero}
 use Rattle.book.proofs.Kept.{free-left, free-number}
 use Rattle.book.proofs.Parts.{keep-frees}
 use Rattle.book.proofs.Arranging.{cleared-frees, cleared-ranked}
-use Rattle.soundness.specs.SoundDay.{Place, Empty, HaltDay}
+use Rattle.soundness.specs.SoundDay.{Place, Empty, HaltDay, EveningDay}
 use Rattle.soundness.proofs.Says.{says-le}
 use Rattle.soundness.proofs.Clauses.{says-price}
 use Rattle.soundness.proofs.SoundDays.{day-sound, few-places}
@@ -47,7 +48,7 @@ empty-apart (o ∷ os) e = (
   empty-apart os (e .1),
 )
 
-empty-total : (book : List Order) → Empty book → total (λ (o : Order). o .left) book ≡ 0
+pub empty-total : (book : List Order) → Empty book → total (λ (o : Order). o .left) book ≡ 0
 empty-total book e =
     total-zero (λ (o : Order). o .left) book
     (each (λ o. o ≡ free) (λ (o : Order). o .left ≡ 0) book (λ o f. ap (λ (x : Order). x .left) f ∙ free-left) e)
@@ -115,10 +116,23 @@ module _ (close mark : ℕ) where
         unlimited = λ z. absurd (omega (arith, z));
       }
 
+  -- and nothing is issued or traded of the other lists
+  fresh-evening : EveningDay (freshDay close mark)
+  unfolding freshDay
+  fresh-evening =
+      record {
+        fixed-issued = omega arith;
+        fixed-shares = omega arith;
+        fixed-money = sym (mul-zero (closePrice (freshDay close mark)));
+        none-yet = λ _. refl;
+        blocks-issued = omega arith;
+        blocks-shares = omega arith;
+      }
+
   module _ (book : List Order) where
     -- nothing is shown: midnight is in no phase, and the fresh count is all zero
     fresh-screen : screenOf (freshDay close mark) (cleared book) 0 0 ≡ noScreen
-    unfolding freshDay screenOf shownPrice phaseNow phaseAt rowAt holding laterRows closed continuous noScreen among any
+    unfolding freshDay screenOf publishedShares publishedTurnover dayEnd shownPrice phaseNow phaseAt rowAt holding laterRows closed continuous noScreen among any
     fresh-screen = rw (no-levels 0 book, no-levels 1 book)
 
     fresh-fits : screenFits (freshDay close mark) (cleared book) ≡ true
@@ -128,7 +142,7 @@ module _ (close mark : ℕ) where
     abbrev may : Bool
     may = isPrice close && isMark mark && hasPlaces book
 
-    fresh-sound : may ≡ true → Sound (freshDay close mark) (cleared book)
+    pub fresh-sound : may ≡ true → Sound (freshDay close mark) (cleared book)
     unfolding isMark
     fresh-sound e =
         let h = and-left (isPrice close && isMark mark) (hasPlaces book) e in
@@ -143,7 +157,8 @@ module _ (close mark : ℕ) where
               (fresh-timely (cleared book) n))
               (cleared-ranked book (few-places book many) .ordered)
               fresh-fits
-              fresh-halt,
+              fresh-halt
+              fresh-evening,
         )
 
     abbrev opened : Bool → OpenOutcome

@@ -50,34 +50,34 @@ unfolding lapse auction tally
 pass-issued n s h e =
     pass-cases (λ k. k .day .issued ≡ n) s h (λ _. e) (λ _. same-resumed s h .issued ∙ e) (λ _. e) (λ _ _ _. e)
 
-moved-issued : (d : Day) (t : ℕ) (book : List Order) → moved d t book .day .issued ≡ d .issued
+pub moved-issued : (d : Day) (t : ℕ) (book : List Order) → moved d t book .day .issued ≡ d .issued
 unfolding moved start
 moved-issued d t book = through-keeps (λ k. k .day .issued ≡ d .issued) (pass-issued (d .issued)) (passed (d .time) t) (start d book) refl
 
-none : (n m : ℕ) → m ≡ n → Counts n m []
+pub counts-none : (n m : ℕ) → m ≡ n → Counts n m []
 unfolding from
-none n m e = record { order = refl; count = omega arith }
+counts-none n m e = record { order = refl; count = omega arith }
 
 -- ---- an event
 
-event-counts :
+pub event-counts :
     (e : Event.Event) → isOpening e ≡ false → (lent : List Trade) (s : Desk)
     → Counts (s .day .issued) (steppedBy e lent s .day .issued) (acceptedBy e lent s)
 unfolding isOpening steppedBy acceptedBy ownersBy entered from tally issue nextNumber at update
 event-counts (Event.the-variants.Open close mark) o lent s = absurd (not-both refl o)
 event-counts (Event.the-variants.Clock t) o lent s =
     clock-cases (s .day) t (s .book) lent (λ o. Counts (s .day .issued) (o .answer .day .issued) [])
-    (λ _. none (s .day .issued) (moved (s .day) t (s .book) .day .issued) (moved-issued (s .day) t (s .book)))
-    (λ _. none (s .day .issued) (s .day .issued) refl)
+    (λ _. counts-none (s .day .issued) (moved (s .day) t (s .book) .day .issued) (moved-issued (s .day) t (s .book)))
+    (λ _. counts-none (s .day .issued) (s .day .issued) refl)
 event-counts (Event.the-variants.Order a) o lent s =
     order-cases (s .day) a (s .book) lent (λ o. Counts (s .day .issued) (o .answer .day .issued) (ownersBy a (o .answer .reply)))
     (λ _.
     record { order = refl; count = omega (arith, same-fired (s .day .time) (entryTrades (s .day) a (s .book)) (tally (entryTrades (s .day) a (s .book)) (issue (s .day))) .issued) })
-    (λ _. none (s .day .issued) (s .day .issued) refl)
+    (λ _. counts-none (s .day .issued) (s .day .issued) refl)
 event-counts (Event.the-variants.Cancel account number) o lent s =
     cancel-cases (s .day) account number (s .book) (λ o. Counts (s .day .issued) (o .answer .day .issued) [])
-    (λ _. none (s .day .issued) (s .day .issued) refl)
-    (λ _. none (s .day .issued) (s .day .issued) refl)
+    (λ _. counts-none (s .day .issued) (s .day .issued) refl)
+    (λ _. counts-none (s .day .issued) (s .day .issued) refl)
 
 -- ---- a run
 
@@ -94,14 +94,16 @@ join n m (w ∷ ws) vs e c f =
     let t : numbers ws ≡ from (suc (suc n)) (length ws) = cc in
     rw (h, join (suc n) m ws vs t (omega arith) f)
 
+pub counts-join : (n m k : ℕ) (ws vs : List Owner) → Counts n m ws → Counts m k vs → Counts n k (ws ++ vs)
+counts-join n m k ws vs c r =
+    record {
+      order = join n m ws vs (c .order) (c .count) (r .order);
+      count = omega (arith, c .count, r .count, length-append ws vs);
+    }
+
 pub run-counts : (es : List Call) (s : Desk) → Counts (s .day .issued) (after es s .day .issued) (acceptedIn es s)
 unfolding after acceptedIn
-run-counts [] s = none (s .day .issued) (s .day .issued) refl
+run-counts [] s = counts-none (s .day .issued) (s .day .issued) refl
 run-counts (e ∷ es) s =
-    let c = event-counts (e .event) (e .within) (e .lent) s in
-    let r = run-counts es (stepped e s) in
-    record {
-      order =
-          join (s .day .issued) (stepped e s .day .issued) (accepted e s) (acceptedIn es (stepped e s)) (c .order) (c .count) (r .order);
-      count = omega (arith, c .count, r .count, length-append (accepted e s) (acceptedIn es (stepped e s)));
-    }
+    counts-join (s .day .issued) (stepped e s .day .issued) (after es (stepped e s) .day .issued) (accepted e s) (acceptedIn es (stepped e s))
+    (event-counts (e .event) (e .within) (e .lent) s) (run-counts es (stepped e s))

@@ -31,7 +31,7 @@ use Rattle.demands.proofs.Moved.{in-time, moved-before}
 use Rattle.demands.proofs.Totals.{totals-none, entered-totals, moved-proper, moved-totals}
 
 -- from a sound day, over an event with these trades, to a day that has its totals and still the old screen
-updated-sound :
+pub updated-sound :
     (d e : Day) (before book : List Order) (ts : List Trade)
     → Sound d before
     → Proper ts

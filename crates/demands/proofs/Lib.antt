@@ -9,6 +9,7 @@ pub mod Elements
 pub mod Places
 pub mod Settled
 pub mod SameFigures
+pub mod Evenings
 pub mod BeforeScreens
 pub mod Arranged
 pub mod Fresh
@@ -30,6 +31,7 @@ pub mod LongLists
 pub mod Answers
 pub mod Issued
 pub mod Owned
+pub mod OtherFigures
 pub mod RunTotals
 pub mod ScreenRuns
 pub mod Runs

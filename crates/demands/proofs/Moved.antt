@@ -29,7 +29,7 @@ use Rattle.book.proofs.Lists.{each}
 use Rattle.book.proofs.Kept.{standing-settle}
 use Rattle.book.proofs.Arranging.{cleared-ranked}
 use Rattle.halts.proofs.Kept.{resume-cases}
-use Rattle.soundness.specs.SoundDay.{SoundDay, HaltDay}
+use Rattle.soundness.specs.SoundDay.{SoundDay, HaltDay, EveningDay}
 use Rattle.soundness.proofs.SoundDays.{day-stands, few-places}
 use Rattle.pairing.proofs.Auctions.{auction-priced, auction-shares, auction-cases, settled-fit, afterwards, afterwards-uncrossed}
 use Rattle.pairing.proofs.Moves.{pass-stands}
@@ -44,6 +44,7 @@ use Rattle.demands.proofs.Fresh.{cleared-empty, places-cleared, whole-c
 use Rattle.demands.proofs.Tallied.{Proper, proper-none, traded-tally}
 use Rattle.demands.proofs.Settled.{Later, settle-places}
 use Rattle.demands.proofs.SameFigures.{SameFigures, same-at, same-halting, same-back, same-then, same-whole}
+use Rattle.demands.proofs.Evenings.{evening-early, evening-later}
 use Rattle.demands.proofs.HaltDays.{Runs, running, halt-over, halt-waits, halt-begins}
 use Rattle.demands.proofs.Firing.{fires-unlimited, mark-set}
 
@@ -127,6 +128,11 @@ module _ (s : ℕ) (h : Held) (sound : SoundAt s h) (bound : suc s ≤ 86_399) w
   abbrev book : List Order
   book = afterwards (h .book) stands (h .day)
 
+  -- no auction is held from 15:05 on
+  evening : (e : Day) → SameFigures traded e → suc s ≤ 54_000 → EveningDay e
+  unfolding at tally
+  evening e f l = evening-early now e (f .fixed) (f .blocks) (sound .evening) (omega arith)
+
   auctioned :
       (e : Day)
       → SameFigures traded e
@@ -150,6 +156,7 @@ module _ (s : ℕ) (h : Held) (sound : SoundAt s h) (bound : suc s ≤ 86_399) w
             });
         ordered = arranged-ordered traded (length (h .book)) (settle ts (h .book)) settled-whole places few;
         halt = k;
+        evening = evening e f (omega arith);
       }
 
   opening : suc s ≡ 33_900 → SoundAt (suc s) (auction h)
@@ -197,6 +204,7 @@ module _ (s : ℕ) (h : Held) (sound : SoundAt s h) (bound : suc s ≤ 86_399) w
         halt =
             halt-waits now x halt (record { thirty = refl; sixty = refl; limited = refl; shares = omega arith }) refl (omega arith)
             (λ m. let r = runs m in absurd (omega (arith, e, r .ahead, r .latest)));
+        evening = evening x (same-at (suc s) traded) (omega (arith, e));
       }
 
   quiet : (suc s ≡ 33_900 → ⊥) → (suc s ≡ h .day .halt → ⊥) → (suc s ≡ 54_000 → ⊥) → SoundAt (suc s) h
@@ -220,6 +228,7 @@ module _ (s : ℕ) (h : Held) (sound : SoundAt s h) (bound : suc s ≤ 86_399) w
         halt =
             halt-waits now x halt (record { thirty = refl; sixty = refl; limited = refl; shares = omega arith }) refl (omega arith)
             (λ n. let r = runs n in omega (arith, b, r .ahead));
+        evening = evening-later now x refl refl (sound .evening) refl refl (omega arith);
       }
 
   pass-sound : SoundAt (suc s) (pass (suc s) h)

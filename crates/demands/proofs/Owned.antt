@@ -50,10 +50,10 @@ abbrev pub Owned : List Owner → List Order → Type 0
 Owned ws book = Each (Known ws) book
 
 module _ (ws : List Owner) where
-  free-known : Known ws free
+  pub free-known : Known ws free
   free-known n = absurd (n free-number)
 
-  more : (vs : List Owner) (book : List Order) → Owned ws book → Owned (ws ++ vs) book
+  pub more : (vs : List Owner) (book : List Order) → Owned ws book → Owned (ws ++ vs) book
   more vs book = each (Known ws) (Known (ws ++ vs)) book (λ o h n. some-left (Is o) ws vs (h n))
 
   -- ---- trades, a lapse, a cancel
@@ -75,13 +75,13 @@ module _ (ws : List Owner) where
       go true = same-known o _ refl refl refl h
       go false = free-known
 
-  settle-owned : (ts : List Trade) (book : List Order) → Owned ws book → Owned ws (settle ts book)
+  pub settle-owned : (ts : List Trade) (book : List Order) → Owned ws book → Owned ws (settle ts book)
   unfolding settle
   settle-owned ts book w =
       each-map (Known ws) (λ (o : Order). lessBy (filledOf (o .number) ts) o) book
       (each (Known ws) (λ o. Known ws (lessBy (filledOf (o .number) ts) o)) book (λ o h. less-known (filledOf (o .number) ts) o h) w)
 
-  cleared-owned : (book : List Order) → Owned ws (cleared book)
+  pub cleared-owned : (book : List Order) → Owned ws (cleared book)
   unfolding cleared
   cleared-owned book = each-map (Known ws) (λ (_ : Order). free) book (every (λ (_ : Order). Known ws free) book (λ _. free-known))
 
@@ -104,6 +104,10 @@ module _ (ws : List Owner) where
   pass-owned s h w =
       pass-cases (λ k. Owned ws (k .book)) s h (λ _. auction-owned h w) (λ _. auction-owned h w) (λ _. cleared-owned (auction h .book))
       (λ _ _ _. w)
+
+  pub moved-owned : (d : Day) (t : ℕ) (book : List Order) → Owned ws book → Owned ws (moved d t book .book)
+  unfolding moved start
+  moved-owned d t book w = through-keeps (λ k. Owned ws (k .book)) pass-owned (passed (d .time) t) (start d book) w
 
 -- ---- an order
 
@@ -138,11 +142,11 @@ pub event-owned :
     (ws : List Owner) (e : Event.Event) → isOpening e ≡ false → (lent : List Trade) (s : Desk)
     → Owned ws (s .book)
     → Owned (ws ++ acceptedBy e lent s) (steppedBy e lent s .book)
-unfolding isOpening steppedBy acceptedBy ownersBy entered moved start
+unfolding isOpening steppedBy acceptedBy ownersBy entered
 event-owned ws (Event.the-variants.Open close mark) o lent s w = absurd (not-both refl o)
 event-owned ws (Event.the-variants.Clock t) o lent s w =
     clock-cases (s .day) t (s .book) lent (λ o. Owned (ws ++ []) (o .book))
-    (λ _. more ws [] (moved (s .day) t (s .book) .book) (through-keeps (λ k. Owned ws (k .book)) (pass-owned ws) (passed (s .day .time) t) (start (s .day) (s .book)) w))
+    (λ _. more ws [] (moved (s .day) t (s .book) .book) (moved-owned ws (s .day) t (s .book) w))
     (λ _. more ws [] (s .book) w)
 event-owned ws (Event.the-variants.Order a) o lent s w =
     order-cases (s .day) a (s .book) lent (λ o. Owned (ws ++ ownersBy a (o .answer .reply)) (o .book))

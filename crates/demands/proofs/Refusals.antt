@@ -33,16 +33,16 @@ use Rattle.demands.specs.Refusing.{Numbers, RefusesBy, EachRefusal, Unto
 use Rattle.demands.proofs.FirstRules.{refuses-by}
 
 -- a number that is not 0, for the lists of rules
-real : (n : ℕ) → eqb n 0 ≡ false → n ≡ 0 → ⊥
+pub real : (n : ℕ) → eqb n 0 ≡ false → n ≡ 0 → ⊥
 real n = eqb-false n 0
 
 -- an outcome by a test, seen through one of its parts
-part : {A B : Type 0} (f : A → B) (b : Bool) (x y : A) → f (cond b x y) ≡ cond b (f x) (f y)
+pub part : {A B : Type 0} (f : A → B) (b : Bool) (x y : A) → f (cond b x y) ≡ cond b (f x) (f y)
 part f true x y = refl
 part f false x y = refl
 
 -- an outcome by a test that is refused is the second one
-second :
+pub second :
     {A B : Type 0} (f : A → B) (b : Bool) (x y : A) (r : B) → (f x ≡ r → ⊥) → f (cond b x y) ≡ r → cond b x y ≡ y
 second f true x y r n e = absurd (n e)
 second f false x y r n e = refl

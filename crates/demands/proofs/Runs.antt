@@ -7,6 +7,8 @@ use lib.ListN.{getD, length}
 use Rattle.model.specs.declared.Order.{Order}
 use Rattle.model.specs.declared.Screen.{Screen}
 use Rattle.model.specs.declared.Day.{Day}
+use Rattle.model.specs.declared.Fixed.{Fixed}
+use Rattle.model.specs.declared.Blocks.{Blocks}
 use Rattle.model.specs.declared.CancelReply as CancelReply
 use Rattle.model.specs.Lists.{from}
 use Rattle.model.specs.Book.{free}
@@ -25,6 +27,7 @@ use Rattle.demands.proofs.Fresh.{open-fresh, open-call}
 use Rattle.demands.proofs.Answers.{event-sound, event-not-15}
 use Rattle.demands.proofs.Issued.{run-counts}
 use Rattle.demands.proofs.Owned.{Known, Owned, run-owned}
+use Rattle.demands.proofs.OtherFigures.{run-others, main-shares, main-turnover}
 use Rattle.demands.proofs.RunTotals.{run-prices, run-totals, close-is}
 use Rattle.demands.proofs.Screened.{sound-counted}
 use Rattle.demands.proofs.ScreenRuns.{Goes, run-goes}
@@ -120,13 +123,26 @@ module _ (s : Desk) (f : Fresh s) where
       → after es s .day .screen ≡ screenOf (after es s .day) (after es s .book) (after es s .day .screen .high) (after es s .day .screen .low)
   counted es = sound-counted (after es s .day) (after es s .book) (run-sound es s fresh-sound)
 
+  -- nothing of the other lists has traded
+  no-others : (es : List Call) → (after es s .day .fixed .shares ≡ 0) × (after es s .day .fixed .money ≡ 0) × (after es s .day .blocks .shares ≡ 0)
+  unfolding freshDay
+  no-others es =
+      let o = run-others es s in
+      let f : after es s .day .fixed ≡ s .day .fixed = o .fixed in
+      let b : after es s .day .blocks ≡ s .day .blocks = o .blocks in (
+        ap (λ (x : Fixed). x .shares) f ∙ ap (λ (d : Day). d .fixed .shares) is-fresh,
+        ap (λ (x : Fixed). x .money) f ∙ ap (λ (d : Day). d .fixed .money) is-fresh,
+        ap (λ (x : Blocks). x .shares) b ∙ ap (λ (d : Day). d .blocks .shares) is-fresh,
+      )
+
   screen-shares : (es : List Call) → after es s .day .screen .shares ≡ after es s .day .shares
   unfolding screenOf
-  screen-shares es = ap (λ (x : Screen). x .shares) (counted es)
+  screen-shares es =
+      ap (λ (x : Screen). x .shares) (counted es) ∙ main-shares (after es s .day) (no-others es .0) (no-others es .2)
 
   screen-turnover : (es : List Call) → after es s .day .screen .turnover ≡ after es s .day .turnover
   unfolding screenOf
-  screen-turnover es = ap (λ (x : Screen). x .turnover) (counted es)
+  screen-turnover es = ap (λ (x : Screen). x .turnover) (counted es) ∙ main-turnover (after es s .day) (no-others es .1)
 
   pub running : (es : List Call) → Running es s
   running es =

@@ -25,25 +25,27 @@ pub record SameFigures (d e : Day) : Type 0 where
   pub turnover : e .turnover ≡ d .turnover
   pub first : e .first ≡ d .first
   pub last : e .last ≡ d .last
+  pub fixed : e .fixed ≡ d .fixed
+  pub blocks : e .blocks ≡ d .blocks
 
 pub same-at : (t : ℕ) (d : Day) → SameFigures d (at t d)
 unfolding at
 same-at t d =
-    record { close = refl; limited = refl; issued = refl; shares = refl; turnover = refl; first = refl; last = refl }
+    record { close = refl; limited = refl; issued = refl; shares = refl; turnover = refl; first = refl; last = refl; fixed = refl; blocks = refl }
 
 pub same-halting : (end used30 used60 : ℕ) (d : Day) → SameFigures d (halting end used30 used60 d)
 unfolding halting
 same-halting end used30 used60 d =
-    record { close = refl; limited = refl; issued = refl; shares = refl; turnover = refl; first = refl; last = refl }
+    record { close = refl; limited = refl; issued = refl; shares = refl; turnover = refl; first = refl; last = refl; fixed = refl; blocks = refl }
 
 pub same-update : (ts : List Trade) (book : List Order) (d : Day) → SameFigures d (update ts book d)
 unfolding update
 same-update ts book d =
-    record { close = refl; limited = refl; issued = refl; shares = refl; turnover = refl; first = refl; last = refl }
+    record { close = refl; limited = refl; issued = refl; shares = refl; turnover = refl; first = refl; last = refl; fixed = refl; blocks = refl }
 
 same-itself : (d : Day) → SameFigures d d
 same-itself d =
-    record { close = refl; limited = refl; issued = refl; shares = refl; turnover = refl; first = refl; last = refl }
+    record { close = refl; limited = refl; issued = refl; shares = refl; turnover = refl; first = refl; last = refl; fixed = refl; blocks = refl }
 
 pub same-then : (d e f : Day) → SameFigures d e → SameFigures e f → SameFigures d f
 same-then d e f x y =
@@ -55,6 +57,8 @@ same-then d e f x y =
       turnover = y .turnover ∙ x .turnover;
       first = y .first ∙ x .first;
       last = y .last ∙ x .last;
+      fixed = y .fixed ∙ x .fixed;
+      blocks = y .blocks ∙ x .blocks;
     }
 
 pub same-fired : (s : ℕ) (ts : List Trade) (d : Day) → SameFigures d (fired s ts d)
@@ -102,6 +106,8 @@ same-back d e f =
       turnover = sym (f .turnover);
       first = sym (f .first);
       last = sym (f .last);
+      fixed = sym (f .fixed);
+      blocks = sym (f .blocks);
     }
 
 pub same-whole : (d e : Day) → SameFigures d e → (book : List Order) → Whole d book → Whole e book

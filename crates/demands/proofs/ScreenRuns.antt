@@ -68,7 +68,7 @@ pub record Goes (s e : Screen) (ts : List Trade) : Type 0 where
   pub high : e .high ≡ highWith ts s
   pub low : e .low ≡ lowWith ts s
 
-goes-join : (s e f : Screen) (ts us : List Trade) → Prices ts → Goes s e ts → Goes e f us → Goes s f (ts ++ us)
+pub goes-join : (s e f : Screen) (ts us : List Trade) → Prices ts → Goes s e ts → Goes e f us → Goes s f (ts ++ us)
 unfolding highWith lowWith
 goes-join s e f ts us h k m =
     record {
@@ -78,7 +78,7 @@ goes-join s e f ts us h k m =
     }
 
 -- without a trade: where nothing had traded both are 0
-goes-none : (d : Day) → Traded d → Shown d → Goes (d .screen) (d .screen) []
+pub goes-none : (d : Day) → Traded d → Shown d → Goes (d .screen) (d .screen) []
 unfolding highWith lowWith highest lowest firstPrice lastPrice
 goes-none d k w = go (eqb (d .screen .last) 0) refl (eqb (d .shares) 0) refl
   where
@@ -91,7 +91,7 @@ goes-none d k w = go (eqb (d .screen .last) 0) refl (eqb (d .shares) 0) refl
 
 -- ---- an event, and a run
 
-follows-goes :
+pub follows-goes :
     (d e : Day) (before book : List Order) (ts : List Trade)
     → Sound d before
     → Totals d e ts

@@ -12,7 +12,7 @@ use Rattle.model.specs.declared.Trade.{Trade}
 use Rattle.model.specs.declared.Screen.{Screen}
 use Rattle.model.specs.declared.Day.{Day}
 use Rattle.model.specs.Matching.{filled, firstPrice, lastPrice, highest, lowest}
-use Rattle.model.specs.Figures.{reference}
+use Rattle.model.specs.Figures.{reference, publishedShares, publishedTurnover}
 use Rattle.model.specs.Halts.{runs, phaseNow}
 use Rattle.model.specs.Auction.{auctionPrice}
 use Rattle.model.specs.Screen.{shownPrice, screenOf, highWith, lowWith, update}
@@ -125,7 +125,7 @@ module _ (b d : Day) (ts : List Trade) (k : Traded b) (some : filled ts ≡ 0 �
 pub update-counted :
     (ts : List Trade) (book : List Order) (d : Day)
     → update ts book d .screen ≡ screenOf (update ts book d) book (highWith ts (d .screen)) (lowWith ts (d .screen))
-unfolding update screenOf shownPrice phaseNow runs auctionPrice reference
+unfolding update screenOf shownPrice phaseNow runs auctionPrice reference publishedShares publishedTurnover
 update-counted ts book d = refl
 
 -- where the day still has the screen from before the event

@@ -29,7 +29,7 @@ use Rattle.demands.proofs.Fresh.{open-screen}
 use Rattle.demands.proofs.Screened.{update-counted}
 
 -- where the day still had the screen from before the event
-updated-counted :
+pub updated-counted :
     (d e : Day) (ts : List Trade) (book : List Order) → e .screen ≡ d .screen → Counted d ts (update ts book e) book
 updated-counted d e ts book same =
     subst (λ (s : Screen). update ts book e .screen ≡ screenOf (update ts book e) book (highWith ts s) (lowWith ts s)) same

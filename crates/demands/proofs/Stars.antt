@@ -15,15 +15,15 @@ use Rattle.model.specs.declared.Day.{Day}
 use Rattle.model.specs.declared.OrderReply as OrderReply
 use Rattle.model.specs.Choice.{if_then_else_}
 use Rattle.model.specs.Lists.{keep, all, any, total, from, among, once, different}
-use Rattle.model.specs.Clock.{closed, laterRows, holding, rowAt, phaseAt, takesOrders, continuous, isTime}
+use Rattle.model.specs.Clock.{closed, laterRows, holding, rowAt, phaseAt, takesOrders, continuous, isTime, matchingFrom}
 use Rattle.model.specs.Book.{free, isLive, standsOn, better, ahead, insert, inPriority, queue, other, headPrice, best, arranged, mayFollow, inOrder}
 use Rattle.model.specs.Matching.{meets, within, fiveBest, atFiveBest, tradeWith, sweep, filled, levels, lastPrice, firstPrice, isIn, filledOf, lessBy, settle}
 use Rattle.model.specs.Limits.{isPrice, isQuantity, inBand, buyInRange, sellInRange, inRange}
-use Rattle.model.specs.Figures.{noScreen, nextNumber, reference}
+use Rattle.model.specs.Figures.{noScreen, nextNumber, reference, closePrice}
 use Rattle.model.specs.Halts.{runs, phaseNow}
 use Rattle.model.specs.Screen.{update}
 use Rattle.model.specs.Entry.{bestWithin, entryPrice, opposite, entryTrades, restPrice, base}
-use Rattle.model.specs.Sound.{hasPlaces, isMark, mayStand, soundFigures, isFree, isOrder, ownNumbers, isEmpty, crosses, between, sharesFit, pricesFit, turnoverFits, isLedTo, isUsed, haltFits, soundAnywhere}
+use Rattle.model.specs.Sound.{hasPlaces, isMark, mayStand, soundFigures, isFree, isOrderOf, isOrder, ownNumbers, isEmpty, crosses, between, sharesFit, pricesFit, turnoverFits, isLedTo, isUsed, haltFits, fixedFits, blocksFit, soundAnywhere}
 use Rattle.model.specs.Refusals.{_when_, firstOf, unsound}
 use Rattle.model.specs.Calls.{orderRules, ended, joined, entered}
 use Rattle.model.specs.Auction.{distance, sharesOf, demand, supply, volume, surplus, auctionPrice}
@@ -34,6 +34,7 @@ use Rattle.model.proofs.Bools.{and-left, and-right}
 use Rattle.book.proofs.Orderly.{told-ordered}
 use Rattle.soundness.specs.SoundDay.{SoundDay}
 use Rattle.soundness.proofs.HaltClauses.{says-halt}
+use Rattle.soundness.proofs.EveningClauses.{says-evening}
 use Rattle.soundness.proofs.SoundDays.{says-anywhere, day-stands}
 use Rattle.auction.specs.Spans.{turned, gap, flatter, nearestIn}
 use Rattle.demands.specs.Starred.{Report, Prices, SurplusAt, Enter, noTrade, answerTo, Right, situations}
@@ -49,34 +50,44 @@ use Rattle.demands.proofs.TurnTests.{turnTest, leftFrom, tested-list, t
 
 -- all of the test but the screen
 unfoldable ready : Day → List Order → Bool
-ready d os = hasPlaces os && soundAnywhere d os && inOrder os && haltFits d && eqb (d .shares) 0
+ready d os = hasPlaces os && soundAnywhere d os && inOrder os && haltFits d && (fixedFits d && blocksFit d) && eqb (d .shares) 0
 
 module _ (d : Day) (os : List Order) (blank : d .screen ≡ noScreen) (passes : ready d os ≡ true) where
   abbrev placed : Bool
   placed = hasPlaces os && soundAnywhere d os
 
-  day : SoundDay d os
+  -- the test up to the halt
+  abbrev halted : Bool
+  halted = placed && inOrder os && haltFits d
+
+  abbrev evening : Bool
+  evening = fixedFits d && blocksFit d
+
+  until-halt : halted ≡ true
   unfolding ready
+  until-halt = and-left halted evening (and-left (halted && evening) (eqb (d .shares) 0) passes)
+
+  day : SoundDay d os
   day =
       says-anywhere d os .0
       (and-right (hasPlaces os) (soundAnywhere d os)
-      (and-left placed (inOrder os) (and-left (placed && inOrder os) (haltFits d) (and-left (placed && inOrder os && haltFits d) (eqb (d .shares) 0) passes))))
+      (and-left placed (inOrder os) (and-left (placed && inOrder os) (haltFits d) until-halt)))
 
   before : BeforeScreen d os
   unfolding ready
   before =
-      let h = and-left (placed && inOrder os && haltFits d) (eqb (d .shares) 0) passes in
-      let i = and-left (placed && inOrder os) (haltFits d) h in
+      let i = and-left (placed && inOrder os) (haltFits d) until-halt in
       record {
         places = and-left (hasPlaces os) (soundAnywhere d os) (and-left placed (inOrder os) i);
         day = day;
         ordered = told-ordered os (day-stands d os day) (and-right placed (inOrder os) i);
-        halt = says-halt d .0 (and-right (placed && inOrder os) (haltFits d) h);
+        halt = says-halt d .0 (and-right (placed && inOrder os) (haltFits d) until-halt);
+        evening = says-evening d .0 (and-right halted evening (and-left (halted && evening) (eqb (d .shares) 0) passes));
       }
 
   none-traded : d .shares ≡ 0
   unfolding ready
-  none-traded = eqb-true (d .shares) 0 (and-right (placed && inOrder os && haltFits d) (eqb (d .shares) 0) passes)
+  none-traded = eqb-true (d .shares) 0 (and-right (halted && evening) (eqb (d .shares) 0) passes)
 
   shows : Shown d
   unfolding noScreen
@@ -158,7 +169,7 @@ module _ (d : Day) (os : List Order) (blank : d .screen ≡ noScreen) (passes : 
       (λ n. rw (ne-eqb (firstOf (drop 1 (orderRules d a os (length lent)))) 0 (λ z. n (same ∙ z)), same))
 
 orders-right : Each Right (drop 17 situations)
-unfolding situations ready toldOrder told keep all any total among once different closed laterRows holding rowAt phaseAt takesOrders continuous isTime free isLive standsOn better ahead insert inPriority queue other headPrice best arranged mayFollow inOrder meets within fiveBest atFiveBest tradeWith sweep filled levels lastPrice firstPrice isIn filledOf lessBy settle isPrice isQuantity inBand buyInRange sellInRange inRange nextNumber reference runs phaseNow bestWithin entryPrice opposite entryTrades restPrice base hasPlaces isMark mayStand soundFigures isFree isOrder ownNumbers isEmpty crosses between sharesFit pricesFit turnoverFits isLedTo isUsed haltFits soundAnywhere _when_ firstOf orderRules ended joined entered restingOf withdrawnOf entryNumbers orderNumbers
+unfolding situations ready toldOrder told keep all any total among once different closed laterRows holding rowAt phaseAt takesOrders continuous isTime free isLive standsOn better ahead insert inPriority queue other headPrice best arranged mayFollow inOrder meets within fiveBest atFiveBest tradeWith sweep filled levels lastPrice firstPrice isIn filledOf lessBy settle isPrice isQuantity inBand buyInRange sellInRange inRange nextNumber reference runs phaseNow bestWithin entryPrice opposite entryTrades restPrice base hasPlaces isMark mayStand soundFigures isFree isOrderOf isOrder ownNumbers isEmpty crosses between sharesFit pricesFit turnoverFits isLedTo isUsed haltFits fixedFits blocksFit closePrice matchingFrom soundAnywhere _when_ firstOf orderRules ended joined entered restingOf withdrawnOf entryNumbers orderNumbers
 orders-right =
     order-told _ _ refl refl _
     and order-told _ _ refl refl _
@@ -176,7 +187,7 @@ orders-right =
     and tt
 
 pub starred : Each Right situations
-unfolding situations keep all any total from isTime free isLive standsOn better ahead insert inPriority queue headPrice best mayFollow inOrder isPrice inBand reference runs hasPlaces isMark mayStand soundFigures isFree isOrder ownNumbers isEmpty crosses between sharesFit pricesFit turnoverFits isLedTo isUsed haltFits soundAnywhere ready distance sharesOf demand supply volume surplus reportAt reportNumbers turned gap flatter nearestIn turnTest leftFrom toldList
+unfolding situations keep all any total from isTime free isLive standsOn better ahead insert inPriority queue headPrice best mayFollow inOrder isPrice inBand reference runs hasPlaces isMark mayStand soundFigures isFree isOrderOf isOrder ownNumbers isEmpty crosses between sharesFit pricesFit turnoverFits isLedTo isUsed haltFits fixedFits blocksFit closePrice matchingFrom soundAnywhere ready distance sharesOf demand supply volume surplus reportAt reportNumbers turned gap flatter nearestIn turnTest leftFrom toldList
 starred =
     -- a
     list-told _ _ 1_000_000 1 refl refl refl refl 1 1

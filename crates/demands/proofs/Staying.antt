@@ -74,7 +74,7 @@ module _ (ts : List Trade) (book : List Order) where
       → Each (λ (t : Trade). isIn (getD book i free .number) t ≡ false) ts
       → Some (λ (p : Order). p ≡ getD book i free) os
 
-  none-moves : Standing book → Stays ts book book
+  pub none-moves : Standing book → Stays ts book book
   none-moves s i l n h = stands-once book (s .apart) (getD book i free) n (some-at book free i l)
 
   settle-stays : Standing book → StillAmong (settle ts book)

@@ -85,6 +85,8 @@ on time close orders asked answered =
             halt = 0;
             used30 = 0;
             used60 = 0;
+            fixed = record { issued = 0; shares = 0; money = 0 };
+            blocks = record { issued = 0; shares = 0 };
           });
       book = book;
       asked = asked;

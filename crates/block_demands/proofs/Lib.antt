@@ -1,0 +1,19 @@
+-- The proofs of what is stated of block trades.
+pub mod Plain
+pub mod Fitting
+pub mod Members
+pub mod Naming
+pub mod Partners
+pub mod Turns
+pub mod Confirmed
+pub mod OtherFigures
+pub mod Lining
+pub mod Settling
+pub mod Allowed
+pub mod KeptBlocks
+pub mod Moves
+pub mod Keepings
+pub mod Confirmings
+pub mod Besides
+pub mod Separates
+pub mod Uncovered
