@@ -21,7 +21,7 @@ ghost use Rattle.byte_books.specs.Changing.{changeLeft, bookCall, Change
 
 // The call on rows. An opening reads nothing of the old day.
 fn change_rows(day: &[u8], rows: &mut [[u64; 5]], asked: BookAsked) -> BookReply
-    requires { ⌜ length (now day) ≡ 312 ⌝ }
+    requires { ⌜ length (now day) ≡ 352 ⌝ }
     ensures { λ r. ⌜ changeLeft r (now (rows .exit)) ≡ bookCall (dayIn (now (day .entry))) (bookOf (now (rows .entry))) asked ⌝ }
 {
     match asked {
@@ -36,7 +36,7 @@ fn change_rows(day: &[u8], rows: &mut [[u64; 5]], asked: BookAsked) -> BookReply
 
 // The bytes as rows, the call on the rows, and the rows as bytes again.
 fn change_in(day: &[u8], book: &mut [u8], rows: &mut [[u64; 5]], asked: BookAsked) -> BookReply
-    requires { ⌜ length (now day) ≡ 312 ⌝ }
+    requires { ⌜ length (now day) ≡ 352 ⌝ }
     requires { ⌜ length (now rows) ≡ length (now book) / 40 ⌝ }
     ensures { λ r. ⌜ Changed (bookOn (now (day .entry)) (now (book .entry)) asked) (now (book .entry)) r (now (book .exit)) ⌝ }
 {
@@ -48,7 +48,7 @@ fn change_in(day: &[u8], book: &mut [u8], rows: &mut [[u64; 5]], asked: BookAske
 
 // In the largest room.
 fn change_in_large(day: &[u8], book: &mut [u8], asked: BookAsked) -> BookReply
-    requires { ⌜ length (now day) ≡ 312 ⌝ }
+    requires { ⌜ length (now day) ≡ 352 ⌝ }
     requires { ⌜ length (now book) / 40 ≤ 4_096 ⌝ }
     ensures { λ r. ⌜ Changed (bookOn (now (day .entry)) (now (book .entry)) asked) (now (book .entry)) r (now (book .exit)) ⌝ }
 {
@@ -58,7 +58,7 @@ fn change_in_large(day: &[u8], book: &mut [u8], asked: BookAsked) -> BookReply
 }
 
 fn change_in_small(day: &[u8], book: &mut [u8], asked: BookAsked) -> BookReply
-    requires { ⌜ length (now day) ≡ 312 ⌝ }
+    requires { ⌜ length (now day) ≡ 352 ⌝ }
     requires { ⌜ length (now book) / 40 ≤ 1_024 ⌝ }
     ensures { λ r. ⌜ Changed (bookOn (now (day .entry)) (now (book .entry)) asked) (now (book .entry)) r (now (book .exit)) ⌝ }
 {
@@ -68,7 +68,7 @@ fn change_in_small(day: &[u8], book: &mut [u8], asked: BookAsked) -> BookReply
 }
 
 fn change_in_tiny(day: &[u8], book: &mut [u8], asked: BookAsked) -> BookReply
-    requires { ⌜ length (now day) ≡ 312 ⌝ }
+    requires { ⌜ length (now day) ≡ 352 ⌝ }
     requires { ⌜ length (now book) / 40 ≤ 64 ⌝ }
     ensures { λ r. ⌜ Changed (bookOn (now (day .entry)) (now (book .entry)) asked) (now (book .entry)) r (now (book .exit)) ⌝ }
 {
@@ -79,7 +79,7 @@ fn change_in_tiny(day: &[u8], book: &mut [u8], asked: BookAsked) -> BookReply
 
 // In a room as small as the book allows.
 pub fn change_bytes(day: &[u8], book: &mut [u8], asked: BookAsked) -> BookReply
-    requires { ⌜ length (now day) ≡ 312 ⌝ }
+    requires { ⌜ length (now day) ≡ 352 ⌝ }
     requires { ⌜ length (now book) / 40 ≤ 4_096 ⌝ }
     ensures { λ r. ⌜ Changed (bookOn (now (day .entry)) (now (book .entry)) asked) (now (book .entry)) r (now (book .exit)) ⌝ }
 {

@@ -44,7 +44,7 @@ fn read_rows(d: Day, rows: &[[u64; 5]], asked: ReadAsked) -> ReadReply
 }
 
 fn read_in(day: &[u8], book: &[u8], rows: &mut [[u64; 5]], asked: ReadAsked) -> ReadReply
-    requires { ⌜ length (now day) ≡ 312 ⌝ }
+    requires { ⌜ length (now day) ≡ 352 ⌝ }
     requires { ⌜ length (now rows) ≡ length (now book) / 40 ⌝ }
     ensures { λ r. ⌜ r ≡ readOn (now (day .entry)) (now (book .entry)) asked ⌝ }
 {
@@ -54,7 +54,7 @@ fn read_in(day: &[u8], book: &[u8], rows: &mut [[u64; 5]], asked: ReadAsked) -> 
 
 // In the largest room.
 fn read_in_large(day: &[u8], book: &[u8], asked: ReadAsked) -> ReadReply
-    requires { ⌜ length (now day) ≡ 312 ⌝ }
+    requires { ⌜ length (now day) ≡ 352 ⌝ }
     requires { ⌜ length (now book) / 40 ≤ 4_096 ⌝ }
     ensures { λ r. ⌜ r ≡ readOn (now (day .entry)) (now (book .entry)) asked ⌝ }
 {
@@ -64,7 +64,7 @@ fn read_in_large(day: &[u8], book: &[u8], asked: ReadAsked) -> ReadReply
 }
 
 fn read_in_small(day: &[u8], book: &[u8], asked: ReadAsked) -> ReadReply
-    requires { ⌜ length (now day) ≡ 312 ⌝ }
+    requires { ⌜ length (now day) ≡ 352 ⌝ }
     requires { ⌜ length (now book) / 40 ≤ 1_024 ⌝ }
     ensures { λ r. ⌜ r ≡ readOn (now (day .entry)) (now (book .entry)) asked ⌝ }
 {
@@ -74,7 +74,7 @@ fn read_in_small(day: &[u8], book: &[u8], asked: ReadAsked) -> ReadReply
 }
 
 fn read_in_tiny(day: &[u8], book: &[u8], asked: ReadAsked) -> ReadReply
-    requires { ⌜ length (now day) ≡ 312 ⌝ }
+    requires { ⌜ length (now day) ≡ 352 ⌝ }
     requires { ⌜ length (now book) / 40 ≤ 64 ⌝ }
     ensures { λ r. ⌜ r ≡ readOn (now (day .entry)) (now (book .entry)) asked ⌝ }
 {
@@ -85,7 +85,7 @@ fn read_in_tiny(day: &[u8], book: &[u8], asked: ReadAsked) -> ReadReply
 
 // In a room as small as the book allows.
 pub fn read_bytes(day: &[u8], book: &[u8], asked: ReadAsked) -> ReadReply
-    requires { ⌜ length (now day) ≡ 312 ⌝ }
+    requires { ⌜ length (now day) ≡ 352 ⌝ }
     requires { ⌜ length (now book) / 40 ≤ 4_096 ⌝ }
     ensures { λ r. ⌜ r ≡ readOn (now (day .entry)) (now (book .entry)) asked ⌝ }
 {

@@ -80,7 +80,7 @@ fn trade_in(
     list: &mut [[u64; 6]],
     asked: TradeAsked,
 ) -> TradeAnswer
-    requires { ⌜ length (now day) ≡ 312 ⌝ }
+    requires { ⌜ length (now day) ≡ 352 ⌝ }
     requires { ⌜ length (now rows) ≡ length (now book) / 40 ⌝ }
     requires { ⌜ length (now list) ≡ length (now book) / 40 ⌝ }
     ensures { λ r. ⌜ Traded (tradeOn (now (day .entry)) (now (book .entry)) (now (trades .entry)) asked) (now (book .entry)) (now (trades .entry)) r (now (book .exit)) (now (trades .exit)) ⌝ }
@@ -103,7 +103,7 @@ fn trade_in(
 
 // In the largest rooms.
 fn trade_in_large(day: &[u8], book: &mut [u8], trades: &mut [u8], asked: TradeAsked) -> TradeAnswer
-    requires { ⌜ length (now day) ≡ 312 ⌝ }
+    requires { ⌜ length (now day) ≡ 352 ⌝ }
     requires { ⌜ length (now book) / 40 ≤ 4_096 ⌝ }
     ensures { λ r. ⌜ Traded (tradeOn (now (day .entry)) (now (book .entry)) (now (trades .entry)) asked) (now (book .entry)) (now (trades .entry)) r (now (book .exit)) (now (trades .exit)) ⌝ }
 {
@@ -114,7 +114,7 @@ fn trade_in_large(day: &[u8], book: &mut [u8], trades: &mut [u8], asked: TradeAs
 }
 
 fn trade_in_small(day: &[u8], book: &mut [u8], trades: &mut [u8], asked: TradeAsked) -> TradeAnswer
-    requires { ⌜ length (now day) ≡ 312 ⌝ }
+    requires { ⌜ length (now day) ≡ 352 ⌝ }
     requires { ⌜ length (now book) / 40 ≤ 1_024 ⌝ }
     ensures { λ r. ⌜ Traded (tradeOn (now (day .entry)) (now (book .entry)) (now (trades .entry)) asked) (now (book .entry)) (now (trades .entry)) r (now (book .exit)) (now (trades .exit)) ⌝ }
 {
@@ -125,7 +125,7 @@ fn trade_in_small(day: &[u8], book: &mut [u8], trades: &mut [u8], asked: TradeAs
 }
 
 fn trade_in_tiny(day: &[u8], book: &mut [u8], trades: &mut [u8], asked: TradeAsked) -> TradeAnswer
-    requires { ⌜ length (now day) ≡ 312 ⌝ }
+    requires { ⌜ length (now day) ≡ 352 ⌝ }
     requires { ⌜ length (now book) / 40 ≤ 64 ⌝ }
     ensures { λ r. ⌜ Traded (tradeOn (now (day .entry)) (now (book .entry)) (now (trades .entry)) asked) (now (book .entry)) (now (trades .entry)) r (now (book .exit)) (now (trades .exit)) ⌝ }
 {
@@ -137,7 +137,7 @@ fn trade_in_tiny(day: &[u8], book: &mut [u8], trades: &mut [u8], asked: TradeAsk
 
 // In rooms as small as the book allows.
 pub fn trade_bytes(day: &[u8], book: &mut [u8], trades: &mut [u8], asked: TradeAsked) -> TradeAnswer
-    requires { ⌜ length (now day) ≡ 312 ⌝ }
+    requires { ⌜ length (now day) ≡ 352 ⌝ }
     requires { ⌜ length (now book) / 40 ≤ 4_096 ⌝ }
     ensures { λ r. ⌜ Traded (tradeOn (now (day .entry)) (now (book .entry)) (now (trades .entry)) asked) (now (book .entry)) (now (trades .entry)) r (now (book .exit)) (now (trades .exit)) ⌝ }
 {

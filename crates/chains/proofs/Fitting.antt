@@ -1,12 +1,14 @@
 -- What a sound day leaves fits numbers of 64 bits, so that what an event stores as bytes is read back from them. Accounts alone are not
 -- bounded by soundness: an order in the book has the account of one that stood there, or of the order that came in. Assumes nothing.
-use Prim.Native.Nat.{ℕ, zero, suc, _+_, _/_, _^_, _≤_, _<_}
+use Prim.Native.Nat.{ℕ, zero, suc, _+_, _*_, _/_, _^_, _≤_, _<_}
 use mathlib.Core.Path.{_≡_, refl, sym, ap, subst, _∙_}
 use mathlib.Core.Logic.{inl, inr, ⊎-elim}
-use mathlib.Core.Bool.{false}
+use mathlib.Core.Bool.{Bool, true, false, cond}
 use mathlib.Core.List.{List, [], _∷_, _++_, map}
 use native.Mathlib.Omega.{arith}
 use native.Mathlib.Decide.{ℕ-discrete}
+use lib.Dec.{leb}
+use borrow.Author.Tests.{leb-true}
 use lib.Signed.{mag}
 use lib.ListN.{length, drop}
 use Rattle.model.specs.declared.Order.{Order}
@@ -20,19 +22,23 @@ use Rattle.model.specs.Screen.{screenOf}
 use Rattle.model.specs.Calls.{orderCall}
 use Rattle.model.specs.Session.{Desk}
 use Rattle.model.specs.Words.{Each, Some, Sound}
+use Rattle.model.specs.Clock.{dayEnd}
+use Rattle.model.specs.Figures.{publishedShares, publishedTurnover}
 use Rattle.model.proofs.Bools.{and-both}
 use Rattle.model.proofs.SameScreens.{fits-counted}
 use Rattle.book.specs.Standing.{Fair, Ranked}
 use Rattle.book.proofs.Lists.{each, each-append}
-use Rattle.soundness.specs.SoundDay.{SoundDay, HaltDay}
-use Rattle.soundness.proofs.SoundDays.{sound-day, sound-screen, sound-halt, ranked as sound-ranked, day-stands}
+use Rattle.soundness.specs.SoundDay.{SoundDay, HaltDay, EveningDay}
+use Rattle.figures.specs.Figures.{Publishable}
+use Rattle.soundness.proofs.EveningClauses.{fixed-paid, publishable}
+use Rattle.soundness.proofs.SoundDays.{sound-day, sound-screen, sound-halt, sound-evening, ranked as sound-ranked, day-stands}
 use Rattle.demands.specs.Running.{isOpening, Owner, Is, ownersBy, acceptedBy, steppedBy}
 use Rattle.demands.proofs.Elements.{each-map}
 use Rattle.demands.proofs.HaltDays.{running}
 use Rattle.demands.proofs.Owned.{Known, Owned, event-owned}
 use Rattle.octets.specs.Numbers.{AllBytes, parts}
 use Rattle.octets.proofs.Digits.{bytes-drop}
-use Rattle.records.specs.Layout.{Word, Fits, DayFits, numbers, orderIn, bookIn, dayIn, screenRow, dayBytes, bookBytes, over}
+use Rattle.records.specs.Layout.{Word, Fits, DayFits, numbers, orderIn, bookIn, dayIn, screenRow, fixedRow, blocksRow, dayBytes, bookBytes, over}
 use Rattle.records.proofs.Back.{numbers-fit, length-book-in, day-back, book-back}
 use Rattle.chains.proofs.Ranges.{WordRange}
 use Rattle.chains.proofs.Shown.{screen-words, shown-surplus}
@@ -127,12 +133,26 @@ each-fits : (book : List Order) → Each Fair book → Each WordAccount book →
 each-fits [] f a = tt
 each-fits (o ∷ os) f a = (order-fits o (f .0) (a .0), each-fits os (f .1) (a .1))
 
+-- what is published is the day's own, or the sum of all
+published-words : (d : Day) → Publishable d → Word (d .shares) → Word (d .turnover) → Word (publishedShares d) × Word (publishedTurnover d)
+unfolding publishedShares publishedTurnover dayEnd
+published-words d p a b = go (leb 55_800 (d .time)) refl
+  where
+    go :
+        (t : Bool)
+        → leb 55_800 (d .time) ≡ t
+        → Word (cond t (d .shares + d .fixed .shares + d .blocks .shares) (d .shares)) × Word (cond t (d .turnover + d .fixed .money) (d .turnover))
+    go true e = (p .shares (leb-true 55_800 (d .time) e), p .money (leb-true 55_800 (d .time) e))
+    go false e = (a, b)
+
 day-words : (d : Day) (book : List Order) → Sound d book → WordRange d → DayFits d
 day-words d book s r =
     let k : SoundDay d book = sound-day d book (s .1) in
     let h : HaltDay d = sound-halt d book (s .1) in
     let counted : d .screen ≡ screenOf d book (d .screen .high) (d .screen .low) = fits-counted d book (sound-screen d book (s .1)) in
     let ranked : Ranked book = sound-ranked d book (and-both (s .0) (s .1)) in
+    let v : EveningDay d = sound-evening d book (s .1) in
+    let paid : d .fixed .money ≤ 999_999 * d .fixed .shares = fixed-paid d book k v in
     let shares : d .shares ≤ 500_000_000_000 = omega (arith, k .shares, k .issued) in
     let turnover : d .turnover < 2 ^ 64 = omega (arith, shares, k .most) in
     let prices : Word (d .first) × Word (d .last) = elim (ℕ-discrete (d .shares) 0) [
@@ -151,9 +171,20 @@ day-words d book s r =
     let marks : Each Word (d .halt ∷ d .used30 ∷ d .used60 ∷ []) = (halt, (omega (arith, h .thirty), (omega (arith, h .sixty), tt))) in
     let screen : Each Word (screenRow (d .screen)) =
     subst (λ (x : Screen). Each Word (screenRow x)) (sym counted)
-    (screen-words book ranked d (d .screen .high) (d .screen .low) (prices .1) (omega (arith, shares)) turnover (r .high) (r .low)) in
+    (screen-words book ranked d (d .screen .high) (d .screen .low) (prices .1) (published-words d (publishable d book k v) (omega (arith, shares)) turnover .0)
+    (published-words d (publishable d book k v) (omega (arith, shares)) turnover .1) (r .high) (r .low)) in
+    let fixed-words : Each Word (fixedRow (d .fixed)) =
+    (omega (arith, v .fixed-issued), (omega (arith, v .fixed-shares, v .fixed-issued), (omega (arith, paid, v .fixed-shares, v .fixed-issued), tt))) in
+    let blocks-words : Each Word (blocksRow (d .blocks)) =
+    (omega (arith, v .blocks-issued), (omega (arith, v .blocks-shares, v .blocks-issued), tt)) in
+    let halts : List ℕ = d .halt ∷ d .used30 ∷ d .used60 ∷ [] in
     record {
-      words = each-append Word (figs ++ screenRow (d .screen)) (d .halt ∷ d .used30 ∷ d .used60 ∷ []) (each-append Word figs (screenRow (d .screen)) figures screen) marks;
+      words =
+          each-append Word (figs ++ screenRow (d .screen) ++ halts ++ fixedRow (d .fixed)) (blocksRow (d .blocks))
+          (each-append Word (figs ++ screenRow (d .screen) ++ halts) (fixedRow (d .fixed))
+          (each-append Word (figs ++ screenRow (d .screen)) halts (each-append Word figs (screenRow (d .screen)) figures screen) marks)
+          fixed-words)
+          blocks-words;
       surplus =
           subst (λ (x : Screen). mag (x .surplus) < 2 ^ 63) (sym counted) (shown-surplus book ranked d (d .screen .high) (d .screen .low));
     }

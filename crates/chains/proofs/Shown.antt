@@ -15,7 +15,7 @@ use Rattle.model.specs.declared.Day.{Day}
 use Rattle.model.specs.Lists.{among, once}
 use Rattle.model.specs.Book.{standsOn, queue}
 use Rattle.model.specs.Matching.{fiveBest}
-use Rattle.model.specs.Figures.{noLevel}
+use Rattle.model.specs.Figures.{noLevel, publishedShares, publishedTurnover}
 use Rattle.model.specs.Halts.{phaseNow}
 use Rattle.model.specs.Auction.{volume, surplus, auctionPrice}
 use Rattle.model.specs.Screen.{levelAt, levelsOf, shownPrice, screenOf}
@@ -132,15 +132,15 @@ module _ (book : List Order) (r : Ranked book) where
 
     pub screen-words :
         Word (d .last)
-        → Word (d .shares)
-        → Word (d .turnover)
+        → Word (publishedShares d)
+        → Word (publishedTurnover d)
         → Word high
         → Word low
         → Each Word (screenRow (screenOf d book high low))
     unfolding screenOf
     screen-words last shares turnover h l =
         let p = shown-small d in
-        let traded : List ℕ = d .last ∷ high ∷ low ∷ d .shares ∷ d .turnover ∷ [] in
+        let traded : List ℕ = d .last ∷ high ∷ low ∷ publishedShares d ∷ publishedTurnover d ∷ [] in
         let buys : List ℕ = levelsRow (levelsOf 0 book) in
         let sells : List ℕ = levelsRow (levelsOf 1 book) in
         let volume-shown : ℕ = cond (eqb (shownPrice d book) 0) 0 (volume book (shownPrice d book)) in

@@ -62,7 +62,7 @@ too-many book h = go (hasPlaces book) refl
     go true e = let l : length book ≤ 4_096 = few-places book e in absurd (omega arith)
     go false e = refl
 
-none : hasPlaces [] ≡ false
+none : hasPlaces {A = Order} [] ≡ false
 unfolding hasPlaces
 none = refl
 

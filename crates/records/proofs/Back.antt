@@ -7,20 +7,26 @@ use native.Mathlib.Nat.{mul-suc, mul-zero, add-comm, mul-le-mul-left}
 use lib.ListN.{length, getD, take, drop, length-append, length-take, length-drop, take-append-drop}
 use lib.Seq.{take-at, drop-at, drop-append-le, take-add, length-take-le}
 use Rattle.model.specs.declared.Order.{Order}
+use Rattle.model.specs.declared.Declaration.{Declaration}
 use Rattle.model.specs.declared.Trade.{Trade}
 use Rattle.model.specs.declared.Day.{Day}
-use Rattle.book.specs.Rows.{orderOf, rowOf}
+use Rattle.book.specs.Rows.{orderOf, rowOf, declarationOf, declarationRow}
 use Rattle.model.specs.Words.{Each}
+use Rattle.book.proofs.Lists.{each}
 use Rattle.octets.specs.Numbers.{AllBytes, digits, parts, flat}
 use Rattle.octets.proofs.Digits.{length-digits, worth-digits, digits-worth, few-bytes, bytes-take, bytes-drop}
 use Rattle.octets.proofs.Parts.{length-flat, length-parts, flat-append, flat-drop}
 use Rattle.replies.proofs.Signs.{word-signed, signed-word}
-use Rattle.records.specs.Layout.{Word, Fits, DayFits, numberIn, numbers, orderIn, dayOf, dayIn, bookIn, pricesIn, bytes, orderBytes, tradeIn, tradeBytes, tradesIn, tradesBytes, bookBytes, dayRow, dayBytes, over}
-use Rattle.records.proofs.Sizes.{length-order, length-trade, length-book}
+use Rattle.records.specs.Layout.{Word, Fits, DeclarationFits, DayFits, numberIn, numbers, orderIn, declarationIn, dayOf, dayIn, bookIn, declarationsIn, pricesIn, bytes, orderBytes, declarationBytes, tradeIn, tradeBytes, tradesIn, tradesBytes, bookBytes, declarationsBytes, dayRow, dayBytes, over}
+use Rattle.records.proofs.Sizes.{length-order, length-declaration, length-trade, length-book, length-declarations}
 
 pub length-book-in : (b : List ℕ) → length (bookIn b) ≡ length b / 40
 unfolding bookIn
 length-book-in b = length-parts orderIn 40 (length b / 40) b
+
+pub length-declarations-in : (b : List ℕ) → length (declarationsIn b) ≡ length b / 56
+unfolding declarationsIn
+length-declarations-in b = length-parts declarationIn 56 (length b / 56) b
 
 pub length-trades-in : (b : List ℕ) → length (tradesIn b) ≡ length b / 48
 unfolding tradesIn
@@ -68,6 +74,10 @@ module _ {A : Type 0} (f : List ℕ → A) (g : A → List ℕ) (size : ℕ)
         sym (drop-append-le j (take m b) (drop m b) le) ∙ ap (drop j) (take-append-drop m b) in
         rw (new-bytes, x, tl, append-assoc t (drop j (take m b)) (drop m b), y)
 
+pub length-over : (new old : List ℕ) → length new ≤ length old → length (over new old) ≡ length old
+unfolding over
+length-over new old h = simp (length-append, length-drop) (omega arith)
+
 -- as many as there are places for, and the rest behind them
 kept : (new b : List ℕ) (n : ℕ) → new ≡ take n b → n ≤ length b → over new b ≡ b
 unfolding over
@@ -89,6 +99,16 @@ unfolding bookBytes bookIn
 book-kept b s =
     let h : 40 * (length b / 40) ≤ length b = omega arith in
     kept _ b (40 * (length b / 40)) (flat-parts orderIn orderBytes 40 order-again (length b / 40) b h s) h
+
+declaration-again : (b : List ℕ) → 56 ≤ length b → AllBytes b → declarationBytes (declarationIn b) ≡ take 56 b
+unfolding numbers parts
+declaration-again b h s = numbers-again 7 b h s
+
+pub declarations-kept : (b : List ℕ) → AllBytes b → over (declarationsBytes (declarationsIn b)) b ≡ b
+unfolding declarationsBytes declarationsIn
+declarations-kept b s =
+    let h : 56 * (length b / 56) ≤ length b = omega arith in
+    kept _ b (56 * (length b / 56)) (flat-parts declarationIn declarationBytes 56 declaration-again (length b / 56) b h s) h
 
 trade-again : (b : List ℕ) → 48 ≤ length b → AllBytes b → tradeBytes (tradeIn b) ≡ take 48 b
 unfolding numbers parts
@@ -116,14 +136,14 @@ numbers-fit zero i b s = omega arith
 numbers-fit (suc n) zero b s = few-bytes 8 (take 8 b) (rw length-take (omega arith)) (bytes-take 8 b s)
 numbers-fit (suc n) (suc i) b s = numbers-fit n i (drop 8 b) (bytes-drop 8 b s)
 
-day-again : (b : List ℕ) → 312 ≤ length b → AllBytes b → dayBytes (dayIn b) ≡ take 312 b
+day-again : (b : List ℕ) → 352 ≤ length b → AllBytes b → dayBytes (dayIn b) ≡ take 352 b
 unfolding dayBytes dayIn numbers parts
 day-again b h s =
-    let surplus : Word (getD (numbers 39 b) 35 0) = numbers-fit 39 35 b s in
-    rw (word-signed (getD (numbers 39 b) 35 0) surplus) (numbers-again 39 b h s)
+    let surplus : Word (getD (numbers 44 b) 35 0) = numbers-fit 44 35 b s in
+    rw (word-signed (getD (numbers 44 b) 35 0) surplus) (numbers-again 44 b h s)
 
-pub day-kept : (b : List ℕ) → length b ≡ 312 → AllBytes b → over (dayBytes (dayIn b)) b ≡ b
-day-kept b h s = kept _ b 312 (day-again b (omega arith) s) (omega arith)
+pub day-kept : (b : List ℕ) → length b ≡ 352 → AllBytes b → over (dayBytes (dayIn b)) b ≡ b
+day-kept b h s = kept _ b 352 (day-again b (omega arith) s) (omega arith)
 
 pub prices-kept : (b : List ℕ) → AllBytes b → over (bytes (pricesIn b)) b ≡ b
 unfolding pricesIn
@@ -151,6 +171,15 @@ module _ {A : Type 0} (f : List ℕ → A) (g : A → List ℕ) (size : ℕ) (lo
   parts-flat (x ∷ xs) rest h =
       rw (append-assoc, h .0 (flat g xs ++ rest), drop-at (g x) (flat g xs ++ rest) size (long x), parts-flat xs rest (h .1))
 
+  -- over old bytes
+  list-back :
+      (xs : List A) (b : List ℕ) {n : ℕ}
+      → Each (λ x. (rest : List ℕ) → f (g x ++ rest) ≡ x) xs
+      → n ≡ length xs
+      → parts f size n (over (flat g xs) b) ≡ xs
+  unfolding over
+  list-back xs b h e = rw e (parts-flat xs (drop (length (flat g xs)) b) h)
+
 pub number-back : (x : ℕ) → Word x → (rest : List ℕ) → numberIn (digits 8 x ++ rest) ≡ x
 number-back x h rest = rw (take-at (digits 8 x) rest 8 (length-digits 8 x)) (worth-digits 8 x h)
 
@@ -169,14 +198,21 @@ pub day-back : (d : Day) (rest : List ℕ) → DayFits d → dayIn (dayBytes d +
 unfolding dayIn dayBytes
 day-back d rest h = ap dayOf (numbers-back (dayRow d) rest (h .words)) ∙ rw (signed-word (d .screen .surplus) (h .surplus))
 
+declaration-back : (x : Declaration) → DeclarationFits x → (rest : List ℕ) → declarationIn (declarationBytes x ++ rest) ≡ x
+declaration-back x h rest = ap declarationOf (numbers-back (declarationRow x) rest h)
+
 pub book-back : (book : List Order) (b : List ℕ) → Each Fits book → length book ≡ length b / 40 → bookIn (over (bookBytes book) b) ≡ book
-unfolding bookIn bookBytes over
+unfolding bookIn bookBytes
 book-back book b h e =
-    let k : length (bookBytes book) ≡ 40 * length book = length-book book in
-    let n : length (bookBytes book ++ drop (length (bookBytes book)) b) ≡ length b =
-    simp (length-append, length-drop) (omega arith) in
-    rw (n, ← e) (parts-flat orderIn orderBytes 40 length-order book (drop (length (bookBytes book)) b) (go book h))
-  where
-    go : (os : List Order) → Each Fits os → Each (λ o. (rest : List ℕ) → orderIn (orderBytes o ++ rest) ≡ o) os
-    go [] h = tt
-    go (o ∷ os) h = (order-back o (h .0), go os (h .1))
+    list-back orderIn orderBytes 40 length-order book b (each Fits _ book order-back h)
+    (rw (length-over (bookBytes book) b (omega (arith, length-book book))) (sym e))
+
+pub declarations-back :
+    (held : List Declaration) (b : List ℕ)
+    → Each DeclarationFits held
+    → length held ≡ length b / 56
+    → declarationsIn (over (declarationsBytes held) b) ≡ held
+unfolding declarationsIn declarationsBytes
+declarations-back held b h e =
+    list-back declarationIn declarationBytes 56 length-declaration held b (each DeclarationFits _ held declaration-back h)
+    (rw (length-over (declarationsBytes held) b (omega (arith, length-declarations held))) (sym e))

@@ -7,9 +7,11 @@ use lib.ListN.{getD}
 use Rattle.model.specs.declared.Level.{Level}
 use Rattle.model.specs.declared.Levels.{Levels}
 use Rattle.model.specs.declared.Screen.{Screen}
+use Rattle.model.specs.declared.Fixed.{Fixed}
+use Rattle.model.specs.declared.Blocks.{Blocks}
 use Rattle.model.specs.declared.Day.{Day}
 use Rattle.replies.specs.Words.{signed}
-use Rattle.records.specs.Layout.{heldLevel, heldLevels, heldScreen, dayOf, dayIn, numbers}
+use Rattle.records.specs.Layout.{heldLevel, heldLevels, heldScreen, heldFixed, heldBlocks, dayOf, dayIn, numbers}
 
 abbrev fiveLevels : Level → Level → Level → Level → Level → Levels
 fiveLevels a b c d e = record { first = a; second = b; third = c; fourth = d; fifth = e }
@@ -48,8 +50,9 @@ pub screen-held :
     → screenWith row at buys sells surplus ≡ heldScreen row at
 screen-held row at p q r = rw (p, q, r)
 
-abbrev dayWith : List ℕ → Screen → Day
-dayWith row screen =
+-- the day with this screen and these figures of the other lists, the rest of it from the row
+abbrev dayWith : List ℕ → Screen → Fixed → Blocks → Day
+dayWith row screen fixed blocks =
     record {
       close = getD row 0 0;
       limited = getD row 1 0;
@@ -63,11 +66,18 @@ dayWith row screen =
       halt = getD row 36 0;
       used30 = getD row 37 0;
       used60 = getD row 38 0;
+      fixed = fixed;
+      blocks = blocks;
     }
 
-pub day-held : (row : List ℕ) {screen : Screen} → screen ≡ heldScreen row 8 → dayWith row screen ≡ dayOf row
-day-held row e = rw e
+pub day-held :
+    (row : List ℕ) {screen : Screen} {fixed : Fixed} {blocks : Blocks}
+    → screen ≡ heldScreen row 8
+    → fixed ≡ heldFixed row 39
+    → blocks ≡ heldBlocks row 42
+    → dayWith row screen fixed blocks ≡ dayOf row
+day-held row p q r = rw (p, q, r)
 
-pub day-read : (b row : List ℕ) {d : Day} → row ≡ numbers 39 b → d ≡ dayOf row → d ≡ dayIn b
+pub day-read : (b row : List ℕ) {d : Day} → row ≡ numbers 44 b → d ≡ dayOf row → d ≡ dayIn b
 unfolding dayIn
 day-read b row e f = f ∙ ap dayOf e

@@ -1,4 +1,4 @@
--- A day, a book, trades and a reply as a call reads and stores them. Assumes nothing.
+-- A day, a book, declarations, trades and a reply as a call reads and stores them. Assumes nothing.
 use Prim.Native.Nat.{ℕ, _+_, _*_, _/_, _≤_, _<_}
 use mathlib.Core.Path.{_≡_, refl, sym, ap, _∙_}
 use mathlib.Core.List.{List, [], _∷_, _++_}
@@ -7,13 +7,13 @@ use lib.ListN.{length, take, length-map}
 use lib.Seq.{sets, take-all, length-take-le}
 use Rattle.model.specs.declared.Screen.{Screen}
 use Rattle.model.specs.declared.Day.{Day}
-use Rattle.book.specs.Rows.{orderOf, bookOf, tradeOf, tradesOf}
+use Rattle.book.specs.Rows.{orderOf, bookOf, declarationOf, heldOf, tradeOf, tradesOf}
 use Rattle.octets.specs.Numbers.{digits, parts, flat}
 use Rattle.octets.proofs.Parts.{flat-append}
 use Rattle.replies.specs.Words.{word}
-use Rattle.records.specs.Layout.{bytes, levelsRow, screenRow, dayBytes, orderIn, orderBytes, bookIn, bookBytes, tradeBytes, tradesBytes, over, replied}
+use Rattle.records.specs.Layout.{bytes, levelsRow, screenRow, fixedRow, blocksRow, dayBytes, orderIn, orderBytes, bookIn, bookBytes, declarationIn, declarationBytes, declarationsIn, declarationsBytes, tradeBytes, tradesBytes, over, replied}
 use Rattle.records.proofs.Runs.{sets-on, sets-over}
-use Rattle.records.proofs.Sizes.{length-bytes, length-day, length-book, length-trades}
+use Rattle.records.proofs.Sizes.{length-bytes, length-day, length-book, length-declarations, length-trades}
 
 -- one row of numbers behind another
 then-put :
@@ -47,16 +47,17 @@ screen-put b at s {w} {b₁} {b₂} {b₃} {b₄} e f g h k =
 
 pub day-put :
     (b : List ℕ) (d : Day) {b₁ b₂ b₃ : List ℕ}
-    → 312 ≤ length b
+    → 352 ≤ length b
     → b₁ ≡ sets b 0 (bytes (d .close ∷ d .limited ∷ d .time ∷ d .issued ∷ d .shares ∷ d .turnover ∷ d .first ∷ d .last ∷ []))
     → b₂ ≡ sets b₁ 64 (bytes (screenRow (d .screen)))
-    → b₃ ≡ sets b₂ 288 (bytes (d .halt ∷ d .used30 ∷ d .used60 ∷ []))
+    → b₃ ≡ sets b₂ 288 (bytes ((d .halt ∷ d .used30 ∷ d .used60 ∷ []) ++ fixedRow (d .fixed) ++ blocksRow (d .blocks)))
     → b₃ ≡ over (dayBytes d) b
 unfolding dayBytes
 day-put b d {b₁} {b₂} {b₃} h e f g =
     let figures : List ℕ = d .close ∷ d .limited ∷ d .time ∷ d .issued ∷ d .shares ∷ d .turnover ∷ d .first ∷ d .last ∷ [] in
+    let rest : List ℕ = (d .halt ∷ d .used30 ∷ d .used60 ∷ []) ++ fixedRow (d .fixed) ++ blocksRow (d .blocks) in
     let two : b₂ ≡ sets b 0 (bytes (figures ++ screenRow (d .screen))) = then-put b figures (screenRow (d .screen)) 0 64 refl e f in
-    then-put b (figures ++ screenRow (d .screen)) (d .halt ∷ d .used30 ∷ d .used60 ∷ []) 0 288 refl two g
+    then-put b (figures ++ screenRow (d .screen)) rest 0 288 refl two g
     ∙ sets-over (dayBytes d) b (omega (arith, length-day d))
 
 -- the rows of as many places as the bytes hold
@@ -73,6 +74,23 @@ pub book-put :
 unfolding bookBytes
 book-put b rows b' h e =
     e ∙ sets-over (bookBytes (bookOf rows)) b (omega (arith, length-book (bookOf rows), length-map rows orderOf))
+
+pub held-read :
+    (b : List ℕ) (rows : List (List ℕ)) {n : ℕ}
+    → n ≡ length b / 56
+    → heldOf rows ≡ parts declarationIn 56 n b
+    → heldOf rows ≡ declarationsIn b
+unfolding declarationsIn
+held-read b rows n e = e ∙ rw n
+
+pub held-put :
+    (b : List ℕ) (rows : List (List ℕ)) (b' : List ℕ)
+    → 56 * length rows ≤ length b
+    → b' ≡ sets b 0 (flat declarationBytes (heldOf rows))
+    → b' ≡ over (declarationsBytes (heldOf rows)) b
+unfolding declarationsBytes
+held-put b rows b' h e =
+    e ∙ sets-over (declarationsBytes (heldOf rows)) b (omega (arith, length-declarations (heldOf rows), length-map rows declarationOf))
 
 pub trades-put :
     (b : List ℕ) (list : List (List ℕ)) (b' : List ℕ)

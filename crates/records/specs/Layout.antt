@@ -5,16 +5,19 @@ use mathlib.Core.List.{List, [], _∷_, _++_}
 use lib.ListN.{length, getD, take, drop}
 use lib.Signed.{mag}
 use Rattle.model.specs.declared.Order.{Order}
+use Rattle.model.specs.declared.Declaration.{Declaration}
 use Rattle.model.specs.declared.Trade.{Trade}
 use Rattle.model.specs.declared.Level.{Level}
 use Rattle.model.specs.declared.Levels.{Levels}
 use Rattle.model.specs.declared.Screen.{Screen}
+use Rattle.model.specs.declared.Fixed.{Fixed}
+use Rattle.model.specs.declared.Blocks.{Blocks}
 use Rattle.model.specs.declared.Day.{Day}
 use Rattle.model.specs.Words.{Each}
 use Rattle.octets.specs.Numbers.{worth, digits, parts, flat}
 pub use Rattle.octets.specs.Numbers.{AllBytes}
 use Rattle.replies.specs.Words.{word, signed}
-use Rattle.book.specs.Rows.{orderOf, rowOf, tradeOf, tradeRow}
+use Rattle.book.specs.Rows.{orderOf, rowOf, declarationOf, declarationRow, tradeOf, tradeRow}
 
 -- ---- what memory can hold
 
@@ -26,6 +29,9 @@ Word x = x < 2 ^ 64
 abbrev pub Fits : Order → Type 0
 Fits o = Each Word (rowOf o)
 
+abbrev pub DeclarationFits : Declaration → Type 0
+DeclarationFits x = Each Word (declarationRow x)
+
 -- ---- from bytes
 
 abbrev pub numberIn : List ℕ → ℕ
@@ -36,6 +42,9 @@ numbers n b = parts numberIn 8 n b
 
 abbrev pub orderIn : List ℕ → Order
 orderIn b = orderOf (numbers 5 b)
+
+abbrev pub declarationIn : List ℕ → Declaration
+declarationIn b = declarationOf (numbers 7 b)
 
 abbrev pub tradeIn : List ℕ → Trade
 tradeIn b = tradeOf (numbers 6 b)
@@ -71,7 +80,15 @@ heldScreen n i =
       surplus = signed (getD n (i + 27) 0);
     }
 
--- close, mark, time, numbers issued, shares, turnover, first, last, the screen, the halt's end, 30% used, 60% used
+-- the figures of the fixed-price book: numbers issued, shares, money; and of block trades: numbers issued, shares
+abbrev pub heldFixed : List ℕ → ℕ → Fixed
+heldFixed n i = record { issued = getD n i 0; shares = getD n (i + 1) 0; money = getD n (i + 2) 0 }
+
+abbrev pub heldBlocks : List ℕ → ℕ → Blocks
+heldBlocks n i = record { issued = getD n i 0; shares = getD n (i + 1) 0 }
+
+-- close, mark, time, numbers issued, shares, turnover, first, last, the screen, the halt's end, 30% used, 60% used, the figures of
+-- the fixed-price book and of block trades
 abbrev pub dayOf : List ℕ → Day
 dayOf n =
     record {
@@ -87,14 +104,19 @@ dayOf n =
       halt = getD n 36 0;
       used30 = getD n 37 0;
       used60 = getD n 38 0;
+      fixed = heldFixed n 39;
+      blocks = heldBlocks n 42;
     }
 
 unfoldable pub dayIn : List ℕ → Day
-dayIn b = dayOf (numbers 39 b)
+dayIn b = dayOf (numbers 44 b)
 
--- a book, a trade list and a price list: the whole records that the bytes hold
+-- a book, declarations, a trade list and a price list: the whole records that the bytes hold
 unfoldable pub bookIn : List ℕ → List Order
 bookIn b = parts orderIn 40 (length b / 40) b
+
+unfoldable pub declarationsIn : List ℕ → List Declaration
+declarationsIn b = parts declarationIn 56 (length b / 56) b
 
 unfoldable pub tradesIn : List ℕ → List Trade
 tradesIn b = parts tradeIn 48 (length b / 48) b
@@ -110,11 +132,17 @@ bytes ns = flat (digits 8) ns
 abbrev pub orderBytes : Order → List ℕ
 orderBytes o = bytes (rowOf o)
 
+abbrev pub declarationBytes : Declaration → List ℕ
+declarationBytes x = bytes (declarationRow x)
+
 abbrev pub tradeBytes : Trade → List ℕ
 tradeBytes t = bytes (tradeRow t)
 
 unfoldable pub bookBytes : List Order → List ℕ
 bookBytes book = flat orderBytes book
+
+unfoldable pub declarationsBytes : List Declaration → List ℕ
+declarationsBytes held = flat declarationBytes held
 
 unfoldable pub tradesBytes : List Trade → List ℕ
 tradesBytes ts = flat tradeBytes ts
@@ -133,11 +161,19 @@ screenRow s =
     ++ levelsRow (s .sells)
     ++ (s .price ∷ s .volume ∷ word (s .surplus) ∷ [])
 
+abbrev pub fixedRow : Fixed → List ℕ
+fixedRow f = f .issued ∷ f .shares ∷ f .money ∷ []
+
+abbrev pub blocksRow : Blocks → List ℕ
+blocksRow b = b .issued ∷ b .shares ∷ []
+
 abbrev pub dayRow : Day → List ℕ
 dayRow d =
     (d .close ∷ d .limited ∷ d .time ∷ d .issued ∷ d .shares ∷ d .turnover ∷ d .first ∷ d .last ∷ [])
     ++ screenRow (d .screen)
     ++ (d .halt ∷ d .used30 ∷ d .used60 ∷ [])
+    ++ fixedRow (d .fixed)
+    ++ blocksRow (d .blocks)
 
 -- a day of numbers of 64 bits, its surplus with a sign
 pub record DayFits (d : Day) : Type 0 where

@@ -1,7 +1,9 @@
 // A day as bytes.
 use crate::numbers::put_numbers;
 use crate::numbers::read_numbers;
+use model::Blocks;
 use model::Day;
+use model::Fixed;
 use model::Level;
 use model::Levels;
 use model::Screen;
@@ -11,7 +13,7 @@ ghost use mathlib.Core.Path.{_≡_};
 ghost use Prim.Native.Nat.{_+_, _≤_};
 ghost use lib.ListN.{length};
 ghost use lib.Seq.{sets};
-ghost use Rattle.records.specs.Layout.{heldLevel, heldLevels, heldScreen, dayOf, dayIn, bytes, levelsRow, screenRow, dayBytes, over};
+ghost use Rattle.records.specs.Layout.{heldLevel, heldLevels, heldScreen, heldFixed, heldBlocks, dayOf, dayIn, bytes, levelsRow, screenRow, dayBytes, over};
 
 // What a row of numbers holds from a place on: a level, five of them, the screen.
 fn held_level(row: &[u64], at: usize) -> Level
@@ -55,9 +57,31 @@ fn held_screen(row: &[u64], at: usize) -> Screen
     }
 }
 
-// The day that a row of 39 numbers holds.
+// The figures of the fixed-price book, and of block trades.
+fn held_fixed(row: &[u64], at: usize) -> Fixed
+    requires { ⌜ at + 3 ≤ length (now row) ⌝ }
+    ensures { λ r. ⌜ r ≡ heldFixed (now (row .entry)) at ⌝ }
+{
+    Fixed {
+        issued: row[at],
+        shares: row[at + 1],
+        money: row[at + 2],
+    }
+}
+
+fn held_blocks(row: &[u64], at: usize) -> Blocks
+    requires { ⌜ at + 2 ≤ length (now row) ⌝ }
+    ensures { λ r. ⌜ r ≡ heldBlocks (now (row .entry)) at ⌝ }
+{
+    Blocks {
+        issued: row[at],
+        shares: row[at + 1],
+    }
+}
+
+// The day that a row of 44 numbers holds.
 fn held_day(row: &[u64]) -> Day
-    requires { ⌜ 39 ≤ length (now row) ⌝ }
+    requires { ⌜ 44 ≤ length (now row) ⌝ }
     ensures { λ r. ⌜ r ≡ dayOf (now (row .entry)) ⌝ }
 {
     Day {
@@ -73,15 +97,17 @@ fn held_day(row: &[u64]) -> Day
         halt: row[36],
         used30: row[37],
         used60: row[38],
+        fixed: held_fixed(row, 39),
+        blocks: held_blocks(row, 42),
     }
 }
 
-// The day that 312 bytes hold.
+// The day that 352 bytes hold.
 pub fn day_in(b: &[u8]) -> Day
-    requires { ⌜ 312 ≤ length (now b) ⌝ }
+    requires { ⌜ 352 ≤ length (now b) ⌝ }
     ensures { λ r. ⌜ r ≡ dayIn (now (b .entry)) ⌝ }
 {
-    let mut row = [0u64; 39];
+    let mut row = [0u64; 44];
     read_numbers(b, 0, &mut row[..]);
     held_day(&row[..])
 }
@@ -123,7 +149,7 @@ fn put_screen(b: &mut [u8], at: usize, s: Screen)
 }
 
 pub fn put_day(b: &mut [u8], d: Day)
-    requires { ⌜ 312 ≤ length (now b) ⌝ }
+    requires { ⌜ 352 ≤ length (now b) ⌝ }
     ensures { λ _. ⌜ now (b .exit) ≡ over (dayBytes d) (now (b .entry)) ⌝ }
 {
     let figures = [
@@ -138,6 +164,17 @@ pub fn put_day(b: &mut [u8], d: Day)
     ];
     put_numbers(&mut *b, 0, &figures[..]);
     put_screen(&mut *b, 64, d.screen);
-    let halts = [d.halt, d.used30, d.used60];
-    put_numbers(&mut *b, 288, &halts[..]);
+    let fixed = d.fixed;
+    let blocks = d.blocks;
+    let rest = [
+        d.halt,
+        d.used30,
+        d.used60,
+        fixed.issued,
+        fixed.shares,
+        fixed.money,
+        blocks.issued,
+        blocks.shares,
+    ];
+    put_numbers(&mut *b, 288, &rest[..]);
 }

@@ -1,14 +1,16 @@
 // A reply as its numbers: the refusal's number first, 0 where the call is accepted, then the values. Lines and bytes are written
 // from these alone.
+use model::BlockReply;
 use model::CancelReply;
 use model::ClockReply;
 use model::ListReply;
+use model::MoveReply;
 use model::OpenReply;
 use model::OrderReply;
 use model::Remainder;
 use model::ReportReply;
 ghost use mathlib.Core.Path.{_≡_};
-ghost use Rattle.model.specs.Replies.{restingOf, withdrawnOf, openNumbers, clockNumbers, orderNumbers, cancelNumbers, listNumbers};
+ghost use Rattle.model.specs.Replies.{restingOf, withdrawnOf, openNumbers, clockNumbers, moveNumbers, orderNumbers, blockNumbers, cancelNumbers, listNumbers};
 ghost use Rattle.replies.specs.Words.{word, signed, reportWords};
 
 pub fn open_numbers(told: OpenReply) -> [u64; 1]
@@ -26,6 +28,23 @@ pub fn clock_numbers(told: ClockReply) -> [u64; 3]
     match told {
         ClockReply::Refused(n) => [n, 0, 0],
         ClockReply::Moved { phase, trades } => [0, phase, trades as u64],
+    }
+}
+
+pub fn move_numbers(told: MoveReply) -> [u64; 7]
+    ensures { λ r. ⌜ r ≡ moveNumbers told ⌝ }
+{
+    match told {
+        MoveReply::Refused(n) => [n, 0, 0, 0, 0, 0, 0],
+        MoveReply::Moved(m) => [
+            0,
+            m.phase,
+            m.trades as u64,
+            m.confirmed as u64,
+            m.fixed as u64,
+            m.void,
+            m.lapsed,
+        ],
     }
 }
 
@@ -66,6 +85,16 @@ pub fn order_numbers(told: OrderReply) -> [u64; 6]
                 e.levels,
             ]
         }
+    }
+}
+
+pub fn block_numbers(told: BlockReply) -> [u64; 3]
+    ensures { λ r. ⌜ r ≡ blockNumbers told ⌝ }
+{
+    match told {
+        BlockReply::Refused(n) => [n, 0, 0],
+        BlockReply::Held(number) => [0, number, 0],
+        BlockReply::Confirmed(number) => [0, number, 1],
     }
 }
 

@@ -53,22 +53,22 @@ module _ (day book reply : List ℕ) where
   unfolding changeLeaves unreadNumbers openLeaves openOn dayLeft cancelLeaves
   change-unread (BookAsked.the-variants.Open close mark) u a sd sb =
       let b : over (bookBytes (bookIn book)) book ≡ book = book-kept book sb in
-      ⊎-elim (λ h. rw (ne-eqb (length day) 312 h) (cc (a .0, a .1)))
-      (λ h. rw (eq-eqb (length day) 312 (h .0), too-many-open close mark book (h .1)) (cc (a .0, a .1)))
+      ⊎-elim (λ h. rw (ne-eqb (length day) 352 h) (cc (a .0, a .1)))
+      (λ h. rw (eq-eqb (length day) 352 (h .0), too-many-open close mark book (h .1)) (cc (a .0, a .1)))
       u
   change-unread (BookAsked.the-variants.Cancel account number) u a sd sb =
       let b : over (bookBytes (bookIn book)) book ≡ book = book-kept book sb in
-      ⊎-elim (λ h. rw (ne-eqb (length day) 312 h) (cc (a .0, a .1)))
+      ⊎-elim (λ h. rw (ne-eqb (length day) 352 h) (cc (a .0, a .1)))
       (λ h.
       let d : over (dayBytes (dayIn day)) day ≡ day = day-kept day (h .0) sd in
-      rw (eq-eqb (length day) 312 (h .0), too-many-cancel (dayIn day) account number book (h .1)) (cc (a .0, a .1)))
+      rw (eq-eqb (length day) 352 (h .0), too-many-cancel (dayIn day) account number book (h .1)) (cc (a .0, a .1)))
       u
 
   -- ---- the call's outcome
 
   pub change-answered :
       (asked : BookAsked.BookAsked) {told : BookReply.BookReply} {day' left reply' : List ℕ} {r : ℕ}
-      → length day ≡ 312
+      → length day ≡ 352
       → Changed (bookOn day book asked) book told left
       → day' ≡ dayBy told day
       → Answered (bookNumbers told) reply r reply'
@@ -79,10 +79,10 @@ module _ (day book reply : List ℕ) where
       let n : Answered (openNumbers (o .reply)) reply r reply' = rw (s .told) at a in
       let z : day' ≡ dayLeft (o .reply) day = rw (s .told) at y in
       let p : left ≡ over (bookBytes (o .book)) book = s .places in
-      rw (eq-eqb (length day) 312 h) (cc (n .0, n .1))
+      rw (eq-eqb (length day) 352 h) (cc (n .0, n .1))
   change-answered (BookAsked.the-variants.Cancel account number) {told} {day'} {left} {reply'} {r} h s y a =
       let o = cancelCall (dayIn day) account number (bookIn book) in
       let n : Answered (cancelNumbers (o .answer .reply)) reply r reply' = rw (s .told) at a in
       let z : day' ≡ over (dayBytes (o .answer .day)) day = rw (s .told) at y in
       let p : left ≡ over (bookBytes (o .book)) book = s .places in
-      rw (eq-eqb (length day) 312 h) (cc (n .0, n .1))
+      rw (eq-eqb (length day) 352 h) (cc (n .0, n .1))

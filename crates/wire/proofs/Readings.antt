@@ -40,13 +40,13 @@ module _ (day book : List ℕ) (asked : ReadAsked.ReadAsked) {r : ReadReply.Read
   pub read-unread : Unread day book → r ≡ readRefusal asked 15 → r ≡ readFrom day book asked
   unfolding readFrom
   read-unread u e =
-      ⊎-elim (λ h. rw (ne-eqb (length day) 312 h) e)
-      (λ h. rw (eq-eqb (length day) 312 (h .0), too-many-read (dayIn day) book asked (h .1)) e)
+      ⊎-elim (λ h. rw (ne-eqb (length day) 352 h) e)
+      (λ h. rw (eq-eqb (length day) 352 (h .0), too-many-read (dayIn day) book asked (h .1)) e)
       u
 
-  pub read-read : length day ≡ 312 → r ≡ readOn day book asked → r ≡ readFrom day book asked
+  pub read-read : length day ≡ 352 → r ≡ readOn day book asked → r ≡ readFrom day book asked
   unfolding readFrom
-  read-read h e = rw (eq-eqb (length day) 312 h) e
+  read-read h e = rw (eq-eqb (length day) 352 h) e
 
 -- ---- the report
 

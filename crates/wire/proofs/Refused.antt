@@ -15,7 +15,7 @@ use Rattle.records.proofs.Back.{length-book-in}
 
 -- a day of another length, or a book of too many places
 abbrev pub Unread : List ℕ → List ℕ → Type 0
-Unread day book = (length day ≡ 312 → ⊥) ⊎ ((length day ≡ 312) × (4096 < length book / 40))
+Unread day book = (length day ≡ 352 → ⊥) ⊎ ((length day ≡ 352) × (4096 < length book / 40))
 
 pub too-many : (book : List ℕ) → 4096 < length book / 40 → hasPlaces (bookIn book) ≡ false
 unfolding hasPlaces

@@ -50,17 +50,17 @@ module _ (day book trades reply : List ℕ) (asked : TradeAsked.TradeAsked) wher
     unfolding tradeLeaves
     unread u t sd sb st =
         let a : Answered refusal reply r reply' = rw t at n in
-        ⊎-elim (λ h. rw (ne-eqb (length day) 312 h) (cc (a .0, a .1)))
+        ⊎-elim (λ h. rw (ne-eqb (length day) 352 h) (cc (a .0, a .1)))
         (λ h.
         let d : over (dayBytes (dayIn day)) day ≡ day = day-kept day (h .0) sd in
         let b : over (bookBytes (bookIn book)) book ≡ book = book-kept book sb in
         let l : over (tradesBytes (tradesIn trades)) trades ≡ trades = trades-kept trades st in
-        rw (eq-eqb (length day) 312 (h .0), too-many-trade (dayIn day) asked book (tradesIn trades) (h .1)) (cc (a .0, a .1)))
+        rw (eq-eqb (length day) 352 (h .0), too-many-trade (dayIn day) asked book (tradesIn trades) (h .1)) (cc (a .0, a .1)))
         u
 
   left-by :
       {answer : TradeAnswer} {day' left trades' reply' : List ℕ} {r : ℕ} (o : Outcome TradeAnswer)
-      → length day ≡ 312
+      → length day ≡ 352
       → Traded o book trades answer left trades'
       → day' ≡ over (dayBytes (answer .day)) day
       → Answered (tradeNumbers (answer .reply)) reply r reply'
@@ -72,7 +72,7 @@ module _ (day book trades reply : List ℕ) (asked : TradeAsked.TradeAsked) wher
       let l : trades' ≡ over (tradesBytes (o .trades)) trades = s .written in
       let n : Answered (tradeNumbers (o .answer .reply)) reply r reply' = rw t at a in
       let z : day' ≡ over (dayBytes (o .answer .day)) day = rw t at y in
-      rw (eq-eqb (length day) 312 h) (cc (n .0, n .1))
+      rw (eq-eqb (length day) 352 h) (cc (n .0, n .1))
 
 -- either call, by the definition of both
 either :
@@ -96,7 +96,7 @@ module _ (day book trades reply : List ℕ) (asked : TradeAsked.TradeAsked) {r :
 
   pub trade-answered :
       {answer : TradeAnswer} {day' left trades' : List ℕ}
-      → length day ≡ 312
+      → length day ≡ 352
       → Traded (tradeOn day book trades asked) book trades answer left trades'
       → day' ≡ over (dayBytes (answer .day)) day
       → Answered (tradeNumbers (answer .reply)) reply r reply'

@@ -1,5 +1,5 @@
 -- What each call leaves in memory, as bytes: the number that it returns, and every slice that it may write. A day of another
--- length than 312 bytes is refused before anything else.
+-- length than 352 bytes is refused before anything else.
 use Prim.Native.Nat.{ℕ}
 use mathlib.Core.Bool.{Bool}
 use mathlib.Core.List.{List}
@@ -24,7 +24,7 @@ use Rattle.records.specs.Layout.{bytes, dayIn, dayBytes, bookIn, bookBytes, tra
 use Rattle.replies.specs.Words.{reportWords}
 
 abbrev pub hasDay : List ℕ → Bool
-hasDay day = eqb (length day) 312
+hasDay day = eqb (length day) 352
 
 -- what a call that changes a book and makes no trade leaves
 pub record BookLeft : Type 0 where

@@ -55,7 +55,7 @@ fn put_unread(reply: &mut [u8], asked: BookAsked) -> u64
 
 // The day that a reply has brought.
 fn put_brought(day: &mut [u8], told: BookReply)
-    requires { ⌜ length (now day) ≡ 312 ⌝ }
+    requires { ⌜ length (now day) ≡ 352 ⌝ }
     ensures { λ _. ⌜ now (day .exit) ≡ dayBy told (now (day .entry)) ⌝ }
 {
     match told {

@@ -179,7 +179,7 @@ module _ {M : Type 1} (𝓤 : URA M) (H : Heap 𝓤) (A : Atoms 𝓤) (W : Given
         alloc1 ! (λ l₈. alloc1 ! (λ l₉. alloc1 ! (λ l₁₀. alloc1 ! (λ l₁₁. alloc1 ! (λ l₁₂. alloc1 ! (λ l₁₃. alloc1 ! (λ l₁₄. alloc1 ! (λ l₁₅.
         alloc1 ! (λ l₁₆. alloc1 ! (λ l₁₇. alloc1 ! (λ l₁₈. alloc1 ! (λ l₁₉. alloc1 ! (λ l₂₀. alloc1 ! (λ l₂₁. alloc0 ! $ params1 ! $
         pass1 ! (init ! 40 refl (tt, (tt, (record { fits = gb .0 }, tt)))) $ pass1 ! (init ! 38 refl (tt, (tt, (record { fits = gl .0 }, tt)))) $
-        pass1 ! (init ! 36 refl (typed-question 𝓤 H A W y v is-q)) $ pass0 ! $
+        pass1 ! (init ! 36 {τ = Q′.mir} {b = l₃} {o = 0} {v = v} refl (typed-question 𝓤 H A W y v is-q)) $ pass0 ! $
         -- the array is made, and is a row of elements
         assigns ! (rep ! 5 (lit ! tt)) (from ! (stop !)) (init ! 28 refl five-typed) $
         assigns ! (rep ! 4096 (load ! (from ! (stop !)) (look ! 28 refl))) (from ! (stop !)) (init ! 34 refl (fresh-typed 4096)) $
@@ -227,7 +227,7 @@ module _ {M : Type 1} (𝓤 : URA M) (H : Heap 𝓤) (A : Atoms 𝓤) (W : Given
         (λ w. await ! tt $ pick ! (λ r. learn ! (λ e.
         split ! $ move ! (1 ∷ []) $ split ! $ move ! (1 ∷ []) $ split ! $ move ! (1 ∷ []) $
         peeks ! B.the-row (Is B.the-row) (shows 𝓤 H A B.the-row) (r .0) (w ∷ []) (λ is.
-        land ! (from ! (stop !)) (init ! 40 refl (typed-answer 𝓤 H A W (r .0) w is)) $
+        land ! (from ! (stop !)) (init ! 40 {τ = B′.mir} {o = 0} {v = w} refl (typed-answer 𝓤 H A W (r .0) w is)) $
         move ! (3 ∷ 4 ∷ []) $ use2 W (at-rows l₄ ((r .1 .0) ++ rest ys)) (row-joined 𝓤 H A W Rows l₄ k (r .1 .0) (rest ys) 0 (e .0 ∙ length-lent ys)) $
         -- `store`
         assigns ! (addr ! (from ! (stop !))) (from ! (stop !)) (init ! 15 refl (tt, tt)) $
@@ -245,7 +245,7 @@ module _ {M : Type 1} (𝓤 : URA M) (H : Heap 𝓤) (A : Atoms 𝓤) (W : Given
         (and-then ! (load ! (from ! (stop !)) (look ! 8 refl)) (and-then ! (load ! (from ! (stop !)) (look ! 40 refl)) (no-more !))))
         (λ w₂. await ! tt $ learn ! (λ e₂. split ! $
         land ! (from ! (stop !)) (store ! 33 refl (unit-typed w₂ e₂)) $
-        assigns ! (of-opd ! (load ! (from ! (stop !)) (look ! 39 refl))) (from ! (stop !)) (init ! 50 refl (typed-answer 𝓤 H A W (r .0) w is)) $
+        assigns ! (of-opd ! (load ! (from ! (stop !)) (look ! 39 refl))) (from ! (stop !)) (init ! 50 {τ = B′.mir} {b = l₀} {o = 0} {v = w} refl (typed-answer 𝓤 H A W (r .0) w is)) $
         -- the array is room again, and the book's borrow is closed
         move ! (0 ∷ []) $ use1 W (‵ (froom (tyArray (tyArray (tyInt w64) 5) 4096) l₄ 0))
         (row-room 𝓤 H A W Rows 4096 l₄ ((r .1 .0) ++ rest ys) (length-all ys (r .1 .0) (e .0 ∙ length-lent ys))) $

@@ -171,7 +171,7 @@ module _ {M : Type 1} (𝓤 : URA M) (H : Heap 𝓤) (A : Atoms 𝓤) (W : Given
         alloc1 ! (λ l₀. alloc1 ! (λ l₁. alloc1 ! (λ l₂. alloc1 ! (λ l₃. alloc1 ! (λ l₄. alloc1 ! (λ l₅. alloc1 ! (λ l₆. alloc1 ! (λ l₇.
         alloc1 ! (λ l₈. alloc1 ! (λ l₉. alloc1 ! (λ l₁₀. alloc0 ! $ params1 ! $
         pass1 ! (init ! 18 refl (typed-book 𝓤 H A W ys (m ys) is-ys)) $ pass1 ! (init ! 16 refl (tt, (tt, (record { fits = gl .0 }, tt)))) $
-        pass1 ! (init ! 14 refl (typed-event 𝓤 H A W y v is-y)) $ pass0 ! $
+        pass1 ! (init ! 14 {τ = Q′.mir} {b = l₃} {o = 0} {v = v} refl (typed-event 𝓤 H A W y v is-y)) $ pass0 ! $
         assigns ! (of-opd ! (load ! (from ! (stop !)) (look ! 18 refl))) (from ! (stop !)) (init ! 12 refl (typed-book 𝓤 H A W ys (m ys) is-ys)) $
         assigns ! (addr ! (from ! (stop !))) (from ! (stop !)) (init ! 8 refl (tt, tt)) $
         assigns ! (agg ! (and-then ! (load ! (from ! (stop !)) (look ! 8 refl)) (and-then ! (lit ! tt) (no-more !)))) (from ! (stop !))
@@ -192,7 +192,7 @@ module _ {M : Type 1} (𝓤 : URA M) (H : Heap 𝓤) (A : Atoms 𝓤) (W : Given
         (λ w. await ! tt $ pick ! (λ r. learn ! (λ e.
         split ! $ move ! (1 ∷ []) $ split ! $ move ! (1 ∷ []) $ split ! $ move ! (1 ∷ []) $
         peeks ! B.the-row (Is B.the-row) (shows 𝓤 H A B.the-row) (r .0) (w ∷ []) (λ is-r. drop ! $
-        land ! (from ! (stop !)) (init ! 13 refl (typed-answer 𝓤 H A W (r .0) w is-r)) $
+        land ! (from ! (stop !)) (init ! 13 {τ = B′.mir} {o = 0} {v = w} refl (typed-answer 𝓤 H A W (r .0) w is-r)) $
         -- the row is the local array again, and is read whole
         move ! (2 ∷ []) $ use1 W (‵ (fat fullShare (tyArray T′.mir 16) l₄ 0 (m (r .1 .0)))
         ⊛ ‵ (Places .own (r .1 .0) (m (r .1 .0) ∷ [])))

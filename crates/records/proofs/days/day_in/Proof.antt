@@ -1,4 +1,4 @@
--- `records::days::day_in` meets its contract: the 39 numbers that were read, by name. Assumes nothing.
+-- `records::days::day_in` meets its contract: the 44 numbers that were read, by name. Assumes nothing.
 use borrow.Author.Needs.{needs}
 use Rattle.records.proofs.Held.{day-read}
 use Rattle.records.proofs.days.day_in.Statement.{statement}

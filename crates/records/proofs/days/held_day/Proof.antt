@@ -1,4 +1,4 @@
--- `records::days::held_day` meets its contract: its numbers by name, and its screen. Assumes nothing.
+-- `records::days::held_day` meets its contract: its numbers by name, its screen, and the figures of the other lists. Assumes nothing.
 use borrow.Author.Needs.{needs}
 use Rattle.records.proofs.Held.{day-held}
 use Rattle.records.proofs.days.held_day.Statement.{statement}
@@ -40,8 +40,17 @@ shared-slice-read-t22 c = search needs
 shared-slice-read-t24 : tie.Need-shared-slice-read-t24
 shared-slice-read-t24 c = search needs
 
+held-fixed-requires : tie.Need-held-fixed-requires
+held-fixed-requires c κs = search needs
+
+held-blocks-requires : tie.Need-held-blocks-requires
+held-blocks-requires c κs = search needs
+
 returns : tie.Need-returns
-returns c = day-held (c .before .before .before .before .before .before .before .before .before .before .before .before .before .args .row .now) (c .before .before .before .held-screen .ensures)
+returns c =
+    let s = c .before .before .before .before .before in
+    let a = s .before .before .before .before .before .before .before .before .before .before .args in
+    day-held (a .row .now) (s .held-screen .ensures) (c .before .held-fixed .ensures) (c .held-blocks .ensures)
 
 pub held-day-spec : {M : Type 1} → statement M
 held-day-spec =
@@ -59,4 +68,6 @@ held-day-spec =
     shared-slice-read-t20
     shared-slice-read-t22
     shared-slice-read-t24
+    held-fixed-requires
+    held-blocks-requires
     returns)

@@ -1,4 +1,4 @@
--- `records::days::put_day` meets its contract: its figures, its screen and its halt, one behind the other. Assumes nothing.
+-- `records::days::put_day` meets its contract: its figures, its screen, and what stands behind it. Assumes nothing.
 use borrow.Author.Needs.{needs}
 use Rattle.records.proofs.Stored.{day-put}
 use Rattle.records.proofs.days.put_day.Statement.{statement}
@@ -25,7 +25,7 @@ same-length c = search needs
 returns : tie.Need-returns
 returns c =
     let n = c .before .before in
-    let p = n .before .before .before .before .before in
+    let p = n .before .before .before .before .before .before .before in
     let f = p .before .before .before .before in
     let s = f .before .before .before .before in
     day-put (s .args .b .now) (s .args .d) (s .pre) (f .put-numbers .ensures) (p .put-screen .ensures) (n .put-numbers2 .ensures)
