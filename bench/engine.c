@@ -21,6 +21,7 @@ struct day {
     uint64_t close, limited, time, issued, shares, turnover, first, last;
     struct screen screen;
     uint64_t halt_end, used_30, used_60; /* a halt's end, 0 while none runs, and the thresholds that have had their turn */
+    uint64_t fixed_issued, fixed_shares, fixed_money, blocks_issued, blocks_shares; /* of the other two lists */
 };
 
 enum { DAY_NUMBERS = DAY_BYTES / 8 };
@@ -360,6 +361,7 @@ static void count_undecided(int left) {
 static struct screen count_screen(uint64_t high, uint64_t low) {
     struct screen s = {.last = day.last, .high = high, .low = low, .shares = day.shares, .turnover = day.turnover};
     int phase = phase_now(), left;
+    if (day.time >= 55800) s.shares += day.fixed_shares + day.blocks_shares, s.turnover += day.fixed_money;
     for (int side = 0; side < 2; side++)
         for (int l = 0; l < level_count[side] && l < SHOWN; l++)
             s.rows[side][l] = (struct row){levels[side][l].price, levels[side][l].shares};
@@ -424,6 +426,14 @@ static bool place_sound(size_t p) {
 
 static bool figures_sound(void) { return is_price(day.close) && day.limited <= 1 && day.time <= 86399 && day.issued <= 999999; }
 
+/* What the day says of the other two lists. Nothing trades at the fixed price before 15:05, and all that does at the close. */
+static bool evening_sound(void) {
+    unsigned __int128 shares = day.fixed_shares, money = day.fixed_money;
+    if (day.fixed_issued > 999999 || day.blocks_issued > 999999) return false;
+    if (2 * shares > 1000000 * day.fixed_issued || day.blocks_shares > 50000000 * day.blocks_issued) return false;
+    return money == shares * (day.last ? day.last : day.close) && (day.time >= 54300 || !shares);
+}
+
 static bool totals_sound(void) {
     unsigned __int128 resting = 0, shares = day.shares, turnover = day.turnover;
     for (size_t p = 0; p < place_count; p++) resting += places[p].left;
@@ -450,7 +460,7 @@ static bool load(const struct lent *m) {
     if ((day.time < 33300 || day.time >= 54000) && !empty) return false;
     bool may_cross = day.time < 33900 || day.time > 53819 || day.halt_end;
     if (!may_cross && best(0) && best(1) && best(0) >= best(1)) return false;
-    return totals_sound() && screen_sound();
+    return totals_sound() && evening_sound() && screen_sound();
 }
 
 /* ---- trades */

@@ -7,7 +7,7 @@
 #include <stddef.h>
 #include <stdint.h>
 
-enum { DAY_BYTES = 312, TRADE_BYTES = 48 }; /* 39 numbers, and six */
+enum { DAY_BYTES = 352, TRADE_BYTES = 48 }; /* 44 numbers, and six */
 
 /* Lent memory: what a call reads and writes. A call that has no use for a slice does not look at it. */
 struct lent {

@@ -24,7 +24,7 @@ extern "C" {
 
 /* A day has so many bytes, no more and no less: sizeof (struct flemorix_day). Its screen has so many of them: sizeof
  * (struct flemorix_screen). */
-#define FLEMORIX_DAY_BYTES 312
+#define FLEMORIX_DAY_BYTES 352
 #define FLEMORIX_SCREEN_BYTES 224
 
 /* A price of one side, and all its shares there. Both are 0 where a side has fewer prices than the screen has room for. */
@@ -50,8 +50,8 @@ struct flemorix_screen {
     int64_t surplus;   /* demand minus supply at the price */
 };
 
-/* A day. All zeros is no day: flemorix_open makes one. The last three numbers tell of halts, which only a day without a price band
- * has: trading stops for ten minutes at a trade 30% away from the day's first price, and at one 60% away, each once a day. */
+/* A day. All zeros is no day: flemorix_open makes one. The three numbers behind the screen tell of halts, which only a day
+ * without a price band has: trading stops for ten minutes at a trade 30% away from the day's first price, and at one 60% away, each once a day. */
 struct flemorix_day {
     uint64_t close;    /* the previous close, in fen */
     uint64_t limited;  /* 1 on a day with a price band, else 0 */
@@ -65,6 +65,11 @@ struct flemorix_day {
     uint64_t halt_end; /* the second at which the halt that runs ends with an auction, 0 while none runs */
     uint64_t used_30;  /* 1 once a trade 30% or more away from the first has had its halt, else 0 */
     uint64_t used_60;  /* 1 once a trade 60% or more away has; then used_30 is 1 too */
+    uint64_t fixed_issued;  /* of fixed-price trading after the close: numbers issued, */
+    uint64_t fixed_shares;  /* shares traded, */
+    uint64_t fixed_money;   /* and fen traded; all 0 on a day that has no such orders */
+    uint64_t blocks_issued; /* of block trades: declaration numbers issued, */
+    uint64_t blocks_shares; /* and shares confirmed; both 0 on a day that has none */
 };
 
 /* The calls read and write these bytes: a compiler that lays the structs out otherwise says so here. */
@@ -133,8 +138,8 @@ enum flemorix_refusal {
     FLEMORIX_NUMBERS = 11,   /* 999,999 numbers issued */
     FLEMORIX_UNKNOWN = 12,   /* no live order has this number and account */
     FLEMORIX_ROOM = 13,      /* the event's trades outnumber the lent trade list */
-    FLEMORIX_OPENING = 14,   /* opening: close not 1 to 999,999, mark not 0 or 1, places not 1 to 4,096, or day not 312 bytes */
-    FLEMORIX_UNSOUND = 15,   /* day not sound or not 312 bytes, another screen, book out of order, or places not 1 to 4,096 */
+    FLEMORIX_OPENING = 14,   /* opening: close not 1 to 999,999, mark not 0 or 1, places not 1 to 4,096, or day not 352 bytes */
+    FLEMORIX_UNSOUND = 15,   /* day not sound or not 352 bytes, another screen, book out of order, or places not 1 to 4,096 */
     FLEMORIX_CHECK = 24,     /* day file: a block's check is wrong */
     FLEMORIX_BLOCK = 25,     /* day file: a block's number is not its place */
     FLEMORIX_LAYOUT = 26,    /* day file: any other break of the layout, a tail short of 512 bytes too */

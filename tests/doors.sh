@@ -165,7 +165,7 @@ cp "$work/file.c" "$work/file.cpp"
 compiles "of the day file" "$(doors/library --compiler)" -std=c11 "${flags[@]}" "$work/file.c" "$static"
 compiles "of the day file in C++" "$(doors/library --compiler++)" -std=c++11 "${flags[@]}" "$work/file.cpp" "$static"
 says "pkg-config" "-lflemorix" "$work/prefix/lib/pkgconfig/flemorix.pc"
-[ -e "$work/prefix/lib/libflemorix.so.3" ]
+[ -e "$work/prefix/lib/libflemorix.so.4" ]
 check "the shared library has not the number of its layout, 3" $?
 
 echo "$passed passed, $failed failed"
