@@ -1,1 +1,2 @@
 // Places in order of arrival, as laws of the definitions: statements in specs/, proofs in proofs/. There is no code here.
+#![tactic(auto)]

@@ -1,5 +1,7 @@
 // The auction over the book's rows: the prices that qualify and the one that is left, by one walk along both sides; demand and
 // supply at a price, the price list and the report.
+#![tactic(auto)]
+
 pub mod depth;
 pub mod ends;
 pub mod fixings;
@@ -12,21 +14,21 @@ pub mod walk;
 use book::Head;
 
 // Demand and supply, each at a price of its own.
-#[derive(Drop)]
+#[derive(Clone, Copy)]
 pub struct Interest {
     pub demand: u64,
     pub supply: u64,
 }
 
 // The prices that qualify are all from lo to hi; both are 0 where none does.
-#[derive(Drop)]
+#[derive(Clone, Copy)]
 pub struct Span {
     pub lo: u64,
     pub hi: u64,
 }
 
 // What has traded on a walk along both sides: the shares, and the prices of the last buy and the last sell.
-#[derive(Drop)]
+#[derive(Clone, Copy)]
 pub struct Crossed {
     pub shares: u64,
     pub buy: u64,
@@ -34,7 +36,7 @@ pub struct Crossed {
 }
 
 // Where the walk has ended: what has traded, and the heads that do not trade with each other.
-#[derive(Drop)]
+#[derive(Clone, Copy)]
 pub struct Stop {
     pub crossed: Crossed,
     pub buy: Head,
@@ -42,14 +44,14 @@ pub struct Stop {
 }
 
 // The orders of a side that stand at one price, one behind the other: their shares, and the place behind the last of them.
-#[derive(Drop)]
+#[derive(Clone, Copy)]
 pub struct Tier {
     pub shares: u64,
     pub behind: usize,
 }
 
 // What an auction would come to: its price, the volume and the signed surplus there, zeros where no price stands.
-#[derive(Drop)]
+#[derive(Clone, Copy)]
 pub struct Fixing {
     pub price: u64,
     pub volume: u64,
@@ -57,7 +59,7 @@ pub struct Fixing {
 }
 
 // Prices without a gap: the first, how many are written, and the next one due behind those, or 0.
-#[derive(Drop)]
+#[derive(Clone, Copy)]
 pub struct Run {
     pub first: u64,
     pub count: usize,

@@ -1,4 +1,6 @@
 // A bit map over a slice of words: bit n % 64 of word n / 64 says whether n is in it.
+#![tactic(auto)]
+
 ghost use Rattle.std.specs.Prelude.{◌≡◌, ◌<◌};
 ghost use Rattle.bits.specs.Words.{bit, with_bit};
 ghost use Rattle.bits.specs.Maps.{has_bit, marked};

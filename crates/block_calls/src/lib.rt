@@ -1,5 +1,7 @@
 // A declaration of a block trade, on rows of memory. It takes any input and any state, and promises the definitions' outcome: its
 // answer, and the final content of every lent list. The main book is only read.
+#![tactic(auto)]
+
 ghost use Rattle.std.specs.Prelude.{◌≡◌, false, List};
 ghost use Rattle.model.specs.declared.Order.{Order};
 ghost use Rattle.model.specs.Refusals.{unsound};

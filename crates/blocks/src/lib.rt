@@ -1,4 +1,6 @@
 // Block trades by agreement on rows of memory: when the declarations are sound, and who is confirmed at 15:00.
+#![tactic(auto)]
+
 pub mod confirming;
 
 ghost use Rattle.std.specs.Prelude.{◌≡◌, true, ◌&&◌, List, ◌+◌, ◌^◌, ◌<◌, length, replicate};

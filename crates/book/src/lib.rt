@@ -1,5 +1,7 @@
 // The book as rows of memory: reading and setting one place or one trade. Nothing above this crate knows what a row holds. A book
 // stands in priority order: buys from best to worst, then sells the same, free places last, so that the next order is the next row.
+#![tactic(auto)]
+
 pub mod heads;
 pub mod joining;
 pub mod places;
@@ -12,7 +14,7 @@ ghost use Rattle.book.specs.Rows.{order_of, row_of, trade_of, trade_row};
 use model::{Order, Trade};
 
 // The places of a side: from its first order up to the one behind its last.
-#[derive(Drop)]
+#[derive(Clone, Copy)]
 pub struct Stretch {
     pub from: usize,
     pub to: usize,
@@ -20,7 +22,7 @@ pub struct Stretch {
 
 // The order of a side that trades next in an auction: its place, its number, its price, and what is left of it, 0 behind the last
 // order.
-#[derive(Drop)]
+#[derive(Clone, Copy)]
 pub struct Head {
     pub at: usize,
     pub number: u64,
@@ -29,7 +31,7 @@ pub struct Head {
 }
 
 // A run of trades: how many, and the shares that they are of.
-#[derive(Drop)]
+#[derive(Clone, Copy)]
 pub struct Dealt {
     pub made: usize,
     pub shares: u64,

@@ -1,4 +1,6 @@
 // The lines of a chunk, answered one after the other into the lent output.
+#![tactic(auto)]
+
 ghost use Rattle.std.specs.Prelude.{◌≡◌, ◌≤◌, length};
 ghost use Rattle.text.specs.Answers.{rehearsal};
 ghost use Rattle.text.specs.Points.{Serves};
@@ -13,7 +15,7 @@ use text::reading::next_command;
 
 // How far a chunk is answered: the desk, the place of the next line, whether that line began before the chunk and is too long,
 // the place after the replies that were put, and whether no line is left.
-#[derive(Drop)]
+#[derive(Clone, Copy)]
 pub struct Progress {
     pub desk: Desk,
     pub at: usize,

@@ -1,5 +1,7 @@
 // The clock: a constant table of boundary seconds, phase and two permissions, looked up by time; and the phase of a day, in which a
 // halt may run.
+#![tactic(auto)]
+
 ghost use Rattle.std.specs.Prelude.{◌≡◌};
 ghost use Rattle.model.specs.Clock.{row_at, phase_at, takes_cancels};
 ghost use Rattle.model.specs.Halts.{phase_now};

@@ -1,9 +1,11 @@
 // The converter of old scripts: it adds balance 0 to each order line of five numbers, and copies every other byte.
+#![tactic(auto)]
+
 pub mod chunks;
 pub mod lines;
 
 // The line that has not ended: its bytes so far, of which 80 are enough to know that it is no order.
-#[derive(Drop)]
+#[derive(Clone, Copy)]
 pub struct Pending {
     pub bytes: [u8; 80],
     pub kept: usize,
@@ -11,7 +13,7 @@ pub struct Pending {
 
 // What a chunk became: whether the lent output is long enough for it, the place after what was put there, and the line that
 // has not ended.
-#[derive(Drop)]
+#[derive(Clone, Copy)]
 pub struct Converted {
     pub fits: bool,
     pub next: usize,

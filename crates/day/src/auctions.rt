@@ -13,7 +13,7 @@ use model::{Day, ListReply, ReportReply};
 use soundness::is_sound;
 
 // The price list before it is written anywhere: refused, or the prices as a run.
-#[derive(Drop)]
+#[derive(Clone, Copy)]
 pub enum Listing {
     Refused(u64),
     Prices(Run),

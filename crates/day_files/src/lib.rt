@@ -1,4 +1,6 @@
 // A day file: the events of a day in blocks of 512 bytes. What it means is defined in specs/.
+#![tactic(auto)]
+
 ghost use Rattle.std.specs.Prelude.{◌≡◌};
 ghost use Rattle.day_files.specs.Files.{count_file};
 

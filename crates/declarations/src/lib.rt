@@ -1,5 +1,7 @@
 // Declarations of block trades as rows of memory: reading and setting one place, places set free, and which two declarations fit.
 // They stand in order of arrival, free places last.
+#![tactic(auto)]
+
 ghost use Rattle.std.specs.Prelude.{◌≡◌, [], ◌++◌, ◌-◌, ◌≤◌, ◌<◌, length, get_or, set, take, replicate};
 ghost use Rattle.model.specs.Book.{other};
 ghost use Rattle.model.specs.Blocks.{undeclared, fits, none_held};

@@ -1,4 +1,6 @@
 // The desk of the rehearsal program: the day, once one is open, and what a line is answered with.
+#![tactic(auto)]
+
 pub mod answering;
 
 use model::Day;
@@ -13,14 +15,14 @@ pub const LENT_TRADES: usize = 2_048;
 pub const LONGEST_ANSWER: usize = LENT_TRADES * LONGEST_TRADE + LONGEST_REPLY;
 
 // No day opened yet, or the open day.
-#[derive(Drop)]
+#[derive(Clone, Copy)]
 pub enum Desk {
     Closed,
     Open(Day),
 }
 
 // What an answer leaves: the desk, and the place after the text that was put.
-#[derive(Drop)]
+#[derive(Clone, Copy)]
 pub struct Answered {
     pub desk: Desk,
     pub next: usize,

@@ -1,4 +1,6 @@
 // The day's own figures: what trades add to them, and what is read off them.
+#![tactic(auto)]
+
 ghost use Rattle.std.specs.Prelude.{◌≡◌, ◌+◌, ◌^◌, ◌≤◌, ◌<◌, length, take};
 ghost use Rattle.model.specs.Matching.{filled};
 ghost use Rattle.model.specs.Figures.{no_levels, no_screen, fresh_day, at, issue, money, tally, reference};
@@ -9,7 +11,7 @@ use book::trade_at;
 use model::{Blocks, DAY_END, Day, Fixed, Level, Levels, Screen};
 
 // Shares and money: what a run of trades adds to the day's figures, and what is published of a day.
-#[derive(Drop)]
+#[derive(Clone, Copy)]
 pub struct Totals {
     pub shares: u64,
     pub money: u64,

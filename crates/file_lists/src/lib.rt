@@ -1,4 +1,6 @@
 // The records of a day file as one list in lent memory. What it means is defined in specs/.
+#![tactic(auto)]
+
 ghost use Rattle.std.specs.Prelude.{◌≡◌, ◌*◌, ◌/◌, ◌≤◌, length};
 ghost use Rattle.model.specs.Lists.{from};
 ghost use Rattle.octets.specs.Numbers.{flat};

@@ -1,5 +1,7 @@
 // Events as lines of the rehearsal program: which lines a day file stores, and how an event is written as a line, is defined
 // in specs/.
+#![tactic(auto)]
+
 ghost use Rattle.std.specs.Prelude.{◌+◌, ◌≤◌, length};
 ghost use Rattle.printing.specs.Printing.{Wrote};
 ghost use Rattle.file_scripts.specs.Scripts.{event_line};

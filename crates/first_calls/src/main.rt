@@ -1,5 +1,7 @@
 // A caller that knows nothing but the promise: an opening with close 0 is refused with 14. The `expect` is proved from what the
 // call promises.
+#![tactic(auto)]
+
 ghost use Rattle.std.specs.Prelude.{◌≡◌};
 ghost use Rattle.first_calls.specs.Refusal.{open_refusal};
 

@@ -1,5 +1,7 @@
 // The fixed-price book as rows of memory, in order of arrival: whether it is sound, who trades with whom at the close, and what that
 // leaves.
+#![tactic(auto)]
+
 pub mod evening;
 pub mod leaving;
 pub mod line;
@@ -7,7 +9,7 @@ pub mod places;
 pub mod walking;
 
 // What is still to come off the first orders of either side, and the void shares so far.
-#[derive(Drop)]
+#[derive(Clone, Copy)]
 pub struct Owed {
     pub buys: u64,
     pub sells: u64,

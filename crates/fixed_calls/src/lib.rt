@@ -1,5 +1,7 @@
 // The two calls of the fixed-price book, on rows of memory: an order and a cancel. Each takes any input and any state, and promises the
 // definitions' outcome. The main book is lent to be read alone: 15 tests it, since it tests all that a call is lent.
+#![tactic(auto)]
+
 pub mod asking;
 pub mod entering;
 

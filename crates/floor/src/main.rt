@@ -1,11 +1,13 @@
 // ./floor: it reads standard input chunk by chunk, answers each line, and writes a chunk's replies before it reads on.
+#![tactic(auto)]
+
 mod memory;
 mod serving;
 
 use desk::Desk;
 
 // What goes from chunk to chunk: the desk, how many claims are noted, the carry, and whether the program stops here.
-#[derive(Drop)]
+#[derive(Clone, Copy)]
 pub struct AfterChunk {
     pub desk: Desk,
     pub noted: usize,

@@ -1,4 +1,6 @@
 // The lines of a chunk of ./floor, answered one after the other into the lent output.
+#![tactic(auto)]
+
 ghost use Rattle.std.specs.Prelude.{◌≡◌, ◌≤◌, length};
 ghost use Rattle.text.specs.Points.{Serves};
 ghost use Rattle.desk.specs.Desks.{desk_of};
@@ -15,7 +17,7 @@ use wishes::wish_after;
 
 // How far a chunk is answered: the desk, how many claims are noted, the place of the next line, whether that line began before the
 // chunk and is too long, the place after the replies that were put, and whether no line is left.
-#[derive(Drop)]
+#[derive(Clone, Copy)]
 pub struct FloorProgress {
     pub desk: Desk,
     pub noted: usize,

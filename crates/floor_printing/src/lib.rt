@@ -1,5 +1,7 @@
 // The lines that ./floor has beside those of ./run, put into a lent buffer at a place: report, price list, claim, verdict and screen. Each
 // function answers the place after what it put.
+#![tactic(auto)]
+
 pub mod screens;
 
 ghost use Rattle.std.specs.Prelude.{◌≡◌, ◌+◌, ◌*◌, ◌≤◌, [], ◌∷◌, length, nat_abs};

@@ -1,5 +1,7 @@
 // What a move of the clock will come to in the main book, before anything is written: how many trades, and the close after it. The
 // places for all trades of a move are counted with it.
+#![tactic(auto)]
+
 ghost use Rattle.std.specs.Prelude.{◌≡◌, ◌≤◌};
 ghost use Rattle.book.specs.Rows.{book_of};
 ghost use Rattle.soundness.specs.Ready.{Ready};
@@ -11,7 +13,7 @@ use model::Day;
 use moves::holding::auction_trades;
 use moves::stops::next_stop;
 
-#[derive(Drop)]
+#[derive(Clone, Copy)]
 pub struct Foreseen {
     pub trades: usize,
     pub close: u64,

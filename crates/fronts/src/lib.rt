@@ -1,5 +1,7 @@
 // The front of a day file: the blocks before the first refused one. What that is, of a whole file and from its middle on, is
 // defined in specs/.
+#![tactic(auto)]
+
 ghost use Rattle.std.specs.Prelude.{◌+◌, ◌*◌, ◌≤◌, length};
 ghost use Rattle.fronts.specs.Looking.{Looks};
 
@@ -7,7 +9,7 @@ use file_blocks::Block;
 use file_blocks::reading::read_block;
 
 // How many blocks are good, how many records they have, and the first refusal, 0 where there is none.
-#[derive(Drop)]
+#[derive(Clone, Copy)]
 pub struct Looked {
     pub good: usize,
     pub records: usize,

@@ -1,5 +1,7 @@
 // The book lent as a slice of order records. Two thin functions read and set one place; all else copies the places to rows,
 // lets the calls on rows decide, and copies them back.
+#![tactic(auto)]
+
 pub mod auctions;
 pub mod copying;
 pub mod events;
@@ -13,13 +15,13 @@ use model::{
 };
 
 // An event, with the day that it comes to. An opening reads nothing of an old day.
-#[derive(Drop)]
+#[derive(Clone, Copy)]
 pub struct OnDay {
     pub day: Day,
     pub event: Event,
 }
 
-#[derive(Drop)]
+#[derive(Clone, Copy)]
 pub enum Answer {
     Open(OpenReply),
     Clock(ClockAnswer),
@@ -28,13 +30,13 @@ pub enum Answer {
 }
 
 // What is asked of an auction held now: its report, or its prices from one on. Neither changes anything but the lent price list.
-#[derive(Drop)]
+#[derive(Clone, Copy)]
 pub enum Question {
     Report(Day),
     List { day: Day, asked: u64 },
 }
 
-#[derive(Drop)]
+#[derive(Clone, Copy)]
 pub enum Told {
     Report(ReportReply),
     List(ListReply),

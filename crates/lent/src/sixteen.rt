@@ -8,7 +8,7 @@ use crate::{Answer, OnDay, Question, Told};
 use model::Order;
 
 // What is handed back.
-#[derive(Drop)]
+#[derive(Clone, Copy)]
 pub struct HandedBack {
     pub book: [Order; 16],
     pub answer: Answer,

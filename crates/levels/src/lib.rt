@@ -1,5 +1,7 @@
 // The five best prices of a side with the total shares at each: in a book in order they are the first runs of the side's places, and
 // nothing behind them is looked at.
+#![tactic(auto)]
+
 ghost use Rattle.std.specs.Prelude.{◌≡◌, ◌≤◌, length};
 ghost use Rattle.model.specs.Screen as screen;
 ghost use Rattle.book.specs.Rows.{book_of};
@@ -14,7 +16,7 @@ use figures::no_levels;
 use model::{Level, Levels};
 
 // A price with its shares, and the place where the next price stands.
-#[derive(Drop)]
+#[derive(Clone, Copy)]
 pub struct Next {
     pub level: Level,
     pub behind: usize,

@@ -1,6 +1,8 @@
 // The rules on numbers: what a price and a quantity may be, the band, and the order range. Every function takes any
 // numbers and has no other answer than its definition's; the band and the range say no to what is no price at all, which
 // also keeps every product small.
+#![tactic(auto)]
+
 ghost use Rattle.std.specs.Prelude.{◌≡◌, ◌&&◌};
 ghost use Rattle.model.specs.Limits.{is_price, in_size, is_odd_lot, is_quantity, in_band, buy_in_range, sell_in_range, in_range};
 

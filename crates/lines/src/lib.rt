@@ -1,4 +1,6 @@
 // One line, answered in any memory: for a caller that holds the day itself and has shown nothing about it.
+#![tactic(auto)]
+
 ghost use Rattle.std.specs.Prelude.{◌≡◌, true};
 ghost use Rattle.desk.specs.Desks.{desk_of, asks_day, asks_unsound};
 ghost use Rattle.lines.specs.OneLine.{fits, OneLine};
@@ -10,7 +12,7 @@ use parsing::command_of;
 use soundness::is_sound;
 
 // The answer to one line in any memory: given where the memory is as long as the program's, else none.
-#[derive(Drop)]
+#[derive(Clone, Copy)]
 pub enum LineAnswer {
     Unfit,
     Given(Answered),

@@ -1,5 +1,7 @@
 // An order of the book found by its number, without a look at the others. Numbers with the same remainder lie on one pile: a list has
 // the top of each pile, and another one, for each place, what lies under it. Places are counted from 1 here, and 0 is none.
+#![tactic(auto)]
+
 ghost use Rattle.std.specs.Prelude.{◌≡◌, ◌≤◌, ◌<◌, length};
 ghost use Rattle.book.specs.Rows.{book_of};
 ghost use Rattle.lookup.specs.Piles.{none_yet, tops_with, under_with, Piled, place_by};

@@ -1,5 +1,6 @@
 // The words of the day: what stands at a place of a book, an order as it comes in, a trade, the public screen, the day's own
 // figures, the rows of the clock, and the answers of the calls. What they mean is defined in specs/.
+#![tactic(auto)]
 
 // The bounds of document 01: places of a book, fen of a price, shares of an order, numbers of a day, and its last second.
 pub const MOST_PLACES: usize = 4_096;
@@ -25,7 +26,7 @@ pub const CONTINUOUS: u64 = 4;
 pub const HALTED: u64 = 7;
 
 // One place of the book. A free place is all zeros.
-#[derive(Drop)]
+#[derive(Clone, Copy)]
 pub struct Order {
     pub side: u64,
     pub account: u64,
@@ -36,7 +37,7 @@ pub struct Order {
 
 // An order as it is asked for. Side 0 buys, 1 sells; for kinds 1 to 4 the price is the protection limit. The balance is what
 // the account has to sell: it is tested with the quantity, and kept nowhere.
-#[derive(Drop)]
+#[derive(Clone, Copy)]
 pub struct Asked {
     pub side: u64,
     pub kind: u64,
@@ -47,7 +48,7 @@ pub struct Asked {
 }
 
 // A fixed-price order as it is asked for: its price is a limit, and it trades at the day's close or not at all.
-#[derive(Drop)]
+#[derive(Clone, Copy)]
 pub struct AskedFixed {
     pub side: u64,
     pub account: u64,
@@ -57,7 +58,7 @@ pub struct AskedFixed {
 }
 
 // A held declaration of a block trade: counter is the account that it names. A free place is all zeros.
-#[derive(Drop)]
+#[derive(Clone, Copy)]
 pub struct Declaration {
     pub side: u64,
     pub account: u64,
@@ -69,7 +70,7 @@ pub struct Declaration {
 }
 
 // A declaration as it is asked for.
-#[derive(Drop)]
+#[derive(Clone, Copy)]
 pub struct AskedBlock {
     pub side: u64,
     pub account: u64,
@@ -80,7 +81,7 @@ pub struct AskedBlock {
 }
 
 // A trade. Buyer and seller are order numbers, of a block declaration numbers; what is left of their orders is counted right after it.
-#[derive(Drop)]
+#[derive(Clone, Copy)]
 pub struct Trade {
     pub price: u64,
     pub quantity: u64,
@@ -91,7 +92,7 @@ pub struct Trade {
 }
 
 // An order on its way through the other side: whose number its trades bear, and the price that it goes up or down to.
-#[derive(Drop)]
+#[derive(Clone, Copy)]
 pub struct Taker {
     pub side: u64,
     pub number: u64,
@@ -99,14 +100,14 @@ pub struct Taker {
 }
 
 // A price of a side and the total shares that stand there, zeros where there is none.
-#[derive(Drop)]
+#[derive(Clone, Copy)]
 pub struct Level {
     pub price: u64,
     pub shares: u64,
 }
 
 // The five best prices of a side.
-#[derive(Drop)]
+#[derive(Clone, Copy)]
 pub struct Levels {
     pub first: Level,
     pub second: Level,
@@ -117,7 +118,7 @@ pub struct Levels {
 
 // The public screen. Price, volume and surplus are those of the auction that a call would end with, zeros outside the calls and
 // where no price stands. High and low stand here alone.
-#[derive(Drop)]
+#[derive(Clone, Copy)]
 pub struct Screen {
     pub last: u64,
     pub high: u64,
@@ -132,7 +133,7 @@ pub struct Screen {
 }
 
 // The figures of the fixed-price book: numbers issued, shares and money traded.
-#[derive(Drop)]
+#[derive(Clone, Copy)]
 pub struct Fixed {
     pub issued: u64,
     pub shares: u64,
@@ -140,7 +141,7 @@ pub struct Fixed {
 }
 
 // The figures of block trades: declaration numbers issued, and shares confirmed.
-#[derive(Drop)]
+#[derive(Clone, Copy)]
 pub struct Blocks {
     pub issued: u64,
     pub shares: u64,
@@ -148,7 +149,7 @@ pub struct Blocks {
 
 // The day's own figures, and its screen. First and last are the prices of the first and the last trade, 0 while nothing has
 // traded. Halt is the end of the halt that runs, 0 when none does; used30 and used60 are 1 once that threshold is used.
-#[derive(Drop)]
+#[derive(Clone, Copy)]
 pub struct Day {
     pub close: u64,
     pub limited: u64,
@@ -167,7 +168,7 @@ pub struct Day {
 }
 
 // A row of the clock: it holds from its first second up to the next row.
-#[derive(Drop)]
+#[derive(Clone, Copy)]
 pub struct Row {
     pub start: u64,
     pub phase: u64,
@@ -176,7 +177,7 @@ pub struct Row {
 }
 
 // How what did not trade of an accepted order ended, and how many shares that was.
-#[derive(Drop)]
+#[derive(Clone, Copy)]
 pub enum Remainder {
     Nothing,
     Rests(u64),
@@ -184,7 +185,7 @@ pub enum Remainder {
 }
 
 // The accepted case of an order's reply: levels is how many different prices its trades had.
-#[derive(Drop)]
+#[derive(Clone, Copy)]
 pub struct Entry {
     pub number: u64,
     pub filled: u64,
@@ -192,33 +193,33 @@ pub struct Entry {
     pub remainder: Remainder,
 }
 
-#[derive(Drop)]
+#[derive(Clone, Copy)]
 pub enum OpenReply {
     Refused(u64),
     Opened(Day),
 }
 
-#[derive(Drop)]
+#[derive(Clone, Copy)]
 pub enum OrderReply {
     Refused(u64),
     Accepted(Entry),
 }
 
 // A declaration is held, or confirmed at once; both tell its number.
-#[derive(Drop)]
+#[derive(Clone, Copy)]
 pub enum BlockReply {
     Refused(u64),
     Held(u64),
     Confirmed(u64),
 }
 
-#[derive(Drop)]
+#[derive(Clone, Copy)]
 pub enum CancelReply {
     Refused(u64),
     Withdrawn(u64),
 }
 
-#[derive(Drop)]
+#[derive(Clone, Copy)]
 pub enum ClockReply {
     Refused(u64),
     Moved { phase: u64, trades: usize },
@@ -227,7 +228,7 @@ pub enum ClockReply {
 // The accepted case of a move of the clock over all lists, in time order: the phase of the new time, how many trades the main book's
 // auctions had, how many blocks were confirmed, how many fixed-price trades there were, and the fixed-price shares that dropped out
 // as void and that lapsed.
-#[derive(Drop)]
+#[derive(Clone, Copy)]
 pub struct Move {
     pub phase: u64,
     pub trades: usize,
@@ -237,13 +238,13 @@ pub struct Move {
     pub lapsed: u64,
 }
 
-#[derive(Drop)]
+#[derive(Clone, Copy)]
 pub enum MoveReply {
     Refused(u64),
     Moved(Move),
 }
 
-#[derive(Drop)]
+#[derive(Clone, Copy)]
 pub enum ReportReply {
     Refused(u64),
     Priced {
@@ -253,7 +254,7 @@ pub enum ReportReply {
     },
 }
 
-#[derive(Drop)]
+#[derive(Clone, Copy)]
 pub enum ListReply {
     Refused(u64),
     Listed { count: usize, next: u64 },
@@ -261,28 +262,28 @@ pub enum ListReply {
 
 // What a call hands back beside the lent lists: its reply, the day as it is now, and, where it may trade, how many trades it
 // wrote at the front of the trade list.
-#[derive(Drop)]
+#[derive(Clone, Copy)]
 pub struct OrderAnswer {
     pub reply: OrderReply,
     pub made: usize,
     pub day: Day,
 }
 
-#[derive(Drop)]
+#[derive(Clone, Copy)]
 pub struct BlockAnswer {
     pub reply: BlockReply,
     pub made: usize,
     pub day: Day,
 }
 
-#[derive(Drop)]
+#[derive(Clone, Copy)]
 pub struct ClockAnswer {
     pub reply: ClockReply,
     pub made: usize,
     pub day: Day,
 }
 
-#[derive(Drop)]
+#[derive(Clone, Copy)]
 pub struct MoveAnswer {
     pub reply: MoveReply,
     pub made: usize,
@@ -290,14 +291,14 @@ pub struct MoveAnswer {
 }
 
 // A cancel trades nothing, but its screen changes.
-#[derive(Drop)]
+#[derive(Clone, Copy)]
 pub struct CancelAnswer {
     pub reply: CancelReply,
     pub day: Day,
 }
 
 // What happens on a day. An opening starts it, or starts over.
-#[derive(Drop)]
+#[derive(Clone, Copy)]
 pub enum Event {
     Open { close: u64, mark: u64 },
     Clock(u64),
@@ -306,7 +307,7 @@ pub enum Event {
 }
 
 // What a line of the rehearsal program asks for.
-#[derive(Drop)]
+#[derive(Clone, Copy)]
 pub enum Command {
     Malformed,
     Asks(Event),

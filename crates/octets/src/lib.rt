@@ -1,4 +1,6 @@
 // Numbers as bytes, least byte first, of any width: what they are worth, and how they are written, is defined in specs/.
+#![tactic(auto)]
+
 ghost use Rattle.std.specs.Prelude.{◌≡◌, ◌+◌, ◌%◌, ◌≤◌, length};
 ghost use Rattle.std.proofs.lemmas.List.Edits.{sets};
 ghost use Rattle.octets.specs.Numbers.{digits};

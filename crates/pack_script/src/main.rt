@@ -1,11 +1,13 @@
 // The packer as a program: it reads a script from standard input chunk by chunk, and writes the day file's full blocks before
 // it reads on. What is not stored is told on standard error.
+#![tactic(auto)]
+
 mod memory;
 mod serving;
 
 // What goes from chunk to chunk: how many records are stored, the number of the next line, the carry, and whether the program
 // stops here.
-#[derive(Drop)]
+#[derive(Clone, Copy)]
 pub struct AfterChunk {
     pub records: u64,
     pub line: u64,

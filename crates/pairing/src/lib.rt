@@ -1,5 +1,7 @@
 // Who trades with whom in an auction: both sides stand in priority, and the two heads trade the smaller remainder, over and over.
 // The book stays as it is until it is settled.
+#![tactic(auto)]
+
 pub mod settling;
 
 ghost use Rattle.std.specs.Prelude.{◌≡◌, length};

@@ -1,4 +1,6 @@
 // What a line asks for: a letter, and numbers, each after one space.
+#![tactic(auto)]
+
 ghost use Rattle.std.specs.Prelude.{◌≡◌, ◌+◌, ◌≤◌, length, take, drop};
 ghost use Rattle.std.proofs.Math.Option.{none};
 ghost use Rattle.model.specs.Lines.{bare, is_digit, number_of, command_of, line_command};
@@ -13,7 +15,7 @@ pub const LONGEST_LINE: usize = 79;
 const GREATEST: u64 = 4_294_967_295;
 
 // A word as a decimal, if it is one.
-#[derive(Drop)]
+#[derive(Clone, Copy)]
 pub enum Number {
     Is(u64),
     Bad,
@@ -80,7 +82,7 @@ fn number_of(word: &[u8]) -> Number
 }
 
 // A line by its form: a letter and numbers, of which no line wants more than six, or not said at all.
-#[derive(Drop)]
+#[derive(Clone, Copy)]
 pub struct Form {
     pub said: bool,
     pub letter: u8,

@@ -1,6 +1,8 @@
 // Who is confirmed with whom among the declarations that are held. Two that fit are of one class, and within a class everybody fits
 // everybody of the other side: the k-th buyer is confirmed with the k-th seller. So both sides are sorted by class, and one walk over
 // the two meets each pair; no others are compared.
+#![tactic(auto)]
+
 ghost use Rattle.std.specs.Prelude.{◌≡◌, ◌≤◌, ◌<◌, length, set, take, replicate};
 ghost use Rattle.book.specs.Rows.{held_of};
 ghost use Rattle.classes.specs.Sorting.{class_at, Sorted};

@@ -1,4 +1,6 @@
 // Lines of reply and of trades, put into a lent buffer at a place. Each function answers the place after what it put.
+#![tactic(auto)]
+
 ghost use Rattle.std.specs.Prelude.{◌≡◌, ◌+◌, ◌*◌, ◌≤◌, [], ◌∷◌, length, take};
 ghost use Rattle.model.specs.Lines.{digits, spaced, reply, refusal_line, trade_lines, reply_line, open_line, clock_line, order_line, cancel_line};
 ghost use Rattle.book.specs.Rows.{trades_of};

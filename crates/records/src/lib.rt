@@ -1,4 +1,6 @@
 // Numbers, days, orders, declarations and trades as bytes, lists of them, and replies.
+#![tactic(auto)]
+
 pub mod blocks;
 pub mod buffers;
 pub mod days;

@@ -1,5 +1,7 @@
 // A reply as its numbers: the refusal's number first, 0 where the call is accepted, then the values. Lines and bytes are written
 // from these alone.
+#![tactic(auto)]
+
 ghost use Rattle.std.specs.Prelude.{◌≡◌};
 ghost use Rattle.model.specs.Replies.{resting_of, withdrawn_of, open_numbers, clock_numbers, move_numbers, order_numbers, block_numbers, cancel_numbers, list_numbers};
 ghost use Rattle.replies.specs.Words.{word, signed, report_words};

@@ -1,4 +1,6 @@
 // The rescue of a damaged day file: each block from the first refused one on, as a line. What it means is defined in specs/.
+#![tactic(auto)]
+
 ghost use Rattle.std.specs.Prelude.{◌≡◌, ◌&&◌, [], ◌∷◌, ◌++◌, ◌+◌, ◌*◌, ◌/◌, ◌≤◌, length};
 ghost use Rattle.model.specs.Lines.{reply};
 ghost use Rattle.octets.specs.Numbers.{flat};

@@ -1,10 +1,12 @@
 // The rescue as a program: it reads a day file from standard input chunk by chunk, copies the blocks before the first refused
 // one, and lists each block from there on on standard error.
+#![tactic(auto)]
+
 mod serving;
 
 // What goes from chunk to chunk: whether a block was refused, how many blocks stand behind, how many records are kept, how many
 // bytes stand at the buffer's front, and whether the program stops here.
-#[derive(Drop)]
+#[derive(Clone, Copy)]
 pub struct AfterChunk {
     pub listing: bool,
     pub behind: usize,

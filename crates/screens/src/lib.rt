@@ -1,4 +1,6 @@
 // The public screen of a day: counted from its book and figures, held against the one that the day has, and kept with each event.
+#![tactic(auto)]
+
 pub mod comparing;
 pub mod counting;
 pub mod ranges;
@@ -17,7 +19,7 @@ use levels::levels_of;
 use model::Day;
 
 // The highest and the lowest price that has traded; zeros while nothing has.
-#[derive(Drop)]
+#[derive(Clone, Copy)]
 pub struct Range {
     pub high: u64,
     pub low: u64,

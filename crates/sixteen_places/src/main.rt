@@ -1,5 +1,7 @@
 // Document 01's session on a book of sixteen order records. Each reply is printed as the rehearsal program prints it; besides, the
 // book after the orders of the opening call with the auction's report and prices then, before the cancels, and at the end.
+#![tactic(auto)]
+
 mod showing;
 
 ghost use Rattle.std.specs.Prelude.{◌≡◌};
@@ -15,7 +17,7 @@ use model::{Asked, Day, Event, OpenReply, Order};
 use showing::{print_answer, print_book, print_told};
 
 // The day and its book.
-#[derive(Drop)]
+#[derive(Clone, Copy)]
 pub struct Stand {
     pub day: Day,
     pub book: [Order; 16],

@@ -1,6 +1,8 @@
 // When a day is sound: what every call tests first, on any memory that it is lent. Nothing is assumed of the numbers, and
 // each test keeps the products of the later ones small. The order of the places is tested before the best prices are looked for,
 // and the screen last, since it is counted from a book in order and from all figures.
+#![tactic(auto)]
+
 pub mod day_figures;
 pub mod evening;
 pub mod order;

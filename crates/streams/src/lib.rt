@@ -1,9 +1,11 @@
 // Standard input read chunk by chunk, after the bytes that are kept of the chunk before.
+#![tactic(auto)]
+
 ghost use Rattle.std.specs.Prelude.{◌≤◌, length};
 ghost use Rattle.streams.specs.Streams.{Filled};
 
 // What a read brought: how many bytes stand in the buffer then.
-#[derive(Drop)]
+#[derive(Clone, Copy)]
 pub enum Input {
     Failed,
     Ended,

@@ -1,17 +1,19 @@
 // The chunks that are read: where their lines end, what a line asks for, and what goes over to the next chunk.
+#![tactic(auto)]
+
 pub mod reading;
 
 use model::Command;
 
 // Where the next line of a chunk stands, without its newline; the chunk's tail has none.
-#[derive(Drop)]
+#[derive(Clone, Copy)]
 pub enum Bounds {
     Found { start: usize, end: usize },
     Tail,
 }
 
 // What the next line of a chunk asks for, and the place after its newline.
-#[derive(Drop)]
+#[derive(Clone, Copy)]
 pub enum NextCommand {
     Found { command: Command, place: usize },
     Tail,
@@ -19,7 +21,7 @@ pub enum NextCommand {
 
 // What goes from chunk to chunk of a line that has not ended: how many of its bytes stand at the buffer's front, or that
 // it is too long already, and then none.
-#[derive(Drop)]
+#[derive(Clone, Copy)]
 pub struct Carry {
     pub kept: usize,
     pub long: bool,

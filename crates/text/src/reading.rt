@@ -21,7 +21,7 @@ fn scan(chunk: &[u8], at: usize) -> Bounds
 }
 
 // A reader of lines: the chunk, and the place in it that is reached.
-#[derive(Drop)]
+#[derive(Clone, Copy)]
 pub struct Lines<'a> {
     pub chunk: &'a [u8],
     pub at: usize,

@@ -1,4 +1,6 @@
 // A day file unpacked into a script, block by block.
+#![tactic(auto)]
+
 ghost use Rattle.std.specs.Prelude.{◌≡◌, ◌+◌, ◌-◌, ◌*◌, ◌/◌, ◌≤◌, ◌<◌, length, take, drop};
 ghost use Rattle.printing.specs.Printing.{Wrote};
 ghost use Rattle.octets.specs.Numbers.{parts};
@@ -15,7 +17,7 @@ use file_scripts::put_event;
 use printing::put_reply;
 
 // How far blocks are unpacked: how many are good, the place after their lines, and the first refusal, 0 where there is none.
-#[derive(Drop)]
+#[derive(Clone, Copy)]
 pub struct Unpacking {
     pub good: usize,
     pub next: usize,

@@ -1,10 +1,12 @@
 // The unpacker as a program: it reads a day file from standard input chunk by chunk, and writes the lines of the blocks that
 // have passed before it reads on. The first refusal is told on standard error, and ends it.
+#![tactic(auto)]
+
 mod serving;
 
 // What goes from chunk to chunk: how many blocks have passed, how many bytes behind them stand at the buffer's front, and
 // whether the program stops here.
-#[derive(Drop)]
+#[derive(Clone, Copy)]
 pub struct AfterChunk {
     pub passed: usize,
     pub kept: usize,

@@ -1,4 +1,6 @@
 // The calls for a test bench in C: day, book, trades, price list and reply are lent as bytes.
+#![tactic(auto)]
+
 pub mod changing;
 pub mod files;
 pub mod reading;

@@ -1,4 +1,6 @@
 // What a line of ./floor asks for: a question of its own, or what ./run reads in it.
+#![tactic(auto)]
+
 ghost use Rattle.std.specs.Prelude.{◌≡◌, true, ◌≤◌, take};
 ghost use Rattle.model.specs.Lines.{command_of};
 ghost use Rattle.text.specs.Readers.{asks_after};
