@@ -1,0 +1,23 @@
+-- Room for as many numbers as there are places.
+use Prim.Native.Nat.{◌≤◌}
+use mathlib.Core.Path.{sym}
+use native.Mathlib.Omega.{arith}
+use lib.ListN.{length, length-map}
+use lib.Seq.{length-take-le}
+use Rattle.book.specs.Rows.{declaration_of}
+use Rattle.blocks.proofs.confirm_all.Goals as goal
+use Rattle.blocks.proofs.confirm_all.Goals.{Start}
+
+few : (c : Start) → length c.args.rows.now ≤ 4_096
+few c = omega (arith, c.requires.few, length-map c.args.rows.now declaration_of)
+
+pub slice_bounds-partner-end : goal.slice_bounds-partner-end
+slice_bounds-partner-end c = omega (arith, few c.before.before.before)
+
+pub slice_bounds-confirm_with-end : goal.slice_bounds-confirm_with-end
+slice_bounds-confirm_with-end c =
+    sym (length-take-le _ c.partner_room-partner.result (omega (arith, few c.before.before.before.before)))
+
+pub confirm_with-requires : goal.confirm_with-requires
+confirm_with-requires c =
+    record { declared = c.requires; partner_len = length-take-le _ c.partner_room-partner.result (omega (arith, few c.before.before.before.before)) }

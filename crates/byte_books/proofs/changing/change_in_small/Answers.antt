@@ -1,0 +1,11 @@
+-- `byte_books::changing::change_in_small` meets its contract: as many rows as the bytes hold. Assumes nothing.
+use mathlib.Core.Path.{sym}
+use lib.Seq.{length-take-le}
+use borrow.Author.Rules.{rules}
+use Rattle.byte_books.proofs.changing.change_in_small.Goals as goal
+
+pub slice_bounds-change_in-end : goal.slice_bounds-change_in-end
+slice_bounds-change_in-end c = sym (length-take-le _ c.small_room-rows.result (search rules))
+
+pub change_in-requires : goal.change_in-requires
+change_in-requires c = record { day_len = c.requires.day_len; rows_len = length-take-le _ c.small_room-rows.result (search rules) }

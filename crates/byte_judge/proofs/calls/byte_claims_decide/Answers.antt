@@ -1,0 +1,14 @@
+-- `byte_judge::calls::byte_claims_decide` meets its contract: set up, then claim after claim. Assumes nothing.
+use mathlib.Core.Path.{◌∙◌}
+use Rattle.book.specs.Rows.{book_of}
+use Rattle.byte_judge.specs.Claims.{claims_in}
+use Rattle.judging.proofs.Turns.{tests_told}
+use Rattle.byte_judge.proofs.calls.byte_claims_decide.Goals as goal
+
+pub take_byte_claims-requires : goal.take_byte_claims-requires
+take_byte_claims-requires c =
+    record { standing = c.requires.ranked.stands; piled = c.set_up.ensures.piled; slate_len = c.set_up.auto.slate ∙ c.requires.slate_len }
+
+pub returns : goal.returns
+returns c =
+    tests_told c.args.price (book_of c.args.rows.now) (claims_in c.args.claims.now) c.requires.ranked c.set_up.ensures.slate_after c.take_byte_claims.ensures

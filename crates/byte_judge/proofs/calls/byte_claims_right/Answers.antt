@@ -1,0 +1,23 @@
+-- `byte_judge::calls::byte_claims_right` meets its contract: rooms for the piles and for as many numbers as the book has places. Assumes nothing.
+use Prim.Native.Nat.{◌≤◌}
+use mathlib.Core.Path.{sym}
+use native.Mathlib.Omega.{arith}
+use lib.ListN.{length, length-map}
+use lib.Seq.{length-take-le}
+use Rattle.book.specs.Rows.{order_of}
+use Rattle.lookup.proofs.Piling.{none_length}
+use Rattle.byte_judge.proofs.calls.byte_claims_right.Goals as goal
+use Rattle.byte_judge.proofs.calls.byte_claims_right.Goals.{Start}
+
+few : (c : Start) → length c.args.rows.now ≤ 4_096
+few c = omega (arith, c.requires.few, length-map c.args.rows.now order_of)
+
+pub slice_bounds-slate-end : goal.slice_bounds-slate-end
+slice_bounds-slate-end c = omega (arith, few c.before.before.before.before.before.before)
+
+pub slice_bounds-byte_claims_decide-end-3 : goal.slice_bounds-byte_claims_decide-end-3
+slice_bounds-byte_claims_decide-end-3 c = sym (length-take-le _ c.slate_room-slate.result (omega (arith, few c.before.before.before.before.before.before.before)))
+
+pub byte_claims_decide-requires : goal.byte_claims_decide-requires
+byte_claims_decide-requires c =
+    record { ranked = c.requires; tops_value = c.no_tops-tops.ensures; rows_in_bounds = omega (arith, few c.before.before.before.before.before.before.before, none_length 4_096 c.nothing_under-under.ensures); slate_len = length-take-le _ c.slate_room-slate.result (omega (arith, few c.before.before.before.before.before.before.before)) }

@@ -1,0 +1,11 @@
+-- None where it does not pass 15:00, else all of them are counted.
+use Rattle.evenings.proofs.Ahead.{none_ahead, some_ahead}
+use Rattle.evenings.proofs.counting.confirmed_ahead.Goals as goal
+
+pub returns-then-not-passes : goal.returns-then-not-passes
+returns-then-not-passes c =
+    none_ahead c.args.old c.args.new _ c.requires c.passes.ensures c.if-not-passes.true-raw
+
+pub returns : goal.returns
+returns c =
+    some_ahead c.args.old c.args.new _ c.requires c.passes.ensures c.if-not-passes.false-raw c.count_confirmed.ensures

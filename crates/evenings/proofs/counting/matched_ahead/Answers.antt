@@ -1,0 +1,12 @@
+-- None where it does not pass 15:05, else all of them are counted.
+use Rattle.evenings.proofs.Ahead.{none_matched, some_matched}
+use Rattle.evenings.proofs.counting.matched_ahead.Goals as goal
+
+pub returns-then-not-passes : goal.returns-then-not-passes
+returns-then-not-passes c =
+    none_matched c.args.close c.args.old c.args.new _ c.requires c.passes.ensures c.if-not-passes.true-raw
+
+pub returns : goal.returns
+returns c =
+    some_matched c.args.close c.args.old c.args.new _ c.requires c.passes.ensures c.if-not-passes.false-raw
+    c.deal_at_close-counted.ensures.value

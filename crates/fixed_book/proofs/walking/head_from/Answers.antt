@@ -1,0 +1,22 @@
+-- Nobody passed so far may trade.
+use Prim.Native.Nat.{◌-◌}
+use mathlib.Core.Path.{sym, ◌∙◌}
+use Rattle.fixed_book.proofs.Heads.{sought_none, sought_next, sought_found, sought_all}
+use Rattle.fixed_book.proofs.walking.head_from.Goals as goal
+
+pub loop-at-init : goal.loop-at-init
+loop-at-init c = sought_none _ _ _ _ c.requires.from_in_bounds
+
+pub returns-then-may_trade : goal.returns-then-may_trade
+returns-then-may_trade c =
+    sought_found c.args.close c.args.side c.args.rows.now c.loop-at.invariant c.loop-at-test.true
+    c.order_at-o.ensures c.requires.lined.fair (sym c.may_trade.ensures ∙ c.if-may_trade.true)
+
+pub loop-at-preserved : goal.loop-at-preserved
+loop-at-preserved c =
+    sought_next c.args.close c.args.side c.args.rows.now c.loop-at.invariant c.loop-at-test.true
+    c.order_at-o.ensures (sym c.may_trade.ensures ∙ c.if-may_trade.false)
+
+pub returns : goal.returns
+returns c =
+    sought_all c.args.close c.args.side c.args.rows.now c.loop-at.invariant c.loop-at-test.false

@@ -1,0 +1,220 @@
+-- At every turn of either loop the trades made since the loop began, with those still to come, are those that were to come
+-- then (`Same`); between two prices the next order begins another one.
+use Prim.Native.Nat.{ℕ, ◌+◌, ◌-◌}
+use mathlib.Core.Path.{◌≡◌, refl, sym, ap, ◌∙◌}
+use mathlib.Core.List.{List, [], ◌∷◌}
+use native.Mathlib.Omega.{arith}
+use borrow.Author.Tests.{not-true, not-false}
+use Rattle.model.specs.Book.{queue}
+use Rattle.model.specs.declared.Order.{Order}
+use Rattle.book.specs.Rows.{book_of, trade_rows}
+use Rattle.book.specs.Writing.{fitted}
+use Rattle.matching.specs.declared.Swept.{Swept}
+use Rattle.matching.specs.Sweeping.{wants, swept, comes_to}
+use Rattle.matching.proofs.Partners.{other_small, trade_takes}
+use Rattle.book.specs.Lines.{line}
+use Rattle.book.proofs.Lines.{line_end, line_cons, line_length}
+use Rattle.matching.proofs.Sweeps.{against, coming, Same, here, then, nobody, no_price, spent_new, price_opens, spent_same, trade_made, one_more, first_price_lem, outcome, no_next, next_new, price_last, trade_last, fewer}
+use Rattle.matching.proofs.sweeping.sweep.Goals as goal
+use Rattle.matching.proofs.sweeping.sweep.Goals.{After-order_at-best, After-order_at-order, After-places_of-line, At-orders, At-prices}
+
+-- the whole line is the other side's queue
+all_of :
+    (l : After-places_of-line)
+    → line l.places_of-line.result.from l.places_of-line.result.to l.args.rows.now
+    ≡ against l.args.t l.args.rows.now
+all_of l =
+    l.places_of-line.ensures.orders ∙ ap (λ n. queue n (book_of l.args.rows.now)) l.other_side.ensures
+
+-- the first order of a price, and each that follows
+first_of_lem :
+    (c : After-order_at-best)
+    → line c.prices.at c.places_of-line.result.to c.args.rows.now
+    ≡ c.order_at-best.result
+    ∷ line (c.prices.at + 1) c.places_of-line.result.to c.args.rows.now
+first_of_lem c =
+    line_cons _ _ _ c.prices-test.true c.places_of-line.ensures.within c.order_at-best.ensures
+
+next_of :
+    (c : After-order_at-order)
+    → line c.orders.at c.places_of-line.result.to c.args.rows.now
+    ≡ c.order_at-order.result
+    ∷ line (c.orders.at + 1) c.places_of-line.result.to c.args.rows.now
+next_of c =
+    line_cons _ _ _ c.orders-test.true c.places_of-line.ensures.within c.order_at-order.ensures
+
+-- what holds from the function's start to a turn
+abbrev Since : At-prices → Swept → ℕ → List Order → List (List ℕ) → Type 0
+Since p s left os out =
+    let a = p.args in
+    let r = p.places_of-line.result in
+    Same a.t a.most p.nothing_yet-s.result a.quantity (line r.from r.to a.rows.now) a.trades.now s
+    left os out
+
+so_far :
+    (o : At-orders)
+    → Since (turn-of o) o.orders.s o.orders.left
+    (line o.orders.at o.places_of-line.result.to o.args.rows.now)
+    o.orders.trades
+so_far o =
+    let a = o.args in
+    let wanted = sym o.wants.ensures ∙ not-false _ o.if-not-wants.false-raw in
+    then a.t a.most o.prices.invariant.0
+    (then a.t a.most
+    (price_opens a.t a.most _ _ _ (first_of_lem o.before.before.before.before.before.before) o.prices.invariant.1
+    o.if-most-s.false wanted o.with_price-s.ensures)
+    o.orders.invariant.0)
+
+ended :
+    (p : At-prices) {s : Swept} {left : ℕ} {os : List Order} {out : List (List ℕ)}
+    → Since p s left os out
+    → coming p.args.t p.args.most s left os ≡ []
+    → let a = p.args in
+    let ts = swept a.t a.most a.quantity a.rows.now in
+    (s ≡ comes_to ts) × (out ≡ fitted (trade_rows ts) a.trades.now)
+ended p =
+    let a = p.args in
+    outcome a.t a.most a.quantity a.rows.now a.trades.now p.requires.stands
+    p.nothing_yet-s.ensures (all_of (line_of p))
+
+pub places_of-line-requires : goal.places_of-line-requires
+places_of-line-requires c =
+    record { ranked = c.requires; side_bound = other_small _ c.other_side.ensures }
+
+pub prices-init : goal.prices-init
+prices-init c =
+    let a = c.args in (
+      here a.t a.most,
+      first_price_lem a.t a.most a.quantity a.rows.now a.trades.now c.requires.stands
+          c.nothing_yet-s.ensures (all_of c.before),
+    )
+
+pub order_at-best-requires : goal.order_at-best-requires
+order_at-best-requires c =
+    omega (arith, c.prices-test.true, c.places_of-line.ensures.within)
+
+pub with_price-s-requires : goal.with_price-s-requires
+with_price-s-requires c =
+    omega (arith, c.if-most-s.false, c.ranges.most)
+
+pub orders-init : goal.orders-init
+orders-init c =
+    let a = c.args in
+    (here a.t a.most, refl, price_last _ _ _ c.with_price-s.ensures)
+
+pub prices-smaller-in-orders : goal.prices-smaller-in-orders
+prices-smaller-in-orders c =
+    fewer _ _ c.orders.s _ _ c.with_price-s.ensures c.orders.invariant.1
+    c.if-most-s.false
+
+pub prices-preserved-in-orders : goal.prices-preserved-in-orders
+prices-preserved-in-orders c =
+    (so_far c.before, no_next _ (line_end _ _ _ c.orders-test.false))
+
+pub order_at-order-requires : goal.order_at-order-requires
+order_at-order-requires c =
+    omega (arith, c.orders-test.true, c.places_of-line.ensures.within)
+
+pub prices-smaller : goal.prices-smaller
+prices-smaller c =
+    fewer _ _ c.orders.s _ _ c.with_price-s.ensures c.orders.invariant.1
+    c.if-most-s.false
+
+pub prices-preserved : goal.prices-preserved
+prices-preserved c =
+    (so_far c.before.before.before.before, next_new _ _ (next_of c.before.before) c.orders.invariant.2 (λ z. omega (arith, c.if-order-price.true)))
+
+pub with_trade-s-requires : goal.with_trade-s-requires
+with_trade-s-requires c =
+    let a = c.args in
+    let all = c.places_of-line in
+    one_more a.t a.most _ _ _ (next_of c.before.before.before.before.before.before.before.before) c.trade_with-trade.ensures (so_far c.before.before.before.before.before.before.before.before.before.before)
+    c.nothing_yet-s.ensures
+    (omega (
+      arith,
+      line_length all.result.from all.result.to a.rows.now all.ensures.within,
+      c.well_formed.0.0,
+      all.ensures.within,
+    ))
+    c.ranges.quantity.fits
+
+pub overflow_sub-left : goal.overflow_sub-left
+overflow_sub-left c =
+    trade_takes _ _ _ _ c.trade_with-trade.ensures
+
+pub overflow_add-at : goal.overflow_add-at
+overflow_add-at c =
+    record {
+      fits = omega (
+        arith,
+        c.orders-test.true,
+        c.places_of-line.ensures.within,
+        c.well_formed.0.0,
+      );
+    }
+
+pub orders-smaller : goal.orders-smaller
+orders-smaller c =
+    omega (arith, c.orders-test.true)
+
+pub orders-preserved : goal.orders-preserved
+orders-preserved c =
+    let a = c.args in
+    let at_price = c.if-order-price.false in
+    let kept = trade_last _ _ _ c.with_trade-s.ensures in
+    let wanted = ap (wants _ _) at_price ∙ sym c.wants-in-orders.ensures ∙ not-false _ c.if-not-wants-2.false-raw in (
+      then a.t a.most c.orders.invariant.0
+          (trade_made a.t a.most _ _ _ (next_of c.before.before.before.before.before.before.before.before.before.before)
+          (at_price ∙ sym c.orders.invariant.2)
+          c.trade_with-trade.ensures wanted c.put_trade.ensures
+          c.with_trade-s.ensures),
+      kept.1 ∙ c.orders.invariant.1,
+      kept.0 ∙ c.orders.invariant.2,
+    )
+
+pub shape_of-trades-after-prices : goal.shape_of-trades-after-prices
+shape_of-trades-after-prices c =
+    c.prices.invariant.0.long
+
+pub returns-after-prices : goal.returns-after-prices
+returns-after-prices c =
+    let a = c.args in
+    ended c.before c.prices.invariant.0
+    (nobody a.t a.most c.prices.s c.prices.left a.trades.now
+    (line_end _ _ _ c.prices-test.false))
+
+pub shape_of-trades-then-most-s : goal.shape_of-trades-then-most-s
+shape_of-trades-then-most-s c =
+    c.prices.invariant.0.long
+
+pub returns-then-most-s : goal.returns-then-most-s
+returns-then-most-s c =
+    let a = c.args in
+    ended c.before.before.before.before c.prices.invariant.0
+    (no_price a.t a.most c.prices.s c.prices.left a.trades.now
+    (first_of_lem c.before.before) c.prices.invariant.1 c.if-most-s.true)
+
+pub shape_of-trades-then-not-wants : goal.shape_of-trades-then-not-wants
+shape_of-trades-then-not-wants c =
+    c.prices.invariant.0.long
+
+pub returns-then-not-wants : goal.returns-then-not-wants
+returns-then-not-wants c =
+    let a = c.args in
+    ended c.before.before.before.before.before.before c.prices.invariant.0
+    (spent_new a.t a.most c.prices.s c.prices.left a.trades.now
+    (first_of_lem c.before.before.before.before) c.prices.invariant.1 c.if-most-s.false
+    (sym c.wants.ensures ∙ not-true _ c.if-not-wants.true-raw))
+
+pub shape_of-trades-then-not-wants-2 : goal.shape_of-trades-then-not-wants-2
+shape_of-trades-then-not-wants-2 c =
+    c.orders.invariant.0.long ∙ c.prices.invariant.0.long
+
+pub returns-then-not-wants-2 : goal.returns-then-not-wants-2
+returns-then-not-wants-2 c =
+    let a = c.args in
+    let at_price = c.if-order-price.false in
+    let spent = ap (wants _ _) at_price ∙ sym c.wants-in-orders.ensures ∙ not-true _ c.if-not-wants-2.true-raw in
+    ended c.before.before.before.before.before.before.before.before.before.before.before.before.before.before (so_far c.before.before.before.before.before.before)
+    (spent_same a.t a.most c.orders.s c.orders.left a.trades.now
+    (next_of c.before.before.before.before) (at_price ∙ sym c.orders.invariant.2) spent)

@@ -1,0 +1,38 @@
+-- `moves::holding::hold_auction` meets its contract: the trades that were written are added up, and the shares that
+-- traded come off the book; the figures have room for them. Assumes nothing.
+use mathlib.Core.Path.{◌≡◌}
+use native.Mathlib.Omega.{arith}
+use lib.ListN.{length}
+use Rattle.model.specs.ClockCall.{auction_trades}
+use Rattle.book.specs.Rows.{book_of}
+use Rattle.book.specs.Standing.{Ranked}
+use Rattle.moves.proofs.AuctionHeld.{made_of, auction_settled, start_ranked, held_fits, held}
+use Rattle.moves.proofs.holding.hold_auction.Goals as goal
+use Rattle.moves.proofs.holding.hold_auction.Goals.{After-auction_trades-dealt, Start}
+
+in_order : (s : Start) → Ranked (book_of s.args.rows.now)
+in_order s = start_ranked s.args.d s.args.rows.now s.args.trades.now s.requires.rows_in_bounds s.requires.underway
+
+-- as many as the auction has
+made : (e : After-auction_trades-dealt) → e.auction_trades-dealt.result.made ≡ length (auction_trades e.args.d (book_of e.args.rows.now))
+made e = made_of e.args.d (book_of e.args.rows.now) e.auction_trades-dealt.ensures.value
+
+pub auction_trades-dealt-requires : goal.auction_trades-dealt-requires
+auction_trades-dealt-requires c = in_order c.before
+
+pub settle_auction-requires : goal.settle_auction-requires
+settle_auction-requires c = in_order (began c.before.before)
+
+pub tally_trades-requires : goal.tally_trades-requires
+tally_trades-requires c = (
+  omega (arith, made c.before.before.before.before, c.requires.rows_in_bounds, c.auction_trades-dealt.auto.trades),
+  held_fits c.args.d c.args.rows.now c.args.trades.now c.requires.rows_in_bounds (made c.before.before.before.before) c.auction_trades-dealt.ensures.trades_after c.auction_trades-dealt.auto.trades
+      c.requires.underway,
+)
+
+pub returns : goal.returns
+returns c =
+    let a = c.args in
+    held a.d a.rows.now a.trades.now c.requires.rows_in_bounds (made c.before.before.before.before.before) c.auction_trades-dealt.ensures.trades_after c.auction_trades-dealt.auto.trades
+    c.tally_trades.ensures
+    (auction_settled a.d a.rows.now (in_order c.before.before.before.before.before.before.before).stands c.auction_trades-dealt.ensures.value c.settle_auction.ensures.by_index)

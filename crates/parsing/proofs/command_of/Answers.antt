@@ -1,0 +1,12 @@
+-- A line of no form asks for nothing, any other for what its letter wants. Assumes nothing.
+use mathlib.Core.Path.{◌∙◌}
+use borrow.Author.Tests.{not-true, not-false}
+use Rattle.parsing.proofs.Forms.{asks_unsaid, asks_said}
+use Rattle.parsing.proofs.command_of.Goals as goal
+
+pub returns-then-not-form : goal.returns-then-not-form
+returns-then-not-form c = asks_unsaid _ c.form_of-form.ensures (not-true _ c.if-not-form.true)
+
+pub returns : goal.returns
+returns c =
+    c.asked_for.ensures ∙ asks_said _ c.form_of-form.ensures (not-false _ c.if-not-form.false)

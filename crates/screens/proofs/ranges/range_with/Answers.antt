@@ -1,0 +1,16 @@
+-- It goes on from the screen's, or begins with the first trade.
+use Rattle.screens.proofs.Widening.{range_goes_on, range_nothing, range_begins}
+use Rattle.screens.proofs.ranges.range_with.Goals as goal
+
+pub returns-then-screen-ne0 : goal.returns-then-screen-ne0
+returns-then-screen-ne0 c =
+    range_goes_on c.args.screen c.args.trades.now c.args.n c.if-screen-ne0.taken c.range_of.ensures
+
+pub returns-then-n-eq0 : goal.returns-then-n-eq0
+returns-then-n-eq0 c =
+    range_nothing c.args.screen c.args.trades.now c.args.n c.if-screen-ne0.left c.if-n-eq0.taken
+
+pub returns : goal.returns
+returns c =
+    range_begins c.args.screen c.args.trades.now c.args.n c.if-screen-ne0.left c.if-n-eq0.left c.requires
+    c.trade_at-first.ensures c.range_of-2.ensures

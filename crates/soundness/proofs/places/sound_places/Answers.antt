@@ -1,0 +1,13 @@
+-- A map that has room for every number issued: the short one up to 65,535, else the one of all numbers. Assumes nothing.
+use native.Mathlib.Omega.{arith}
+use Rattle.soundness.proofs.Clauses.{says_figures}
+use Rattle.soundness.proofs.Numbers.{map_fresh}
+use Rattle.soundness.proofs.places.sound_places.Goals as goal
+
+pub places_with-requires : goal.places_with-requires
+places_with-requires c =
+    record { day_value = c.requires; fresh_map = map_fresh _ 1_024 _ c.few_numbers-used.ensures (omega (arith, c.if-day-le-LAST_OF_FEW.true)) }
+
+pub places_with-requires-2 : goal.places_with-requires-2
+places_with-requires-2 c =
+    record { day_value = c.requires; fresh_map = map_fresh _ 15_625 _ c.all_numbers-used.ensures (omega (arith, ((says_figures c.args.day).0 c.requires).3)) }

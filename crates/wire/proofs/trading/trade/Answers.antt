@@ -1,0 +1,23 @@
+-- `wire::trading::trade` meets its contract: refused by a length, or the call in its room, its day and its reply. Assumes nothing.
+use mathlib.Core.Logic.{inl, inr, ⊎_elim}
+use borrow.Author.Tests.{ltb-true}
+use Rattle.wire.proofs.Trades.{trade_unread, trade_answered}
+use Rattle.wire.proofs.trading.trade.Goals as goal
+
+pub returns-then-day-ne-DAY_BYTES : goal.returns-then-day-ne-DAY_BYTES
+returns-then-day-ne-DAY_BYTES c =
+    let a = c.args in
+    trade_unread a.day.now a.book.now a.trades.now a.reply.now a.asked
+    (⊎_elim (λ w. inl w.taken) (λ w. inr (w.0.left, ltb-true _ _ w.1.taken)) c.then-day-ne-DAY_BYTES.branch)
+    c.trade_refusal.ensures
+    c.put_trade_reply.ensures
+    (λ i. (c.slice_known-1.given i).fits)
+    (λ i. (c.slice_known-2-1.given i).fits)
+    (λ i. (c.slice_known-3-1.given i).fits)
+
+pub returns : goal.returns
+returns c =
+    let a = c.args in
+    trade_answered a.day.now a.book.now a.trades.now a.reply.now a.asked c.if-day-ne-DAY_BYTES.false c.trade_bytes-answer.ensures
+    c.put_day.ensures
+    c.put_trade_reply-2.ensures
