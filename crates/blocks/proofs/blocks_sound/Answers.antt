@@ -54,4 +54,4 @@ count_confirmed-requires c = after-tests c
 pub returns : goal.returns
 unfolding sound_blocks confirming_from
 returns c =
-    rw (sym c.has_places.ensures ∙ not-false _ c.if-not-has_places.false-raw, sym c.all_formed.ensures ∙ not-false _ c.if-not-all_formed.false-raw, sym c.is_in_arrival.ensures ∙ not-false _ c.if-not-is_in_arrival.false-raw, sym c.fits_hours.ensures ∙ not-false _ c.if-not-fits_hours.false-raw, le-ltb _ _ c.if-d-lt-CONFIRMING_FROM.false) (none_due _ (after-tests c.before) c.count_confirmed.ensures)
+    rw (sym c.has_places.ensures ∙ not-false _ c.if-not-has_places.false-raw, sym c.all_formed.ensures ∙ not-false _ c.if-not-all_formed.false-raw, sym c.is_in_arrival.ensures ∙ not-false _ c.if-not-is_in_arrival.false-raw, sym c.fits_hours.ensures ∙ not-false _ c.if-not-fits_hours.false-raw, le-ltb _ _ c.if-d-lt-CONFIRMING_FROM.false) (none_due _ (after-tests (goal.at.returns c).Else-d-lt-CONFIRMING_FROM) c.count_confirmed.ensures)

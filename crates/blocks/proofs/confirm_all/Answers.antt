@@ -12,12 +12,12 @@ few : (c : Start) → length c.args.rows.now ≤ 4_096
 few c = omega (arith, c.requires.few, length-map c.args.rows.now declaration_of)
 
 pub slice_bounds-partner-end : goal.slice_bounds-partner-end
-slice_bounds-partner-end c = omega (arith, few c.before.before.before)
+slice_bounds-partner-end c = omega (arith, few (goal.at.slice_bounds-partner-end c).Start)
 
 pub slice_bounds-confirm_with-end : goal.slice_bounds-confirm_with-end
 slice_bounds-confirm_with-end c =
-    sym (length-take-le _ c.partner_room-partner.result (omega (arith, few c.before.before.before.before)))
+    sym (length-take-le _ c.partner_room-partner.result (omega (arith, few (goal.at.slice_bounds-confirm_with-end c).Start)))
 
 pub confirm_with-requires : goal.confirm_with-requires
 confirm_with-requires c =
-    record { declared = c.requires; partner_len = length-take-le _ c.partner_room-partner.result (omega (arith, few c.before.before.before.before)) }
+    record { declared = c.requires; partner_len = length-take-le _ c.partner_room-partner.result (omega (arith, few (goal.at.confirm_with-requires c).Start)) }

@@ -12,11 +12,11 @@ few : (c : Start) → length c.args.rows.now ≤ 4_096
 few c = omega (arith, c.requires.few, length-map c.args.rows.now declaration_of)
 
 pub slice_bounds-partner-end : goal.slice_bounds-partner-end
-slice_bounds-partner-end c = omega (arith, few c.before)
+slice_bounds-partner-end c = omega (arith, few (goal.at.slice_bounds-partner-end c).Start)
 
 pub slice_bounds-count_with-end : goal.slice_bounds-count_with-end
-slice_bounds-count_with-end c = sym (length-take-le _ c.partner_room-partner.result (omega (arith, few c.before.before)))
+slice_bounds-count_with-end c = sym (length-take-le _ c.partner_room-partner.result (omega (arith, few (goal.at.slice_bounds-count_with-end c).Start)))
 
 pub count_with-requires : goal.count_with-requires
 count_with-requires c =
-    record { declared = c.requires; partner_len = length-take-le _ c.partner_room-partner.result (omega (arith, few c.before.before)) }
+    record { declared = c.requires; partner_len = length-take-le _ c.partner_room-partner.result (omega (arith, few (goal.at.count_with-requires c).Start)) }

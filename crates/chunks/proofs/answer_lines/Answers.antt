@@ -53,7 +53,7 @@ answer_command-a-requires c =
 
 pub loop-p-smaller : goal.loop-p-smaller
 loop-p-smaller c =
-    let n = read c.before.before.before.before.before.before.before.before.before in
+    let n = read (goal.at.loop-p-smaller c).In-Found in
     omega (arith, n.onward, n.inside, ap (λ (p : Progress). p.at) c.past_line-p.ensures)
 
 pub loop-p-preserved : goal.loop-p-preserved
@@ -64,7 +64,7 @@ loop-p-preserved c =
       a.auto.1.0 ∙ i.0,
       a.auto.1.1.0 ∙ i.1,
       a.auto.1.1.1.1.0 ∙ i.2,
-      rw c.past_line-p.ensures (going_on rehearsal s.chunk.now _ s.out.now i.3 _ _ (read c.before.before.before.before.before.before.before.before.before) a.ensures.leaves.text a.ensures.leaves.fits _ a.ensures.leaves.desk),
+      rw c.past_line-p.ensures (going_on rehearsal s.chunk.now _ s.out.now i.3 _ _ (read (goal.at.loop-p-preserved c).In-Found) a.ensures.leaves.text a.ensures.leaves.fits _ a.ensures.leaves.desk),
     )
 
 pub shape_of-rows : goal.shape_of-rows

@@ -1,6 +1,6 @@
 -- `clock::phase_now` meets its contract: the row's phase, and one test of the halt. Assumes nothing.
 use mathlib.Core.Logic.{⊎_elim}
-use borrow.Author.Tests.{eqb-true, eqb-false, not-true, not-false}
+use borrow.Author.Tests.{eqb-false, not-true}
 use Rattle.clock.proofs.Phases.{phase_halted, phase_other, phase_running}
 use Rattle.clock.proofs.phase_now.Goals as goal
 
@@ -10,4 +10,4 @@ returns-then-day-ne0 c =
 
 pub returns : goal.returns
 returns c =
-    ⊎_elim (λ w. phase_running c.args.day c.requires (eqb-true _ 0 (not-false _ w.2.left))) (λ w. phase_other c.args.day c.requires w.left) c.else-row-eq-CONTINUOUS.branch
+    ⊎_elim (λ w. phase_running c.args.day c.requires w.1) (λ w. phase_other c.args.day c.requires w) c.else-row-eq-CONTINUOUS.either

@@ -26,16 +26,16 @@ next c =
     l.invariant.1
 
 pub overflow_add-shares : goal.overflow_add-shares
-overflow_add-shares c = omega (arith, adding_fits _ _ _ _ _ (next c.before))
+overflow_add-shares c = omega (arith, adding_fits _ _ _ _ _ (next (goal.at.overflow_add-shares c).After-trade_at-t))
 
 pub overflow_mul-money : goal.overflow_mul-money
-overflow_mul-money c = omega (arith, adding_fits _ _ _ _ _ (next c.before.before))
+overflow_mul-money c = omega (arith, adding_fits _ _ _ _ _ (next (goal.at.overflow_mul-money c).After-trade_at-t))
 
 pub overflow_add-money : goal.overflow_add-money
-overflow_add-money c = omega (arith, adding_fits _ _ _ _ _ (next c.before.before))
+overflow_add-money c = omega (arith, adding_fits _ _ _ _ _ (next (goal.at.overflow_add-money c).After-trade_at-t))
 
 pub loop-i-preserved : goal.loop-i-preserved
-loop-i-preserved c = (omega arith, adding_next _ _ _ _ _ (next c.before.before))
+loop-i-preserved c = (omega arith, adding_next _ _ _ _ _ (next (goal.at.loop-i-preserved c).After-trade_at-t))
 
 pub returns : goal.returns
 returns c =

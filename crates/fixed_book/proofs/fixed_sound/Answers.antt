@@ -29,32 +29,32 @@ returns-then-not-has_places c = no_places _ _ (sym c.has_places.ensures ∙ not-
 
 pub returns-then-not-sound_places : goal.returns-then-not-sound_places
 returns-then-not-sound_places c =
-    place_wrong _ _ (places-pass c.before.before) (sym c.sound_places.ensures ∙ not-true _ c.if-not-sound_places.true-raw)
+    place_wrong _ _ (places-pass (goal.at.returns-then-not-sound_places c).Else-not-has_places) (sym c.sound_places.ensures ∙ not-true _ c.if-not-sound_places.true-raw)
 
 pub returns-then-not-is_in_arrival : goal.returns-then-not-is_in_arrival
 returns-then-not-is_in_arrival c =
-    not_arrived _ _ (places-pass c.before.before.before.before) (orders_pass c.before.before) (sym c.is_in_arrival.ensures ∙ not-true _ c.if-not-is_in_arrival.true-raw)
+    not_arrived _ _ (places-pass (goal.at.returns-then-not-is_in_arrival c).Else-not-has_places) (orders_pass (goal.at.returns-then-not-is_in_arrival c).Else-not-sound_places) (sym c.is_in_arrival.ensures ∙ not-true _ c.if-not-is_in_arrival.true-raw)
 
 pub resting_of-resting-requires : goal.resting_of-resting-requires
 resting_of-resting-requires c =
-    lined_so_far c.args.d _ (places-pass c.before.before.before.before) (orders_pass c.before.before) (arrival_passes c) c.requires.d_value
+    lined_so_far c.args.d _ (places-pass (goal.at.resting_of-resting-requires c).Else-not-has_places) (orders_pass (goal.at.resting_of-resting-requires c).Else-not-sound_places) (arrival_passes c) c.requires.d_value
 
 pub returns-then-not-fits_hours : goal.returns-then-not-fits_hours
 returns-then-not-fits_hours c =
-    out_of_hours c.args.d _ (places-pass c.before.before.before.before.before.before.before) (orders_pass c.before.before.before.before.before) (arrival_passes c.before.before.before) c.requires.d_value c.resting_of-resting.ensures
+    out_of_hours c.args.d _ (places-pass (goal.at.returns-then-not-fits_hours c).Else-not-has_places) (orders_pass (goal.at.returns-then-not-fits_hours c).Else-not-sound_places) (arrival_passes (goal.at.returns-then-not-fits_hours c).Else-not-is_in_arrival) c.requires.d_value c.resting_of-resting.ensures
     c.fits_hours.ensures (not-true _ c.if-not-fits_hours.true-raw)
 
 pub returns-then-not-rests_after_matching : goal.returns-then-not-rests_after_matching
 returns-then-not-rests_after_matching c =
-    rests_wrong c.args.d _ (places-pass c.before.before.before.before.before.before.before.before.before) (orders_pass c.before.before.before.before.before.before.before) (arrival_passes c.before.before.before.before.before) c.requires.d_value c.resting_of-resting.ensures
+    rests_wrong c.args.d _ (places-pass (goal.at.returns-then-not-rests_after_matching c).Else-not-has_places) (orders_pass (goal.at.returns-then-not-rests_after_matching c).Else-not-sound_places) (arrival_passes (goal.at.returns-then-not-rests_after_matching c).Else-not-is_in_arrival) c.requires.d_value c.resting_of-resting.ensures
     c.fits_hours.ensures (not-false _ c.if-not-fits_hours.false-raw) (sym c.rests_after_matching.ensures ∙ not-true _ c.if-not-rests_after_matching.true-raw)
 
 pub sums_fit-requires : goal.sums_fit-requires
 sums_fit-requires c =
-    record { d_value = c.requires.d_value; resting_bound = resting_small c.args.d _ (places-pass c.before.before.before.before.before.before.before.before.before) (orders_pass c.before.before.before.before.before.before.before) (arrival_passes c.before.before.before.before.before) c.requires.d_value c.resting_of-resting.ensures }
+    record { d_value = c.requires.d_value; resting_bound = resting_small c.args.d _ (places-pass (goal.at.sums_fit-requires c).Else-not-has_places) (orders_pass (goal.at.sums_fit-requires c).Else-not-sound_places) (arrival_passes (goal.at.sums_fit-requires c).Else-not-is_in_arrival) c.requires.d_value c.resting_of-resting.ensures }
 
 pub returns : goal.returns
 returns c =
-    sums_tell c.args.d _ (places-pass c.before.before.before.before.before.before.before.before.before.before) (orders_pass c.before.before.before.before.before.before.before.before) (arrival_passes c.before.before.before.before.before.before) c.requires.d_value c.resting_of-resting.ensures
+    sums_tell c.args.d _ (places-pass (goal.at.returns c).Else-not-has_places) (orders_pass (goal.at.returns c).Else-not-sound_places) (arrival_passes (goal.at.returns c).Else-not-is_in_arrival) c.requires.d_value c.resting_of-resting.ensures
     c.fits_hours.ensures (not-false _ c.if-not-fits_hours.false-raw) (sym c.rests_after_matching.ensures ∙ not-false _ c.if-not-rests_after_matching.false-raw)
     c.sums_fit.ensures

@@ -32,13 +32,13 @@ pub returns-then-not-fixed_sound : goal.returns-then-not-fixed_sound
 returns-then-not-fixed_sound c =
     let a = c.args in
     cancel_refused_lem a.d a.account a.number (book_of a.main.now) a.rows.now
-    (fixed_unsound a.d a.account a.number (book_of a.main.now) a.rows.now (main-sound c.before.before) (is_unsound _ _ c.fixed_sound.ensures (not-true _ c.if-not-fixed_sound.true-raw)))
+    (fixed_unsound a.d a.account a.number (book_of a.main.now) a.rows.now (main-sound (goal.at.returns-then-not-fixed_sound c).Else-not-is_sound) (is_unsound _ _ c.fixed_sound.ensures (not-true _ c.if-not-fixed_sound.true-raw)))
     (eqb-false 15 0 refl)
 
 pub fixed_cancel_sound-requires : goal.fixed_cancel_sound-requires
 fixed_cancel_sound-requires c =
-    fixed_ready _ _ _ (main-sound c.before.before.before) (book-sound c.before)
+    fixed_ready _ _ _ (main-sound (goal.at.fixed_cancel_sound-requires c).Else-not-is_sound) (book-sound (goal.at.fixed_cancel_sound-requires c).Else-not-fixed_sound)
 
 pub returns : goal.returns
 returns c =
-    c.fixed_cancel_sound.ensures _ (main-sound c.before.before.before.before.before)
+    c.fixed_cancel_sound.ensures _ (main-sound (goal.at.returns c).Else-not-is_sound)

@@ -23,7 +23,7 @@ pub returns-then-rows-place : goal.returns-then-rows-place
 returns-then-rows-place c main u =
     let a = c.args in
     cancel_refused_lem a.d a.account a.number main a.rows.now
-    (unknown a.d a.account a.number main a.rows.now u c.requires.sound (open-hours c.before.before) c.place_of-place.ensures c.if-rows-place.true)
+    (unknown a.d a.account a.number main a.rows.now u c.requires.sound (open-hours (goal.at.returns-then-rows-place c).Else-not-long_hours) c.place_of-place.ensures c.if-rows-place.true)
     (eqb-false 12 0 refl)
 
 pub line_up-requires : goal.line_up-requires
@@ -34,6 +34,6 @@ line_up-requires c =
 pub returns : goal.returns
 returns c main u =
     let a = c.args in
-    cancelled a.d a.account a.number main a.rows.now u c.requires.sound (open-hours c.before.before.before.before.before.before.before.before.before.before) c.place_of-place.ensures
+    cancelled a.d a.account a.number main a.rows.now u c.requires.sound (open-hours (goal.at.returns c).Else-not-long_hours) c.place_of-place.ensures
     c.line_up.new.rows c.requires.lined c.if-rows-place.false c.order_at-own.ensures c.free_place.ensures
     c.put_order.ensures c.line_up.ensures

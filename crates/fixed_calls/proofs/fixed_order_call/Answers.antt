@@ -35,15 +35,15 @@ pub returns-then-not-fixed_sound : goal.returns-then-not-fixed_sound
 returns-then-not-fixed_sound c =
     let a = c.args in
     order_refused_lem a.d a.a (book_of a.main.now) a.rows.now a.trades.now
-    (fixed_unsound a.d a.a (book_of a.main.now) (book_of a.rows.now) (length (trades_of a.trades.now)) (main-sound c.before.before.before)
+    (fixed_unsound a.d a.a (book_of a.main.now) (book_of a.rows.now) (length (trades_of a.trades.now)) (main-sound (goal.at.returns-then-not-fixed_sound c).Else-not-is_sound)
     (is_unsound _ _ c.fixed_sound.ensures (not-true _ c.if-not-fixed_sound.true-raw)))
     (eqb-false 15 0 refl)
     c.fixed_refused-then-not-fixed_sound.ensures
 
 pub fixed_order_sound-requires : goal.fixed_order_sound-requires
 fixed_order_sound-requires c =
-    fixed_ready _ _ _ (main-sound c.before.before.before.before) (book-sound c.before.before)
+    fixed_ready _ _ _ (main-sound (goal.at.fixed_order_sound-requires c).Else-not-is_sound) (book-sound (goal.at.fixed_order_sound-requires c).Else-not-fixed_sound)
 
 pub returns : goal.returns
 returns c =
-    c.fixed_order_sound.ensures _ (main-sound c.before.before.before.before.before.before.before)
+    c.fixed_order_sound.ensures _ (main-sound (goal.at.returns c).Else-not-is_sound)

@@ -62,9 +62,9 @@ welcome c =
     }
 
 pub enter-requires : goal.enter-requires
-enter-requires c = welcome c.before.before
+enter-requires c = welcome (goal.at.enter-requires c).Else-fixed-eq-LAST_NUMBER
 
 pub returns : goal.returns
 returns c main u =
     let a = c.args in
-    order_welcomed a.d a.a main a.rows.now a.trades.now u (welcome c.before.before.before.before.before) c.enter.ensures
+    order_welcomed a.d a.a main a.rows.now a.trades.now u (welcome (goal.at.returns c).Else-fixed-eq-LAST_NUMBER) c.enter.ensures

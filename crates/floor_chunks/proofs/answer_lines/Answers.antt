@@ -77,7 +77,7 @@ answer_wish-a-requires c =
 
 pub loop-p-smaller : goal.loop-p-smaller
 loop-p-smaller c =
-    let n = read c.before.before.before.before.before.before.before.before.before.before.before in
+    let n = read (goal.at.loop-p-smaller c).After-wish_after-w in
     omega (arith, n.onward, n.inside, ap (λ (p : FloorProgress). p.at) c.past_line-p.ensures)
 
 pub loop-p-preserved : goal.loop-p-preserved
@@ -90,7 +90,7 @@ loop-p-preserved c =
       a.auto.1.1.1.0 ∙ i.2,
       a.auto.1.1.1.1.1.1.0 ∙ i.3,
       rw c.past_line-p.ensures a.ensures.few,
-      rw c.past_line-p.ensures (going_on floor s.chunk.now _ s.out.now i.5 _ _ (read c.before.before.before.before.before.before.before.before.before.before.before) a.ensures.text a.ensures.fits _ a.ensures.floor),
+      rw c.past_line-p.ensures (going_on floor s.chunk.now _ s.out.now i.5 _ _ (read (goal.at.loop-p-preserved c).After-wish_after-w) a.ensures.text a.ensures.fits _ a.ensures.floor),
     )
 
 pub shape_of-rows : goal.shape_of-rows

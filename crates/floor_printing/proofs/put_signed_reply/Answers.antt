@@ -21,5 +21,5 @@ put_byte-requires c =
 
 pub returns : goal.returns
 returns c =
-    put_signed_whole c.args.letter c.args.numbers.now c.args.z c.put_byte.ensures c.put_numbers-q.ensures
+    put_signed_whole c.args.letter c.args.numbers.now c.args.z c.put_byte-p.ensures c.put_numbers-q.ensures
     (put_as (ap (λ (z : ℤ). 32 ∷ signed z) (to_z-of_z w64 _ c.ranges.z)) c.put_signed-s.ensures) c.put_byte.ensures

@@ -26,17 +26,17 @@ overflow_mul-base c = omega (arith, small_both _ _ (prices c))
 pub returns-then-price-base : goal.returns-then-price-base
 returns-then-price-base c =
     let a = c.args in
-    and_yes _ (prices c.before) (buy_within a.base a.price (omega arith))
+    and_yes _ (prices (goal.at.returns-then-price-base c).Else-not-are_prices) (buy_within a.base a.price (omega arith))
 
 pub overflow_add-base : goal.overflow_add-base
-overflow_add-base c = omega (arith, small_both _ _ (prices c.before))
+overflow_add-base c = omega (arith, small_both _ _ (prices (goal.at.overflow_add-base c).Else-not-are_prices))
 
 pub returns-then-price-base-2 : goal.returns-then-price-base-2
 returns-then-price-base-2 c =
     let a = c.args in
-    and_yes _ (prices c.before.before) (buy_within a.base a.price (omega arith))
+    and_yes _ (prices (goal.at.returns-then-price-base-2 c).Else-not-are_prices) (buy_within a.base a.price (omega arith))
 
 pub returns : goal.returns
 returns c =
     let a = c.args in
-    and_yes _ (prices c.before.before) (buy_beyond a.base a.price (omega arith))
+    and_yes _ (prices (goal.at.returns c).Else-not-are_prices) (buy_beyond a.base a.price (omega arith))

@@ -24,17 +24,17 @@ pub overflow_mul-price : goal.overflow_mul-price
 overflow_mul-price c = omega (arith, small_both _ _ (prices c))
 
 pub overflow_mul-result : goal.overflow_mul-result
-overflow_mul-result c = omega (arith, small_both _ _ (prices c.before))
+overflow_mul-result c = omega (arith, small_both _ _ (prices (goal.at.overflow_mul-result c).Else-not-are_prices))
 
 pub overflow_mul-result-then-close-price : goal.overflow_mul-result-then-close-price
-overflow_mul-result-then-close-price c = omega (arith, small_both _ _ (prices c.before))
+overflow_mul-result-then-close-price c = omega (arith, small_both _ _ (prices (goal.at.overflow_mul-result-then-close-price c).Else-not-are_prices))
 
 pub returns-then-close-price : goal.returns-then-close-price
 returns-then-close-price c =
     let a = c.args in
-    and_yes _ (prices c.before) (from_below_band a.close a.price c.if-close-price.true)
+    and_yes _ (prices (goal.at.returns-then-close-price c).Else-not-are_prices) (from_below_band a.close a.price c.if-close-price.true)
 
 pub returns-else-close-price : goal.returns-else-close-price
 returns-else-close-price c =
     let a = c.args in
-    and_yes _ (prices c.before) (below_band a.close a.price c.if-close-price.false)
+    and_yes _ (prices (goal.at.returns-else-close-price c).Else-not-are_prices) (below_band a.close a.price c.if-close-price.false)

@@ -26,19 +26,19 @@ overflow_mul-price c = omega (arith, small_both _ _ (prices c))
 pub returns-then-base-price : goal.returns-then-base-price
 returns-then-base-price c =
     let a = c.args in
-    and_yes _ (prices c.before) (sell_within a.base a.price (omega arith))
+    and_yes _ (prices (goal.at.returns-then-base-price c).Else-not-are_prices) (sell_within a.base a.price (omega arith))
 
 pub returns-then-base-le10 : goal.returns-then-base-le10
 returns-then-base-le10 c =
     let a = c.args in
-    and_yes _ (prices c.before.before) (sell_within a.base a.price (omega arith))
+    and_yes _ (prices (goal.at.returns-then-base-le10 c).Else-not-are_prices) (sell_within a.base a.price (omega arith))
 
 pub returns-then-base-price-2 : goal.returns-then-base-price-2
 returns-then-base-price-2 c =
     let a = c.args in
-    and_yes _ (prices c.before.before.before) (sell_within a.base a.price (omega arith))
+    and_yes _ (prices (goal.at.returns-then-base-price-2 c).Else-not-are_prices) (sell_within a.base a.price (omega arith))
 
 pub returns : goal.returns
 returns c =
     let a = c.args in
-    and_yes _ (prices c.before.before.before) (sell_beyond a.base a.price (omega arith))
+    and_yes _ (prices (goal.at.returns c).Else-not-are_prices) (sell_beyond a.base a.price (omega arith))

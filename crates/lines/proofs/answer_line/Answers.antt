@@ -22,13 +22,13 @@ served c = sym c.serves.ensures ∙ not-false _ c.if-not-serves.false-raw
 
 pub refuse-a-requires : goal.refuse-a-requires
 refuse-a-requires c =
-    let f = fitting _ _ _ (served c.before.before.before.before) in
+    let f = fitting _ _ _ (served (goal.at.refuse-a-requires c).Else-not-serves) in
     omega (arith, f.2)
 
 pub returns-then-asks_unsound : goal.returns-then-asks_unsound
 returns-then-asks_unsound c =
     let a = c.args in
-    let f = fitting _ _ _ (served c.before.before.before.before.before.before.before) in
+    let f = fitting _ _ _ (served (goal.at.returns-then-asks_unsound c).Else-not-serves) in
     record {
       given = λ g. (
         c.refuse-a.result,
@@ -37,12 +37,12 @@ returns-then-asks_unsound c =
             (refused_15 a.rows.now a.trades.now c.refuse-a.result (omega (arith, f.2)) c.refuse-a.ensures.1 a.desk _ c.refuse-a.ensures.0
             (sym c.asks_unsound.ensures ∙ c.if-asks_unsound.true)),
       );
-      unfit = λ n. absurd (not_both (served c.before.before.before.before.before.before.before) n);
+      unfit = λ n. absurd (not_both (served (goal.at.returns-then-asks_unsound c).Else-not-serves) n);
     }
 
 pub answer_command-a-requires : goal.answer_command-a-requires
 answer_command-a-requires c =
-    let f = fitting _ _ _ (served c.before.before.before.before.before.before) in
+    let f = fitting _ _ _ (served (goal.at.answer_command-a-requires c).Else-not-serves) in
     (f.0, f.1, omega (arith, f.2), sym c.asks_unsound.ensures ∙ c.if-asks_unsound.false)
 
 pub returns : goal.returns
@@ -54,5 +54,5 @@ returns c =
         refl,
         as_asked (sym c.command_of-c.ensures) c.answer_command-a.ensures,
       );
-      unfit = λ n. absurd (not_both (served c.before.before.before.before.before.before.before.before.before.before.before) n);
+      unfit = λ n. absurd (not_both (served (goal.at.returns c).Else-not-serves) n);
     }

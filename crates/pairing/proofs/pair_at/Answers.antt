@@ -16,19 +16,19 @@ head_at-buy-requires c = (sides c).short_buys
 
 pub head_at-sell-requires : goal.head_at-sell-requires
 head_at-sell-requires c =
-    (sides c.before).short_sells
+    (sides (goal.at.head_at-sell-requires c).After-free_from-end).short_sells
 
 pub loop-left-init : goal.loop-left-init
 loop-left-init c =
     let a = c.args in
-    let w = sides c.before.before in
+    let w = sides (goal.at.loop-left-init c).After-free_from-end in
     underway_start a.rows.now c.requires.ranked w a.price a.trades.now
     c.requires.shares_value c.head_at-buy.ensures c.head_at-sell.ensures
 
 pub overflow_add-made : goal.overflow_add-made
 overflow_add-made c =
     let a = c.args in
-    let w = sides c.before.before.before.before.before.before.before.before in
+    let w = sides (goal.at.overflow_add-made c).After-free_from-end in
     record {
       fits = omega (
         arith,
@@ -40,7 +40,7 @@ overflow_add-made c =
 pub head_past-buy-requires : goal.head_past-buy-requires
 head_past-buy-requires c =
     let a = c.args in
-    let w = sides c.before.before.before.before.before.before.before.before in record {
+    let w = sides (goal.at.head_past-buy-requires c).After-free_from-end in record {
       end_in_bounds = w.short_buys;
       at_lt_end = (buy_ready a.rows.now c.requires.ranked w a.price a.trades.now
           c.loop-left.invariant c.loop-left-test.true).1;
@@ -49,7 +49,7 @@ head_past-buy-requires c =
 pub head_past-sell-requires : goal.head_past-sell-requires
 head_past-sell-requires c =
     let a = c.args in
-    let w = sides c.before.before.before.before.before.before.before.before.before in record {
+    let w = sides (goal.at.head_past-sell-requires c).After-free_from-end in record {
       end_in_bounds = w.short_sells;
       at_lt_end = (sell_ready a.rows.now c.requires.ranked w a.price a.trades.now
           c.loop-left.invariant c.loop-left-test.true).1;
@@ -58,14 +58,14 @@ head_past-sell-requires c =
 pub overflow_sub-left : goal.overflow_sub-left
 overflow_sub-left c =
     let a = c.args in
-    let w = sides c.before.before.before.before.before.before.before.before.before.before in
+    let w = sides (goal.at.overflow_sub-left c).After-free_from-end in
     (quantity_some a.rows.now c.requires.ranked w a.price a.trades.now
     c.loop-left.invariant c.loop-left-test.true c.trade_of_heads-trade.ensures.value).1
 
 pub loop-left-smaller : goal.loop-left-smaller
 loop-left-smaller c =
     let a = c.args in
-    let w = sides c.before.before.before.before.before.before.before.before.before.before in
+    let w = sides (goal.at.loop-left-smaller c).After-free_from-end in
     omega (
       arith,
       quantity_some a.rows.now c.requires.ranked w a.price a.trades.now
@@ -75,7 +75,7 @@ loop-left-smaller c =
 pub loop-left-preserved : goal.loop-left-preserved
 loop-left-preserved c =
     let a = c.args in
-    let w = sides c.before.before.before.before.before.before.before.before.before.before in
+    let w = sides (goal.at.loop-left-preserved c).After-free_from-end in
     underway_next a.rows.now c.requires.ranked w a.price a.trades.now
     c.loop-left.invariant c.loop-left-test.true c.trade_of_heads-trade.ensures.value
     c.put_trade.ensures c.head_past-buy.ensures c.head_past-sell.ensures
@@ -87,6 +87,6 @@ shape_of-trades c =
 pub returns : goal.returns
 returns c =
     let a = c.args in
-    let w = sides c.before.before.before.before in
+    let w = sides (goal.at.returns c).After-free_from-end in
     underway_end a.rows.now c.requires.ranked w a.price a.trades.now
     c.loop-left.invariant c.loop-left-test.false

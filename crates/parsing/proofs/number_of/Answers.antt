@@ -38,10 +38,10 @@ returns-then-not-is_digit c =
     ap found (sym (digit_bad _ _ _ c.loop-i.invariant c.loop-i-test.true (sym c.is_digit.ensures ∙ not-true _ c.if-not-is_digit.true-raw)))
 
 pub overflow_sub-value : goal.overflow_sub-value
-overflow_sub-value c = omega (arith, digit_from _ (is_a_digit c.before), c.wide.ensures)
+overflow_sub-value c = omega (arith, digit_from _ (is_a_digit (goal.at.overflow_sub-value c).Else-not-is_digit), c.wide.ensures)
 
 pub overflow_add-value : goal.overflow_add-value
-overflow_add-value c = omega (arith, digit_from _ (is_a_digit c.before), c.wide.ensures)
+overflow_add-value c = omega (arith, digit_from _ (is_a_digit (goal.at.overflow_add-value c).Else-not-is_digit), c.wide.ensures)
 
 pub returns-then-value-gt-GREATEST : goal.returns-then-value-gt-GREATEST
 returns-then-value-gt-GREATEST c =
@@ -51,7 +51,7 @@ returns-then-value-gt-GREATEST c =
 pub loop-i-preserved : goal.loop-i-preserved
 loop-i-preserved c =
     rw c.wide.ensures
-    (reading_on _ _ _ c.loop-i.invariant c.loop-i-test.true (is_a_digit c.before.before) (omega (arith, c.wide.ensures)))
+    (reading_on _ _ _ c.loop-i.invariant c.loop-i-test.true (is_a_digit (goal.at.loop-i-preserved c).Else-not-is_digit) (omega (arith, c.wide.ensures)))
 
 pub returns : goal.returns
 returns c = ap found (sym (reading_ends _ _ _ c.loop-i.invariant c.loop-i-test.false))

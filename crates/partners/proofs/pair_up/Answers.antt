@@ -28,7 +28,7 @@ both_within c =
 
 pub before-requires : goal.before-requires
 before-requires c =
-    let w = both_within c.before.before in
+    let w = both_within (goal.at.before-requires c).Else-sellers-j in
     search rules
 
 pub loop-i-preserved-then-before : goal.loop-i-preserved-then-before
@@ -37,7 +37,7 @@ loop-i-preserved-then-before c =
 
 pub before-requires-else-before : goal.before-requires-else-before
 before-requires-else-before c =
-    let w = both_within c.before.before.before.before in
+    let w = both_within (goal.at.before-requires-else-before c).Else-sellers-j in
     search rules
 
 pub loop-i-preserved-then-before-2 : goal.loop-i-preserved-then-before-2
@@ -46,7 +46,7 @@ loop-i-preserved-then-before-2 c =
 
 pub join-requires : goal.join-requires
 join-requires c =
-    let w = both_within c.before.before.before.before.before.before.before in
+    let w = both_within (goal.at.join-requires c).Else-sellers-j in
     record { p_in_bounds = w.0; q_in_bounds = w.1; partner_len = walk_long c.args.rows.now _ _ _ _ _ c.loop-i.invariant }
 
 pub loop-i-preserved : goal.loop-i-preserved

@@ -9,4 +9,4 @@ put_byte-requires c =
 
 pub returns : goal.returns
 returns c =
-    put_whole _ _ c.put_byte.ensures c.put_numbers-q.ensures c.put_byte.ensures
+    put_whole _ _ c.put_byte-p.ensures c.put_numbers-q.ensures c.put_byte.ensures

@@ -22,12 +22,12 @@ pub evening_fits-requires : goal.evening_fits-requires
 evening_fits-requires c = stands_close _ _ (stands c)
 
 pub returns-then-not-evening_fits : goal.returns-then-not-evening_fits
-returns-then-not-evening_fits c = rw (then_screen _ _, stands c.before.before, sym c.evening_fits.ensures ∙ not-true _ c.if-not-evening_fits.true-raw)
+returns-then-not-evening_fits c = rw (then_screen _ _, stands (goal.at.returns-then-not-evening_fits c).Else-not-stands_sound, sym c.evening_fits.ensures ∙ not-true _ c.if-not-evening_fits.true-raw)
 
 pub screen_fits-requires : goal.screen_fits-requires
 screen_fits-requires c =
-    let s = stands c.before.before in
+    let s = stands (goal.at.screen_fits-requires c).Else-not-stands_sound in
     record { ranked = stands_ranked _ _ s; publishable = stands_publishable _ _ s (fits c) }
 
 pub returns : goal.returns
-returns c = rw (then_screen _ _, stands c.before.before.before, fits c.before) c.screen_fits.ensures
+returns c = rw (then_screen _ _, stands (goal.at.returns c).Else-not-stands_sound, fits (goal.at.returns c).Else-not-evening_fits) c.screen_fits.ensures

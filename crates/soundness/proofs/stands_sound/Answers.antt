@@ -79,7 +79,7 @@ returns-then-not-has_places c = rw (sym c.has_places.ensures ∙ not-true _ c.if
 
 pub returns-then-not-sound_figures : goal.returns-then-not-sound_figures
 unfolding sound_anywhere
-returns-then-not-sound_figures c = rw (places-pass c.before.before, sym c.sound_figures.ensures ∙ not-true _ c.if-not-sound_figures.true-raw)
+returns-then-not-sound_figures c = rw (places-pass (goal.at.returns-then-not-sound_figures c).Else-not-has_places, sym c.sound_figures.ensures ∙ not-true _ c.if-not-sound_figures.true-raw)
 
 pub sound_places-requires : goal.sound_places-requires
 sound_places-requires c = figures-pass c
@@ -87,7 +87,7 @@ sound_places-requires c = figures-pass c
 pub returns-then-not-sound_places : goal.returns-then-not-sound_places
 unfolding sound_anywhere
 returns-then-not-sound_places c =
-    rw (places-pass c.before.before.before.before, figures-pass c.before.before, sym c.sound_places.ensures ∙ not-true _ c.if-not-sound_places.true-raw)
+    rw (places-pass (goal.at.returns-then-not-sound_places c).Else-not-has_places, figures-pass (goal.at.returns-then-not-sound_places c).Else-not-sound_figures, sym c.sound_places.ensures ∙ not-true _ c.if-not-sound_places.true-raw)
 
 pub returns-then-not-is_in_order : goal.returns-then-not-is_in_order
 returns-then-not-is_in_order c = disordered _ _ (sym c.is_in_order.ensures ∙ not-true _ c.if-not-is_in_order.true-raw)
@@ -100,27 +100,27 @@ shares_left-resting-requires c = seated_ranked _ _ (seated c)
 
 pub returns-then-not-fits_hours : goal.returns-then-not-fits_hours
 returns-then-not-fits_hours c =
-    rw (still_to_pass _ _ (seated c.before.before.before), hours c.before ∙ not-true _ c.if-not-fits_hours.true-raw)
+    rw (still_to_pass _ _ (seated (goal.at.returns-then-not-fits_hours c).Else-not-halt_fits), hours (goal.at.returns-then-not-fits_hours c).After-fits_hours ∙ not-true _ c.if-not-fits_hours.true-raw)
 
 pub crosses_in_hours-requires : goal.crosses_in_hours-requires
-crosses_in_hours-requires c = seated_ranked _ _ (seated c.before.before.before)
+crosses_in_hours-requires c = seated_ranked _ _ (seated (goal.at.crosses_in_hours-requires c).Else-not-halt_fits)
 
 pub returns-then-crosses_in_hours : goal.returns-then-crosses_in_hours
-returns-then-crosses_in_hours c = rw (past_hours c.before.before, sym c.crosses_in_hours.ensures ∙ c.if-crosses_in_hours.true)
+returns-then-crosses_in_hours c = rw (past_hours (goal.at.returns-then-crosses_in_hours c).Else-not-fits_hours, sym c.crosses_in_hours.ensures ∙ c.if-crosses_in_hours.true)
 
 pub shares_fit-requires : goal.shares_fit-requires
 shares_fit-requires c =
-    record { fact_1 = seated_issued _ _ (seated c.before.before.before.before.before); fact_2 = resting_small _ _ (seated c.before.before.before.before.before) _ c.shares_left-resting.ensures }
+    record { fact_1 = seated_issued _ _ (seated (goal.at.shares_fit-requires c).Else-not-halt_fits); fact_2 = resting_small _ _ (seated (goal.at.shares_fit-requires c).Else-not-halt_fits) _ c.shares_left-resting.ensures }
 
 pub returns-then-not-shares_fit : goal.returns-then-not-shares_fit
-returns-then-not-shares_fit c = rw (past_crossing c.before.before, fit c.before ∙ not-true _ c.if-not-shares_fit.true-raw)
+returns-then-not-shares_fit c = rw (past_crossing (goal.at.returns-then-not-shares_fit c).Else-crosses_in_hours, fit (goal.at.returns-then-not-shares_fit c).After-shares_fit ∙ not-true _ c.if-not-shares_fit.true-raw)
 
 pub returns-then-not-prices_fit : goal.returns-then-not-prices_fit
-returns-then-not-prices_fit c = rw (past_shares c.before.before, sym c.prices_fit.ensures ∙ not-true _ c.if-not-prices_fit.true-raw)
+returns-then-not-prices_fit c = rw (past_shares (goal.at.returns-then-not-prices_fit c).Else-not-shares_fit, sym c.prices_fit.ensures ∙ not-true _ c.if-not-prices_fit.true-raw)
 
 pub turnover_fits-requires : goal.turnover_fits-requires
 turnover_fits-requires c =
-    few_traded _ _ (seated c.before.before.before.before.before.before.before.before.before) (fit c.before.before.before ∙ not-false _ c.if-not-shares_fit.false-raw)
+    few_traded _ _ (seated (goal.at.turnover_fits-requires c).Else-not-halt_fits) (fit (goal.at.turnover_fits-requires c).After-shares_fit ∙ not-false _ c.if-not-shares_fit.false-raw)
 
 pub returns : goal.returns
-returns c = rw (past_shares c.before.before.before, sym c.prices_fit.ensures ∙ not-false _ c.if-not-prices_fit.false-raw) c.turnover_fits.ensures
+returns c = rw (past_shares (goal.at.returns c).Else-not-shares_fit, sym c.prices_fit.ensures ∙ not-false _ c.if-not-prices_fit.false-raw) c.turnover_fits.ensures

@@ -24,19 +24,19 @@ left_at-sells-requires c =
 
 pub overflow_add-lo : goal.overflow_add-lo
 overflow_add-lo c =
-    omega (arith, wide c.before.before)
+    omega (arith, wide (goal.at.overflow_add-lo c).Else-lo-hi)
 
 pub beside-requires : goal.beside-requires
 beside-requires c =
-    omega (arith, wide c.before.before)
+    omega (arith, wide (goal.at.beside-requires c).Else-lo-hi)
 
 pub overflow_sub-hi : goal.overflow_sub-hi
 overflow_sub-hi c =
-    omega (arith, wide c.before.before.before.before)
+    omega (arith, wide (goal.at.overflow_sub-hi c).Else-lo-hi)
 
 pub beside-requires-2 : goal.beside-requires-2
 beside-requires-2 c =
-    omega (arith, wide c.before.before.before.before)
+    omega (arith, wide (goal.at.beside-requires-2 c).Else-lo-hi)
 
 pub returns : goal.returns
 returns c =

@@ -6,7 +6,7 @@ use Rattle.book.proofs.settling.off_both.Goals as goal
 pub take_off-requires : goal.take_off-requires
 take_off-requires c =
     let ends = sides_end c.args.rows.now c.requires c.sells_from-middle.ensures c.free_from-end.ensures in
-    (ends.0, (omega arith, ends.1))
+    record { from_le_to = ends.0; to_le_end = omega arith; end_in_bounds = ends.1.0; free_from = ends.1.1 }
 
 pub take_off-requires-2 : goal.take_off-requires-2
 take_off-requires-2 c =

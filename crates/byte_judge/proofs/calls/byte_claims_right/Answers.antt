@@ -13,11 +13,11 @@ few : (c : Start) → length c.args.rows.now ≤ 4_096
 few c = omega (arith, c.requires.few, length-map c.args.rows.now order_of)
 
 pub slice_bounds-slate-end : goal.slice_bounds-slate-end
-slice_bounds-slate-end c = omega (arith, few c.before.before.before.before.before.before)
+slice_bounds-slate-end c = omega (arith, few (goal.at.slice_bounds-slate-end c).Start)
 
 pub slice_bounds-byte_claims_decide-end-3 : goal.slice_bounds-byte_claims_decide-end-3
-slice_bounds-byte_claims_decide-end-3 c = sym (length-take-le _ c.slate_room-slate.result (omega (arith, few c.before.before.before.before.before.before.before)))
+slice_bounds-byte_claims_decide-end-3 c = sym (length-take-le _ c.slate_room-slate.result (omega (arith, few (goal.at.slice_bounds-byte_claims_decide-end-3 c).Start)))
 
 pub byte_claims_decide-requires : goal.byte_claims_decide-requires
 byte_claims_decide-requires c =
-    record { ranked = c.requires; tops_value = c.no_tops-tops.ensures; rows_in_bounds = omega (arith, few c.before.before.before.before.before.before.before, none_length 4_096 c.nothing_under-under.ensures); slate_len = length-take-le _ c.slate_room-slate.result (omega (arith, few c.before.before.before.before.before.before.before)) }
+    record { ranked = c.requires; tops_value = c.no_tops-tops.ensures; rows_in_bounds = omega (arith, few (goal.at.byte_claims_decide-requires c).Start, none_length 4_096 c.nothing_under-under.ensures); slate_len = length-take-le _ c.slate_room-slate.result (omega (arith, few (goal.at.byte_claims_decide-requires c).Start)) }

@@ -33,14 +33,14 @@ store_book-requires c =
     omega (arith, c.requires.rows_len, c.load_book.kept.1.0, c.trade_rows-answer.kept.1.0)
 
 pub slice_bounds-store_trades-end : goal.slice_bounds-store_trades-end
-slice_bounds-store_trades-end c = made (called_of c.before.before.before.before.before)
+slice_bounds-store_trades-end c = made (called_of (goal.at.slice_bounds-store_trades-end c).Else-trades-made)
 
 pub slice_bounds-store_trades-end-2 : goal.slice_bounds-store_trades-end-2
-slice_bounds-store_trades-end-2 c = sym (length-take-le _ _ (made (called_of c.before.before.before.before.before)))
+slice_bounds-store_trades-end-2 c = sym (length-take-le _ _ (made (called_of (goal.at.slice_bounds-store_trades-end-2 c).Else-trades-made)))
 
 pub store_trades-requires : goal.store_trades-requires
 store_trades-requires c =
-    omega (arith, c.if-trades-made.false, length-take-le c.trade_rows-answer.result.made c.trade_rows-answer.last.1.1.0 (made c.before.before.before.before.before.before.before.before))
+    omega (arith, c.if-trades-made.false, length-take-le c.trade_rows-answer.result.made c.trade_rows-answer.last.1.1.0 (made (goal.at.store_trades-requires c).After-trade_rows-answer))
 
 pub returns : goal.returns
 returns c =

@@ -23,7 +23,7 @@ barred c =
 pub returns-then-d-eq0 : goal.returns-then-d-eq0
 returns-then-d-eq0 c =
     hour_market c.args.d c.args.a c.requires.takes_value c.requires.phase_value (not-false _ c.if-not-takes.false-raw) c.if-a-ne0.true
-    (sym (barred c.before) ∙ c.if-d-eq0.true-raw)
+    (sym (barred (goal.at.returns-then-d-eq0 c).Joined-phase-ne-CONTINUOUS) ∙ c.if-d-eq0.true-raw)
 
 pub returns : goal.returns
 returns c =

@@ -20,21 +20,21 @@ quantity c = sym c.is_quantity.ensures ∙ not-false _ c.if-not-is_quantity.fals
 
 pub returns-then-not-is_price : goal.returns-then-not-is_price
 returns-then-not-is_price c =
-    number_price _ _ (quantity c.before.before) (sym c.is_price.ensures ∙ not-true _ c.if-not-is_price.true-raw)
+    number_price _ _ (quantity (goal.at.returns-then-not-is_price c).Else-not-is_quantity) (sym c.is_price.ensures ∙ not-true _ c.if-not-is_price.true-raw)
 
 price : (c : Else-not-is_price) → is_price c.args.a.price ≡ true
 price c = sym c.is_price.ensures ∙ not-false _ c.if-not-is_price.false-raw
 
 pub returns-then-not-in_band : goal.returns-then-not-in_band
 returns-then-not-in_band c =
-    number_band c.args.d c.args.a (quantity c.before.before.before.before.before.before) (price c.before.before.before.before) c.if-d-eq1.true
-    (and_true (and_both c.requires (price c.before.before.before.before)) (sym c.in_band.ensures ∙ not-true _ c.if-not-in_band.true-raw))
+    number_band c.args.d c.args.a (quantity (goal.at.returns-then-not-in_band c).Else-not-is_quantity) (price (goal.at.returns-then-not-in_band c).Else-not-is_price) c.if-d-eq1.true
+    (and_true (and_both c.requires (price (goal.at.returns-then-not-in_band c).Else-not-is_price)) (sym c.in_band.ensures ∙ not-true _ c.if-not-in_band.true-raw))
 
 pub returns : goal.returns
 returns c =
     ⊎_elim
     (λ w.
-    number_none c.args.d c.args.a (quantity c.before.before.before.before) (price c.before.before) w.0.taken
-    (and_true (and_both c.requires (price c.before.before)) (sym w.1.ensures ∙ not-false _ w.2.left)))
-    (λ w. number_unlimited c.args.d c.args.a (quantity c.before.before.before.before) (price c.before.before) w.left)
+    number_none c.args.d c.args.a (quantity (goal.at.returns c).Else-not-is_quantity) (price (goal.at.returns c).Else-not-is_price) w.0.taken
+    (and_true (and_both c.requires (price (goal.at.returns c).Else-not-is_price)) (sym w.1.ensures ∙ not-false _ w.2.left)))
+    (λ w. number_unlimited c.args.d c.args.a (quantity (goal.at.returns c).Else-not-is_quantity) (price (goal.at.returns c).Else-not-is_price) w.left)
     c.else-d-eq1.branch

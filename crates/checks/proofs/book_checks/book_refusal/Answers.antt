@@ -32,7 +32,7 @@ tested c =
 
 pub returns-then-is_outside : goal.returns-then-is_outside
 returns-then-is_outside c =
-    book_range c.args.d c.args.a (book_of c.args.rows.now) (sym (tested c.before) ∙ c.if-is_outside.true)
+    book_range c.args.d c.args.a (book_of c.args.rows.now) (sym (tested (goal.at.returns-then-is_outside c).After-is_outside) ∙ c.if-is_outside.true)
 
 -- past the second test some place is free
 some-free : (c : Else-free_from-rows) → all is_live (book_of c.args.rows.now) ≡ false
@@ -41,13 +41,13 @@ some-free c =
 
 pub returns-then-free_from-rows : goal.returns-then-free_from-rows
 returns-then-free_from-rows c =
-    book_full c.args.d c.args.a (book_of c.args.rows.now) (sym (tested c.before.before.before) ∙ c.if-is_outside.false)
+    book_full c.args.d c.args.a (book_of c.args.rows.now) (sym (tested (goal.at.returns-then-free_from-rows c).After-is_outside) ∙ c.if-is_outside.false)
     (full_of c.args.rows.now c.requires.ranked c.free_from.ensures c.if-free_from-rows.true)
 
 pub returns-then-d-eq-LAST_NUMBER : goal.returns-then-d-eq-LAST_NUMBER
 returns-then-d-eq-LAST_NUMBER c =
-    book_issued c.args.d c.args.a (book_of c.args.rows.now) (sym (tested c.before.before.before.before.before) ∙ c.if-is_outside.false) (some-free c.before.before) c.if-d-eq-LAST_NUMBER.true
+    book_issued c.args.d c.args.a (book_of c.args.rows.now) (sym (tested (goal.at.returns-then-d-eq-LAST_NUMBER c).After-is_outside) ∙ c.if-is_outside.false) (some-free (goal.at.returns-then-d-eq-LAST_NUMBER c).Else-free_from-rows) c.if-d-eq-LAST_NUMBER.true
 
 pub returns : goal.returns
 returns c =
-    book_none c.args.d c.args.a (book_of c.args.rows.now) (sym (tested c.before.before.before.before.before) ∙ c.if-is_outside.false) (some-free c.before.before) c.if-d-eq-LAST_NUMBER.false
+    book_none c.args.d c.args.a (book_of c.args.rows.now) (sym (tested (goal.at.returns c).After-is_outside) ∙ c.if-is_outside.false) (some-free (goal.at.returns c).Else-free_from-rows) c.if-d-eq-LAST_NUMBER.false

@@ -19,9 +19,9 @@ ranged c =
 
 pub returns-then-phase-eq-CONTINUOUS : goal.returns-then-phase-eq-CONTINUOUS
 returns-then-phase-eq-CONTINUOUS c =
-    by_range c.args.a c.args.phase c.args.base (ranged c.before.before) c.if-phase-eq-CONTINUOUS.true-raw c.requires.base_value c.requires.price_value c.in_range.ensures
+    by_range c.args.a c.args.phase c.args.base (ranged (goal.at.returns-then-phase-eq-CONTINUOUS c).Joined-a-eq0) c.if-phase-eq-CONTINUOUS.true-raw c.requires.base_value c.requires.price_value c.in_range.ensures
 
 pub returns-else-phase-eq-CONTINUOUS : goal.returns-else-phase-eq-CONTINUOUS
 returns-else-phase-eq-CONTINUOUS c =
     let a = c.args in
-    not_by_range a.a a.phase a.base (ranged c.before) c.if-phase-eq-CONTINUOUS.false-raw
+    not_by_range a.a a.phase a.base (ranged (goal.at.returns-else-phase-eq-CONTINUOUS c).Joined-a-eq0) c.if-phase-eq-CONTINUOUS.false-raw

@@ -22,11 +22,11 @@ returns-then-out-chunk c = refused_short c.args.line _ _ _ c.if-out-chunk.true r
 
 pub loop-i-init : goal.loop-i-init
 loop-i-init c =
-    (omega arith, refl, converts_none _ _ _ refl refl (sym (text_remembered c.args.line.bytes c.args.line.kept (long c.before.before.before))))
+    (omega arith, refl, converts_none _ _ _ refl refl (sym (text_remembered c.args.line.bytes c.args.line.kept (long (goal.at.loop-i-init c).Start))))
 
 pub convert_byte-done-requires : goal.convert_byte-done-requires
 convert_byte-done-requires c =
-    next_room _ _ _ _ _ _ c.loop-i.invariant.2 c.loop-i-test.true (room c.before.before.before.before.before)
+    next_room _ _ _ _ _ _ c.loop-i.invariant.2 c.loop-i-test.true (room (goal.at.convert_byte-done-requires c).Else-out-chunk)
 
 pub loop-i-preserved : goal.loop-i-preserved
 loop-i-preserved c = (
@@ -37,4 +37,4 @@ loop-i-preserved c = (
 
 pub returns : goal.returns
 returns c =
-    converted_whole _ _ _ _ _ c.loop-i.i (room c.before.before) (omega arith) c.loop-i.invariant.2
+    converted_whole _ _ _ _ _ c.loop-i.i (room (goal.at.returns c).Else-out-chunk) (omega arith) c.loop-i.invariant.2

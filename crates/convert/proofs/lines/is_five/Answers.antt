@@ -10,14 +10,14 @@ long : (c : Start) → length c.args.line.bytes ≡ 80
 long c = search rules
 
 pub returns-then-n-gt-LONGEST_OLD : goal.returns-then-n-gt-LONGEST_OLD
-returns-then-n-gt-LONGEST_OLD c = too_long _ _ (long c.before) c.if-n-gt-LONGEST_OLD.true
+returns-then-n-gt-LONGEST_OLD c = too_long _ _ (long (goal.at.returns-then-n-gt-LONGEST_OLD c).Start) c.if-n-gt-LONGEST_OLD.true
 
 pub slice_bounds-bytes-end : goal.slice_bounds-bytes-end
-slice_bounds-bytes-end c = room_for_two c.args.line.bytes _ (long c.before.before) _ _ c.if-n-gt-LONGEST_OLD.false
+slice_bounds-bytes-end c = room_for_two c.args.line.bytes _ (long (goal.at.slice_bounds-bytes-end c).Start) _ _ c.if-n-gt-LONGEST_OLD.false
 
 pub slice_bounds-command_of-end : goal.slice_bounds-command_of-end
-slice_bounds-command_of-end c = count_with_two c.args.line.bytes _ (long c.before.before.before) _ _ c.if-n-gt-LONGEST_OLD.false
+slice_bounds-command_of-end c = count_with_two c.args.line.bytes _ (long (goal.at.slice_bounds-command_of-end c).Start) _ _ c.if-n-gt-LONGEST_OLD.false
 
 pub returns : goal.returns
 returns c =
-    balance_tells _ _ (long c.before.before.before.before.before) c.if-n-gt-LONGEST_OLD.false _ _ c.is_order.ensures c.command_of.ensures
+    balance_tells _ _ (long (goal.at.returns c).Start) c.if-n-gt-LONGEST_OLD.false _ _ c.is_order.ensures c.command_of.ensures

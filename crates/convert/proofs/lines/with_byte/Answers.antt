@@ -10,7 +10,7 @@ long : (c : Start) → length c.args.line.bytes ≡ 80
 long c = search rules
 
 pub returns-then-n-gt-LONGEST_LINE : goal.returns-then-n-gt-LONGEST_LINE
-returns-then-n-gt-LONGEST_LINE c = with_full _ _ (long c.before) _ c.if-n-gt-LONGEST_LINE.true
+returns-then-n-gt-LONGEST_LINE c = with_full _ _ (long (goal.at.returns-then-n-gt-LONGEST_LINE c).Start) _ c.if-n-gt-LONGEST_LINE.true
 
 pub returns : goal.returns
-returns c = with_room _ _ (long c.before) _ c.if-n-gt-LONGEST_LINE.false
+returns c = with_room _ _ (long (goal.at.returns c).Start) _ c.if-n-gt-LONGEST_LINE.false

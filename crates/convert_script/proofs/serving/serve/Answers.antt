@@ -19,17 +19,17 @@ slice_bounds-convert_chunk-end c =
 
 pub slice_bounds-write_out-end : goal.slice_bounds-write_out-end
 slice_bounds-write_out-end c =
-    shown_within c.convert_chunk-done.ensures (room c.before.before.before.before.before.before)
+    shown_within c.convert_chunk-done.ensures (room (goal.at.slice_bounds-write_out-end c).Start)
 
 pub slice_bounds-write_out-end-2 : goal.slice_bounds-write_out-end-2
 slice_bounds-write_out-end-2 c =
     sym
     (length-take-le c.convert_chunk-done.result.next _
-    (shown_within c.convert_chunk-done.ensures (room c.before.before.before.before.before.before)))
+    (shown_within c.convert_chunk-done.ensures (room (goal.at.slice_bounds-write_out-end-2 c).Start)))
 
 pub returns-then-not-write_out : goal.returns-then-not-write_out
 returns-then-not-write_out c = λ e. absurd (not_both c.stopped.ensures e)
 
 pub returns : goal.returns
 returns c =
-    λ _. (lent_enough c.convert_chunk-done.ensures (room c.before.before.before.before.before.before.before.before.before)).rest
+    λ _. (lent_enough c.convert_chunk-done.ensures (room (goal.at.returns c).Start)).rest

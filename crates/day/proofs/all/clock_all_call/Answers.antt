@@ -43,12 +43,12 @@ returns-then-not-fixed_sound c =
     let lists = books_of a.main.now a.fixed.now a.blocks.now in
     ap (λ (r : MoveAnswer). clock_all_left r a.main.now a.fixed.now a.blocks.now a.trades.now) c.move_refused-then-not-fixed_sound.ensures
     ∙ move_refused_lem a.d a.time a.main.now a.fixed.now a.blocks.now a.trades.now
-    (move_unsound a.d a.time lists (length a.trades.now) (line_unsound a.d lists (day_told c.before.before.before) (fixed_told a.d _ c.fixed_sound.ensures (not-true _ c.if-not-fixed_sound.true-raw))))
+    (move_unsound a.d a.time lists (length a.trades.now) (line_unsound a.d lists (day_told (goal.at.returns-then-not-fixed_sound c).Else-not-is_sound) (fixed_told a.d _ c.fixed_sound.ensures (not-true _ c.if-not-fixed_sound.true-raw))))
     (eqb-false 15 0 refl)
 
 pub blocks_sound-requires : goal.blocks_sound-requires
 blocks_sound-requires c =
-    let e = day_sound c.before.before in
+    let e = day_sound (goal.at.blocks_sound-requires c).Else-not-is_sound in
     record { close_value = close_priced c.args.d _ e; d_value = blocks_fit_lem c.args.d _ e }
 
 pub returns-then-not-blocks_sound : goal.returns-then-not-blocks_sound
@@ -57,9 +57,9 @@ returns-then-not-blocks_sound c =
     let lists = books_of a.main.now a.fixed.now a.blocks.now in
     ap (λ (r : MoveAnswer). clock_all_left r a.main.now a.fixed.now a.blocks.now a.trades.now) c.move_refused-then-not-blocks_sound.ensures
     ∙ move_refused_lem a.d a.time a.main.now a.fixed.now a.blocks.now a.trades.now
-    (move_unsound a.d a.time lists (length a.trades.now) (held_unsound a.d lists (day_told c.before.before.before.before.before) (line-told c.before.before.before) (blocks_told a.d _ c.blocks_sound.ensures (not-true _ c.if-not-blocks_sound.true-raw))))
+    (move_unsound a.d a.time lists (length a.trades.now) (held_unsound a.d lists (day_told (goal.at.returns-then-not-blocks_sound c).Else-not-is_sound) (line-told (goal.at.returns-then-not-blocks_sound c).Else-not-fixed_sound) (blocks_told a.d _ c.blocks_sound.ensures (not-true _ c.if-not-blocks_sound.true-raw))))
     (eqb-false 15 0 refl)
 
 pub clock_all_sound-requires : goal.clock_all_sound-requires
 clock_all_sound-requires c =
-    record { main_value = day_told c.before.before.before.before.before.before.before.before; fixed_value = line-told c.before.before.before.before.before.before; blocks_value = blocks_told c.args.d _ c.blocks_sound.ensures (not-false _ c.if-not-blocks_sound.false-raw) }
+    record { main_value = day_told (goal.at.clock_all_sound-requires c).Else-not-is_sound; fixed_value = line-told (goal.at.clock_all_sound-requires c).Else-not-fixed_sound; blocks_value = blocks_told c.args.d _ c.blocks_sound.ensures (not-false _ c.if-not-blocks_sound.false-raw) }

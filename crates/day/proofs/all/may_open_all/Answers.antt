@@ -27,28 +27,28 @@ returns-then-not-is_price c =
 pub returns-then-mark-gt1 : goal.returns-then-mark-gt1
 returns-then-mark-gt1 c =
     let a = c.args in
-    all_unmarked a.close a.mark a.main.now a.fixed.now a.blocks.now (priced c.before) c.if-mark-gt1.true
+    all_unmarked a.close a.mark a.main.now a.fixed.now a.blocks.now (priced (goal.at.returns-then-mark-gt1 c).Else-not-is_price) c.if-mark-gt1.true
 
 pub returns-then-not-has_places : goal.returns-then-not-has_places
 returns-then-not-has_places c =
     let a = c.args in
-    all_no_book a.close a.mark a.main.now a.fixed.now a.blocks.now (priced c.before.before.before) c.if-mark-gt1.false
+    all_no_book a.close a.mark a.main.now a.fixed.now a.blocks.now (priced (goal.at.returns-then-not-has_places c).Else-not-is_price) c.if-mark-gt1.false
     (sym c.has_places.ensures ∙ not-true _ c.if-not-has_places.true-raw)
 
 pub returns-then-not-has_places-2 : goal.returns-then-not-has_places-2
 returns-then-not-has_places-2 c =
     let a = c.args in
-    all_no_line a.close a.mark a.main.now a.fixed.now a.blocks.now (priced c.before.before.before.before.before) c.if-mark-gt1.false (booked c.before.before)
+    all_no_line a.close a.mark a.main.now a.fixed.now a.blocks.now (priced (goal.at.returns-then-not-has_places-2 c).Else-not-is_price) c.if-mark-gt1.false (booked (goal.at.returns-then-not-has_places-2 c).Else-not-has_places)
     (sym c.has_places-2.ensures ∙ not-true _ c.if-not-has_places-2.true-raw)
 
 pub returns-then-blocks-ge1 : goal.returns-then-blocks-ge1
 returns-then-blocks-ge1 c =
     let a = c.args in
-    all_places a.close a.mark a.main.now a.fixed.now a.blocks.now (priced c.before.before.before.before.before.before) c.if-mark-gt1.false (booked c.before.before.before) (lined c.before)
+    all_places a.close a.mark a.main.now a.fixed.now a.blocks.now (priced (goal.at.returns-then-blocks-ge1 c).Else-not-is_price) c.if-mark-gt1.false (booked (goal.at.returns-then-blocks-ge1 c).Else-not-has_places) (lined (goal.at.returns-then-blocks-ge1 c).Else-not-has_places-2)
     (all_enough a.close a.mark a.main.now a.fixed.now a.blocks.now c.if-blocks-ge1.true)
 
 pub returns-else-blocks-ge1 : goal.returns-else-blocks-ge1
 returns-else-blocks-ge1 c =
     let a = c.args in
-    all_places a.close a.mark a.main.now a.fixed.now a.blocks.now (priced c.before.before.before.before.before.before) c.if-mark-gt1.false (booked c.before.before.before) (lined c.before)
+    all_places a.close a.mark a.main.now a.fixed.now a.blocks.now (priced (goal.at.returns-else-blocks-ge1 c).Else-not-is_price) c.if-mark-gt1.false (booked (goal.at.returns-else-blocks-ge1 c).Else-not-has_places) (lined (goal.at.returns-else-blocks-ge1 c).Else-not-has_places-2)
     (all_too_few a.close a.mark a.main.now a.fixed.now a.blocks.now c.if-blocks-ge1.false)

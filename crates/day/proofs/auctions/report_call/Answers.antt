@@ -16,10 +16,10 @@ sound : (c : Else-not-is_sound) → Ready c.args.d (book_of c.args.rows.now)
 sound c = ready _ _ c.is_sound.ensures (not-false _ c.if-not-is_sound.false-raw)
 
 pub auction_price-price-requires : goal.auction_price-price-requires
-auction_price-price-requires c = (sound c.before).ranked
+auction_price-price-requires c = (sound (goal.at.auction_price-price-requires c).Else-not-is_sound).ranked
 
 pub report_at-requires : goal.report_at-requires
-report_at-requires c = (sound c.before.before).ranked
+report_at-requires c = (sound (goal.at.report_at-requires c).Else-not-is_sound).ranked
 
 pub returns : goal.returns
 returns c =

@@ -17,7 +17,7 @@ numbers c =
     c.if-is_price.branch
 
 pub returns-then-mark-le1 : goal.returns-then-mark-le1
-returns-then-mark-le1 c = and_yes _ (sym (numbers c.before.before) ∙ c.if-mark-le1.true-raw) c.has_places.ensures
+returns-then-mark-le1 c = and_yes _ (sym (numbers (goal.at.returns-then-mark-le1 c).Joined-is_price) ∙ c.if-mark-le1.true-raw) c.has_places.ensures
 
 pub returns-else-mark-le1 : goal.returns-else-mark-le1
-returns-else-mark-le1 c = c.if-mark-le1.false-raw ∙ and_no _ (sym (numbers c.before) ∙ c.if-mark-le1.false-raw)
+returns-else-mark-le1 c = c.if-mark-le1.false-raw ∙ and_no _ (sym (numbers (goal.at.returns-else-mark-le1 c).Joined-is_price) ∙ c.if-mark-le1.false-raw)

@@ -46,7 +46,7 @@ pub returns-then-time-gt-LAST_SECOND : goal.returns-then-time-gt-LAST_SECOND
 returns-then-time-gt-LAST_SECOND c =
     let a = c.args in
     ap (λ (r : MoveAnswer). clock_all_left r a.main.now a.fixed.now a.blocks.now a.trades.now) c.move_refused.ensures
-    ∙ move_refused_lem a.d a.time a.main.now a.fixed.now a.blocks.now a.trades.now (untimely c.before) (eqb-false 1 0 refl)
+    ∙ move_refused_lem a.d a.time a.main.now a.fixed.now a.blocks.now a.trades.now (untimely (goal.at.returns-then-time-gt-LAST_SECOND c).Joined-then-time-gt-LAST_SECOND) (eqb-false 1 0 refl)
 
 pub lacks_places-requires : goal.lacks_places-requires
 lacks_places-requires c =
@@ -58,17 +58,17 @@ returns-then-lacks_places c =
     let a = c.args in
     ap (λ (r : MoveAnswer). clock_all_left r a.main.now a.fixed.now a.blocks.now a.trades.now) c.move_refused-then-lacks_places.ensures
     ∙ move_refused_lem a.d a.time a.main.now a.fixed.now a.blocks.now a.trades.now
-    (move_list a.d a.time (books_of a.main.now a.fixed.now a.blocks.now) (length a.trades.now) (sound c.before.before.before.before.before.before) c.if-time-gt-LAST_SECOND.false c.if-time-d.false-raw
+    (move_list a.d a.time (books_of a.main.now a.fixed.now a.blocks.now) (length a.trades.now) (sound (goal.at.returns-then-lacks_places c).Start) c.if-time-gt-LAST_SECOND.false c.if-time-d.false-raw
     (sym c.lacks_places.ensures ∙ c.if-lacks_places.true))
     (eqb-false 13 0 refl)
 
 pub move_lists-requires : goal.move_lists-requires
 move_lists-requires c =
-    record { movable = movable c.before.before.before.before.before.before; blocks_in_bounds = ltb-false _ _ (sym c.lacks_places.ensures ∙ c.if-lacks_places.false) }
+    record { movable = movable (goal.at.move_lists-requires c).Else-time-d; blocks_in_bounds = ltb-false _ _ (sym c.lacks_places.ensures ∙ c.if-lacks_places.false) }
 
 pub returns : goal.returns
 returns c =
     let a = c.args in
     c.move_lists.ensures
-    (move_none a.d a.time (books_of a.main.now a.fixed.now a.blocks.now) (length a.trades.now) (sound c.before.before.before.before.before.before.before.before.before.before.before.before.before.before) c.if-time-gt-LAST_SECOND.false c.if-time-d.false-raw
+    (move_none a.d a.time (books_of a.main.now a.fixed.now a.blocks.now) (length a.trades.now) (sound (goal.at.returns c).Start) c.if-time-gt-LAST_SECOND.false c.if-time-d.false-raw
     (sym c.lacks_places.ensures ∙ c.if-lacks_places.false))

@@ -12,7 +12,7 @@ returns-then-b-at-eq2 c =
 
 pub returns-then-b-at-eq3 : goal.returns-then-b-at-eq3
 returns-then-b-at-eq3 c =
-    tells_order _ _ c.requires c.number_at.ensures c.number_at-second.ensures c.if-b-at-eq1.false c.if-b-at-eq2.false c.if-b-at-eq3.true
+    tells_order _ _ c.requires c.number_at-first.ensures c.number_at-second.ensures c.if-b-at-eq1.false c.if-b-at-eq2.false c.if-b-at-eq3.true
     c.byte_at.ensures c.byte_at-then-b-at-eq3.ensures c.number_at.ensures c.number_at-then-b-at-eq3.ensures
 
 pub returns : goal.returns

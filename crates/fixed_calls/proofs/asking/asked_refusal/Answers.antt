@@ -34,12 +34,12 @@ price c = sym c.is_price.ensures ∙ not-false _ c.if-not-is_price.false-raw
 
 pub returns-then-not-is_quantity : goal.returns-then-not-is_quantity
 returns-then-not-is_quantity c =
-    no_quantity c.args.d c.args.a c.if-a-gt1.false c.if-a-eq0.false (open-hours c.before.before)
+    no_quantity c.args.d c.args.a c.if-a-gt1.false c.if-a-eq0.false (open-hours (goal.at.returns-then-not-is_quantity c).Else-not-long_hours)
     (sym c.is_quantity.ensures ∙ not-true _ c.if-not-is_quantity.true-raw)
 
 pub returns-then-not-is_price : goal.returns-then-not-is_price
 returns-then-not-is_price c =
-    no_price c.args.d c.args.a c.if-a-gt1.false c.if-a-eq0.false (open-hours c.before.before.before.before) (quantity c.before.before)
+    no_price c.args.d c.args.a c.if-a-gt1.false c.if-a-eq0.false (open-hours (goal.at.returns-then-not-is_price c).Else-not-long_hours) (quantity (goal.at.returns-then-not-is_price c).Else-not-is_quantity)
     (sym c.is_price.ensures ∙ not-true _ c.if-not-is_price.true-raw)
 
 pub out_of_band-requires : goal.out_of_band-requires
@@ -48,15 +48,15 @@ out_of_band-requires c =
 
 pub returns-then-out_of_band : goal.returns-then-out_of_band
 returns-then-out_of_band c =
-    outside_band c.args.d c.args.a c.if-a-gt1.false c.if-a-eq0.false (open-hours c.before.before.before.before.before.before) (quantity c.before.before.before.before) (price c.before.before)
+    outside_band c.args.d c.args.a c.if-a-gt1.false c.if-a-eq0.false (open-hours (goal.at.returns-then-out_of_band c).Else-not-long_hours) (quantity (goal.at.returns-then-out_of_band c).Else-not-is_quantity) (price (goal.at.returns-then-out_of_band c).Else-not-is_price)
     (sym c.out_of_band.ensures ∙ c.if-out_of_band.true)
 
 pub returns-then-misses_close : goal.returns-then-misses_close
 returns-then-misses_close c =
-    misses c.args.d c.args.a c.if-a-gt1.false c.if-a-eq0.false (open-hours c.before.before.before.before.before.before.before.before) (quantity c.before.before.before.before.before.before) (price c.before.before.before.before)
+    misses c.args.d c.args.a c.if-a-gt1.false c.if-a-eq0.false (open-hours (goal.at.returns-then-misses_close c).Else-not-long_hours) (quantity (goal.at.returns-then-misses_close c).Else-not-is_quantity) (price (goal.at.returns-then-misses_close c).Else-not-is_price)
     (sym c.out_of_band.ensures ∙ c.if-out_of_band.false) (sym c.misses_close.ensures ∙ c.if-misses_close.true)
 
 pub returns : goal.returns
 returns c =
-    none_asked c.args.d c.args.a c.if-a-gt1.false c.if-a-eq0.false (open-hours c.before.before.before.before.before.before.before.before) (quantity c.before.before.before.before.before.before) (price c.before.before.before.before)
+    none_asked c.args.d c.args.a c.if-a-gt1.false c.if-a-eq0.false (open-hours (goal.at.returns c).Else-not-long_hours) (quantity (goal.at.returns c).Else-not-is_quantity) (price (goal.at.returns c).Else-not-is_price)
     (sym c.out_of_band.ensures ∙ c.if-out_of_band.false) (sym c.misses_close.ensures ∙ c.if-misses_close.false)

@@ -30,4 +30,4 @@ put_level-requires c =
 
 pub returns : goal.returns
 returns c =
-    put_five c.args.letter c.args.ls c.put_level.ensures c.put_level-q.ensures c.put_level-r.ensures c.put_level-s.ensures c.put_level.ensures
+    put_five c.args.letter c.args.ls c.put_level-p.ensures c.put_level-q.ensures c.put_level-r.ensures c.put_level-s.ensures c.put_level.ensures

@@ -15,4 +15,4 @@ put_levels-requires c =
 
 pub returns : goal.returns
 returns c =
-    put_parts c.args.s c.put_figures-p.ensures c.put_levels.ensures c.put_levels.ensures
+    put_parts c.args.s c.put_figures-p.ensures c.put_levels-q.ensures c.put_levels.ensures

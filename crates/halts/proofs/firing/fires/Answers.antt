@@ -31,9 +31,9 @@ not_thirty c =
 pub returns-then-day-eq0-2 : goal.returns-then-day-eq0-2
 returns-then-day-eq0-2 c =
     let a = c.args in
-    fires_sixty a.day (trades_of (take a.n a.trades.now)) c.if-day-ne0.false (not_thirty c.before.before.before) c.if-day-eq0-2.true c.reaches-then-day-eq0-2.ensures
+    fires_sixty a.day (trades_of (take a.n a.trades.now)) c.if-day-ne0.false (not_thirty (goal.at.returns-then-day-eq0-2 c).Joined-else-day-eq0) c.if-day-eq0-2.true c.reaches-then-day-eq0-2.ensures
 
 pub returns-else-day-eq0-2 : goal.returns-else-day-eq0-2
 returns-else-day-eq0-2 c =
     let a = c.args in
-    fires_none a.day (trades_of (take a.n a.trades.now)) c.if-day-ne0.false (not_thirty c.before.before) c.if-day-eq0-2.false
+    fires_none a.day (trades_of (take a.n a.trades.now)) c.if-day-ne0.false (not_thirty (goal.at.returns-else-day-eq0-2 c).Joined-else-day-eq0) c.if-day-eq0-2.false

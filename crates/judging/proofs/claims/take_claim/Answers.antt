@@ -13,7 +13,7 @@ long c = c.requires.slate_len ∙ sym (length-map c.args.rows.now order_of)
 
 pub returns-then-c-eq0 : goal.returns-then-c-eq0
 returns-then-c-eq0 c =
-    no_shares (book_of c.args.rows.now) c.requires.standing c.args.c c.args.slate.now (long c.before.before.before.before.before) c.if-c-eq0.true
+    no_shares (book_of c.args.rows.now) c.requires.standing c.args.c c.args.slate.now (long (goal.at.returns-then-c-eq0 c).Start) c.if-c-eq0.true
 
 pub may_fill-requires : goal.may_fill-requires
 may_fill-requires c =
@@ -21,7 +21,7 @@ may_fill-requires c =
 
 pub returns-then-not-may_fill : goal.returns-then-not-may_fill
 returns-then-not-may_fill c =
-    no_buyer (book_of c.args.rows.now) c.requires.standing c.args.c c.args.slate.now (long c.before.before.before.before.before.before.before.before) c.place_by-buyer.ensures c.may_fill.ensures c.if-not-may_fill.true-raw
+    no_buyer (book_of c.args.rows.now) c.requires.standing c.args.c c.args.slate.now (long (goal.at.returns-then-not-may_fill c).Start) c.place_by-buyer.ensures c.may_fill.ensures c.if-not-may_fill.true-raw
 
 pub may_fill-requires-2 : goal.may_fill-requires-2
 may_fill-requires-2 c =
@@ -29,19 +29,19 @@ may_fill-requires-2 c =
 
 pub returns-then-not-may_fill-2 : goal.returns-then-not-may_fill-2
 returns-then-not-may_fill-2 c =
-    no_seller (book_of c.args.rows.now) c.requires.standing c.args.c c.args.slate.now (long c.before.before.before.before.before.before.before.before.before.before.before) c.place_by-buyer.ensures c.place_by-seller.ensures c.may_fill-2.ensures c.if-not-may_fill-2.true-raw
+    no_seller (book_of c.args.rows.now) c.requires.standing c.args.c c.args.slate.now (long (goal.at.returns-then-not-may_fill-2 c).Start) c.place_by-buyer.ensures c.place_by-seller.ensures c.may_fill-2.ensures c.if-not-may_fill-2.true-raw
 
 pub take_off-requires : goal.take_off-requires
 take_off-requires c =
-    buyer_fills (book_of c.args.rows.now) c.requires.standing c.args.c c.args.slate.now (long c.before.before.before.before.before.before.before.before.before.before.before.before) c.place_by-buyer.ensures c.place_by-seller.ensures
+    buyer_fills (book_of c.args.rows.now) c.requires.standing c.args.c c.args.slate.now (long (goal.at.take_off-requires c).Start) c.place_by-buyer.ensures c.place_by-seller.ensures
     c.may_fill.ensures c.if-not-may_fill.false-raw c.may_fill-2.ensures c.if-not-may_fill-2.false-raw
 
 pub take_off-requires-2 : goal.take_off-requires-2
 take_off-requires-2 c =
-    seller_fills (book_of c.args.rows.now) c.requires.standing c.args.c c.args.slate.now (long c.before.before.before.before.before.before.before.before.before.before.before.before.before.before.before.before) c.place_by-buyer.ensures c.place_by-seller.ensures
+    seller_fills (book_of c.args.rows.now) c.requires.standing c.args.c c.args.slate.now (long (goal.at.take_off-requires-2 c).Start) c.place_by-buyer.ensures c.place_by-seller.ensures
     c.may_fill.ensures c.if-not-may_fill.false-raw c.may_fill-2.ensures c.if-not-may_fill-2.false-raw c.if-c-eq0.false c.take_off.ensures
 
 pub returns : goal.returns
 returns c =
-    came_off (book_of c.args.rows.now) c.requires.standing c.args.c c.args.slate.now (long c.before.before.before.before.before.before.before.before.before.before.before.before.before.before.before.before.before.before.before) c.place_by-buyer.ensures c.place_by-seller.ensures
+    came_off (book_of c.args.rows.now) c.requires.standing c.args.c c.args.slate.now (long (goal.at.returns c).Start) c.place_by-buyer.ensures c.place_by-seller.ensures
     c.may_fill.ensures c.if-not-may_fill.false-raw c.may_fill-2.ensures c.if-not-may_fill-2.false-raw c.if-c-eq0.false c.take_off.ensures c.take_off-2.ensures

@@ -86,7 +86,7 @@ prices-init c =
     let a = c.args in (
       here a.t a.most,
       first_price_lem a.t a.most a.quantity a.rows.now a.trades.now c.requires.stands
-          c.nothing_yet-s.ensures (all_of c.before),
+          c.nothing_yet-s.ensures (all_of (goal.at.prices-init c).After-places_of-line),
     )
 
 pub order_at-best-requires : goal.order_at-best-requires
@@ -109,7 +109,7 @@ prices-smaller-in-orders c =
 
 pub prices-preserved-in-orders : goal.prices-preserved-in-orders
 prices-preserved-in-orders c =
-    (so_far c.before, no_next _ (line_end _ _ _ c.orders-test.false))
+    (so_far (goal.at.prices-preserved-in-orders c).At-orders, no_next _ (line_end _ _ _ c.orders-test.false))
 
 pub order_at-order-requires : goal.order_at-order-requires
 order_at-order-requires c =
@@ -122,13 +122,13 @@ prices-smaller c =
 
 pub prices-preserved : goal.prices-preserved
 prices-preserved c =
-    (so_far c.before.before.before.before, next_new _ _ (next_of c.before.before) c.orders.invariant.2 (λ z. omega (arith, c.if-order-price.true)))
+    (so_far (goal.at.prices-preserved c).At-orders, next_new _ _ (next_of (goal.at.prices-preserved c).After-order_at-order) c.orders.invariant.2 (λ z. omega (arith, c.if-order-price.true)))
 
 pub with_trade-s-requires : goal.with_trade-s-requires
 with_trade-s-requires c =
     let a = c.args in
     let all = c.places_of-line in
-    one_more a.t a.most _ _ _ (next_of c.before.before.before.before.before.before.before.before) c.trade_with-trade.ensures (so_far c.before.before.before.before.before.before.before.before.before.before)
+    one_more a.t a.most _ _ _ (next_of (goal.at.with_trade-s-requires c).After-order_at-order) c.trade_with-trade.ensures (so_far (goal.at.with_trade-s-requires c).At-orders)
     c.nothing_yet-s.ensures
     (omega (
       arith,
@@ -164,7 +164,7 @@ orders-preserved c =
     let kept = trade_last _ _ _ c.with_trade-s.ensures in
     let wanted = ap (wants _ _) at_price ∙ sym c.wants-in-orders.ensures ∙ not-false _ c.if-not-wants-2.false-raw in (
       then a.t a.most c.orders.invariant.0
-          (trade_made a.t a.most _ _ _ (next_of c.before.before.before.before.before.before.before.before.before.before)
+          (trade_made a.t a.most _ _ _ (next_of (goal.at.orders-preserved c).After-order_at-order)
           (at_price ∙ sym c.orders.invariant.2)
           c.trade_with-trade.ensures wanted c.put_trade.ensures
           c.with_trade-s.ensures),
@@ -179,7 +179,7 @@ shape_of-trades-after-prices c =
 pub returns-after-prices : goal.returns-after-prices
 returns-after-prices c =
     let a = c.args in
-    ended c.before c.prices.invariant.0
+    ended (goal.at.returns-after-prices c).At-prices c.prices.invariant.0
     (nobody a.t a.most c.prices.s c.prices.left a.trades.now
     (line_end _ _ _ c.prices-test.false))
 
@@ -190,9 +190,9 @@ shape_of-trades-then-most-s c =
 pub returns-then-most-s : goal.returns-then-most-s
 returns-then-most-s c =
     let a = c.args in
-    ended c.before.before.before.before c.prices.invariant.0
+    ended (goal.at.returns-then-most-s c).At-prices c.prices.invariant.0
     (no_price a.t a.most c.prices.s c.prices.left a.trades.now
-    (first_of_lem c.before.before) c.prices.invariant.1 c.if-most-s.true)
+    (first_of_lem (goal.at.returns-then-most-s c).After-order_at-best) c.prices.invariant.1 c.if-most-s.true)
 
 pub shape_of-trades-then-not-wants : goal.shape_of-trades-then-not-wants
 shape_of-trades-then-not-wants c =
@@ -201,9 +201,9 @@ shape_of-trades-then-not-wants c =
 pub returns-then-not-wants : goal.returns-then-not-wants
 returns-then-not-wants c =
     let a = c.args in
-    ended c.before.before.before.before.before.before c.prices.invariant.0
+    ended (goal.at.returns-then-not-wants c).At-prices c.prices.invariant.0
     (spent_new a.t a.most c.prices.s c.prices.left a.trades.now
-    (first_of_lem c.before.before.before.before) c.prices.invariant.1 c.if-most-s.false
+    (first_of_lem (goal.at.returns-then-not-wants c).After-order_at-best) c.prices.invariant.1 c.if-most-s.false
     (sym c.wants.ensures ∙ not-true _ c.if-not-wants.true-raw))
 
 pub shape_of-trades-then-not-wants-2 : goal.shape_of-trades-then-not-wants-2
@@ -215,6 +215,6 @@ returns-then-not-wants-2 c =
     let a = c.args in
     let at_price = c.if-order-price.false in
     let spent = ap (wants _ _) at_price ∙ sym c.wants-in-orders.ensures ∙ not-true _ c.if-not-wants-2.true-raw in
-    ended c.before.before.before.before.before.before.before.before.before.before.before.before.before.before (so_far c.before.before.before.before.before.before)
+    ended (goal.at.returns-then-not-wants-2 c).At-prices (so_far (goal.at.returns-then-not-wants-2 c).At-orders)
     (spent_same a.t a.most c.orders.s c.orders.left a.trades.now
-    (next_of c.before.before.before.before) (at_price ∙ sym c.orders.invariant.2) spent)
+    (next_of (goal.at.returns-then-not-wants-2 c).After-order_at-order) (at_price ∙ sym c.orders.invariant.2) spent)

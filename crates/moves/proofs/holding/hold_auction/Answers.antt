@@ -18,21 +18,19 @@ made : (e : After-auction_trades-dealt) â†’ e.auction_trades-dealt.result.made â
 made e = made_of e.args.d (book_of e.args.rows.now) e.auction_trades-dealt.ensures.value
 
 pub auction_trades-dealt-requires : goal.auction_trades-dealt-requires
-auction_trades-dealt-requires c = in_order c.before
+auction_trades-dealt-requires c = in_order (goal.at.auction_trades-dealt-requires c).Start
 
 pub settle_auction-requires : goal.settle_auction-requires
-settle_auction-requires c = in_order (began c.before.before)
+settle_auction-requires c = in_order (began (goal.at.settle_auction-requires c).After-auction_trades-dealt)
 
 pub tally_trades-requires : goal.tally_trades-requires
-tally_trades-requires c = (
-  omega (arith, made c.before.before.before.before, c.requires.rows_in_bounds, c.auction_trades-dealt.auto.trades),
-  held_fits c.args.d c.args.rows.now c.args.trades.now c.requires.rows_in_bounds (made c.before.before.before.before) c.auction_trades-dealt.ensures.trades_after c.auction_trades-dealt.auto.trades
-      c.requires.underway,
-)
+tally_trades-requires c = let rest = held_fits c.args.d c.args.rows.now c.args.trades.now c.requires.rows_in_bounds (made (goal.at.tally_trades-requires c).After-auction_trades-dealt) c.auction_trades-dealt.ensures.trades_after c.auction_trades-dealt.auto.trades
+    c.requires.underway in
+    record { n_in_bounds = omega (arith, made (goal.at.tally_trades-requires c).After-auction_trades-dealt, c.requires.rows_in_bounds, c.auction_trades-dealt.auto.trades); trades_bound = rest.0; trades_bound_2 = rest.1 }
 
 pub returns : goal.returns
 returns c =
     let a = c.args in
-    held a.d a.rows.now a.trades.now c.requires.rows_in_bounds (made c.before.before.before.before.before) c.auction_trades-dealt.ensures.trades_after c.auction_trades-dealt.auto.trades
+    held a.d a.rows.now a.trades.now c.requires.rows_in_bounds (made (goal.at.returns c).After-auction_trades-dealt) c.auction_trades-dealt.ensures.trades_after c.auction_trades-dealt.auto.trades
     c.tally_trades.ensures
-    (auction_settled a.d a.rows.now (in_order c.before.before.before.before.before.before.before).stands c.auction_trades-dealt.ensures.value c.settle_auction.ensures.by_index)
+    (auction_settled a.d a.rows.now (in_order (goal.at.returns c).Start).stands c.auction_trades-dealt.ensures.value c.settle_auction.ensures.by_index)

@@ -25,7 +25,7 @@ pub returns-then-time-gt-LAST_SECOND : goal.returns-then-time-gt-LAST_SECOND
 returns-then-time-gt-LAST_SECOND c =
     let a = c.args in
     ap (λ (r : ClockAnswer). call_left r a.rows.now a.trades.now) c.clock_refused.ensures
-    ∙ clock_refused_lem a.d a.time a.rows.now a.trades.now (untimely c.before) (eqb-false 1 0 refl)
+    ∙ clock_refused_lem a.d a.time a.rows.now a.trades.now (untimely (goal.at.returns-then-time-gt-LAST_SECOND c).Joined-then-time-gt-LAST_SECOND) (eqb-false 1 0 refl)
 
 pub lacks_places-requires : goal.lacks_places-requires
 lacks_places-requires c =
@@ -49,7 +49,7 @@ none c =
 
 pub pass_stops-passage-requires : goal.pass_stops-passage-requires
 pass_stops-passage-requires c =
-    let a = c.args in record { ready = ready_if a.d (book_of a.rows.now) c.requires; time_le_time = ltb-false a.time a.d.time c.if-time-d.false-raw; time_bound = c.if-time-gt-LAST_SECOND.false; rows_in_bounds = move_fits a.d a.time (book_of a.rows.now) (length a.trades.now) (none c.before.before) refl }
+    let a = c.args in record { ready = ready_if a.d (book_of a.rows.now) c.requires; time_le_time = ltb-false a.time a.d.time c.if-time-d.false-raw; time_bound = c.if-time-gt-LAST_SECOND.false; rows_in_bounds = move_fits a.d a.time (book_of a.rows.now) (length a.trades.now) (none (goal.at.pass_stops-passage-requires c).Else-lacks_places) refl }
 
 pub phase_now-requires : goal.phase_now-requires
 phase_now-requires c =
@@ -66,7 +66,7 @@ update_screen-requires c =
 pub returns : goal.returns
 returns c =
     let a = c.args in
-    clock_accepted a.d a.time a.rows.now a.trades.now (none c.before.before.before.before.before.before.before.before.before.before) c.pass_stops-passage.result
+    clock_accepted a.d a.time a.rows.now a.trades.now (none (goal.at.returns c).Else-lacks_places) c.pass_stops-passage.result
     c.pass_stops-passage.new.rows
     c.pass_stops-passage.new.trades
     refl

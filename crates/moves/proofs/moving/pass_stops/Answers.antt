@@ -28,19 +28,19 @@ pub pass_next-p-requires : goal.pass_next-p-requires
 pass_next-p-requires c =
     let a = c.args in
     let v = c.loop-stop.invariant in
-    let r = v.1.1.1.1.1 in record { made_in_bounds = r.within; underway = at_underway a.d a.rows.now a.trades.now c.loop-stop.from r c.requires.ready; second_bound = omega (arith, (found c.before.before).1, c.requires.time_bound); second_value = (found c.before.before).2; trades_in_bounds = at_fits a.d a.rows.now a.trades.now c.loop-stop.from r a.time v.0 v.1.1.1.1.0 c.loop-stop-test.true c.requires.rows_in_bounds v.1.1.1.0 }
+    let r = v.1.1.1.1.1 in record { made_in_bounds = r.within; underway = at_underway a.d a.rows.now a.trades.now c.loop-stop.from r c.requires.ready; second_bound = omega (arith, (found (goal.at.pass_next-p-requires c).In-loop-stop).1, c.requires.time_bound); second_value = (found (goal.at.pass_next-p-requires c).In-loop-stop).2; trades_in_bounds = at_fits a.d a.rows.now a.trades.now c.loop-stop.from r a.time v.0 v.1.1.1.1.0 c.loop-stop-test.true c.requires.rows_in_bounds v.1.1.1.0 }
 
 pub loop-stop-smaller : goal.loop-stop-smaller
 loop-stop-smaller c =
-    omega (arith, (found c.before.before.before.before.before.before.before).0, (found c.before.before.before.before.before.before.before).1)
+    omega (arith, (found (goal.at.loop-stop-smaller c).In-loop-stop).0, (found (goal.at.loop-stop-smaller c).In-loop-stop).1)
 
 pub loop-stop-preserved : goal.loop-stop-preserved
 loop-stop-preserved c =
     let a = c.args in
     let v = c.loop-stop.invariant in (
-      omega (arith, (found c.before.before.before.before.before.before.before).0, v.0),
+      omega (arith, (found (goal.at.loop-stop-preserved c).In-loop-stop).0, v.0),
       (
-        (found c.before.before.before.before.before.before.before).1,
+        (found (goal.at.loop-stop-preserved c).In-loop-stop).1,
         (
           c.pass_next-p.auto.rows ∙ v.1.1.0,
           (

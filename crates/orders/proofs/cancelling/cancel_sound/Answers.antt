@@ -35,7 +35,7 @@ returns-then-rows-place c =
     let a = c.args in
     ap (λ (r : CancelAnswer). cancel_left r a.rows.now) c.cancel_refused-then-rows-place.ensures
     ∙ cancel_refused_lem a.d a.account a.number a.rows.now
-    (cancel_unknown a.d a.account a.number a.rows.now c.requires (taken c.before.before) c.place_of-place.ensures c.if-rows-place.true)
+    (cancel_unknown a.d a.account a.number a.rows.now c.requires (taken (goal.at.returns-then-rows-place c).After-place_of-place) c.place_of-place.ensures c.if-rows-place.true)
     (eqb-false 12 0 refl)
 
 -- past the second no rule holds
@@ -49,20 +49,20 @@ order_at-own-requires c = c.if-rows-place.false
 
 pub take_out-requires : goal.take_out-requires
 take_out-requires c =
-    let a = c.args in record { ranked = in_order c.before.before.before.before.before.before; place_in_bounds = cancel_live a.d a.account a.number a.rows.now (none c.before.before) refl c.place_of-place.ensures (in_order c.before.before.before.before.before.before) }
+    let a = c.args in record { ranked = in_order (goal.at.take_out-requires c).Start; place_in_bounds = cancel_live a.d a.account a.number a.rows.now (none (goal.at.take_out-requires c).Else-rows-place) refl c.place_of-place.ensures (in_order (goal.at.take_out-requires c).Start) }
 
 pub day_without-requires : goal.day_without-requires
 day_without-requires c =
     let a = c.args in
-    let r = ready_if a.d (book_of a.rows.now) c.requires in record { ranked = cancel_ranked a.d a.account a.number a.rows.now (none c.before.before.before.before) refl c.place_of-place.ensures c.take_out.new.rows (in_order c.before.before.before.before.before.before.before.before) c.take_out.ensures; publishable = publishable a.d (book_of a.rows.now) r.sound r.evening }
+    let r = ready_if a.d (book_of a.rows.now) c.requires in record { ranked = cancel_ranked a.d a.account a.number a.rows.now (none (goal.at.day_without-requires c).Else-rows-place) refl c.place_of-place.ensures c.take_out.new.rows (in_order (goal.at.day_without-requires c).Start) c.take_out.ensures; publishable = publishable a.d (book_of a.rows.now) r.sound r.evening }
 
 pub returns : goal.returns
 returns c =
     let a = c.args in
-    cancel_accepted a.d a.account a.number a.rows.now (none c.before.before.before.before.before) refl
+    cancel_accepted a.d a.account a.number a.rows.now (none (goal.at.returns c).Else-rows-place) refl
     c.place_of-place.ensures
     c.take_out.new.rows
-    (in_order c.before.before.before.before.before.before.before.before.before)
+    (in_order (goal.at.returns c).Start)
     c.take_out.ensures
     c.order_at-own.ensures
     c.day_without.ensures

@@ -33,11 +33,11 @@ pub settle_entry-requires : goal.settle_entry-requires
 settle_entry-requires c = c.requires.taken.ready.ranked
 
 pub overflow_add-d : goal.overflow_add-d
-overflow_add-d c = record { fits = numbers c.before.before.before.before.before.before.before.before.before }
+overflow_add-d c = record { fits = numbers (goal.at.overflow_add-d c).After-enter_trades-s }
 
 pub join_rest-requires : goal.join_rest-requires
 join_rest-requires c =
-    let a = c.args in record { ranked = then_ranked a.d a.a a.rows.now a.trades.now c.requires.taken.fits c.enter_trades-s.ensures.value c.enter_trades-s.ensures.trades_after c.requires.taken c.settle_entry.new.rows c.settle_entry.ensures.rows_after_2; joins = then_joins a.d a.a a.rows.now a.trades.now c.requires.taken.fits c.enter_trades-s.ensures.value c.enter_trades-s.ensures.trades_after c.requires.taken c.settle_entry.new.rows c.settle_entry.ensures.rows_after_2 (rest c.before.before.before.before.before) }
+    let a = c.args in record { ranked = then_ranked a.d a.a a.rows.now a.trades.now c.requires.taken.fits c.enter_trades-s.ensures.value c.enter_trades-s.ensures.trades_after c.requires.taken c.settle_entry.new.rows c.settle_entry.ensures.rows_after_2; joins = then_joins a.d a.a a.rows.now a.trades.now c.requires.taken.fits c.enter_trades-s.ensures.value c.enter_trades-s.ensures.trades_after c.requires.taken c.settle_entry.new.rows c.settle_entry.ensures.rows_after_2 (rest (goal.at.join_rest-requires c).After-price_of_rest-p) }
 
 pub day_after-counted-requires : goal.day_after-counted-requires
 day_after-counted-requires c =
@@ -49,14 +49,14 @@ update_screen-next-requires c =
       ranked = left_ranked a.d a.a a.rows.now a.trades.now c.requires.taken.fits c.enter_trades-s.ensures.value c.enter_trades-s.ensures.trades_after c.requires.taken
           c.settle_entry.last.0 c.settle_entry.ensures.rows_after_2
           c.join_rest.new.rows
-          (rest (priced c.before.before))
+          (rest (priced (goal.at.update_screen-next-requires c).After-join_rest))
           c.join_rest.ensures;
       n_in_bounds = count_fits a.d a.a a.rows.now a.trades.now c.requires.taken.fits c.enter_trades-s.ensures.value c.enter_trades-s.ensures.trades_after c.requires.taken c.enter_trades-s.kept.1.1.0;
       publishable = then_publishable a.d a.a a.rows.now a.trades.now c.requires.taken.fits c.enter_trades-s.ensures.value c.enter_trades-s.ensures.trades_after c.requires.taken c.day_after-counted.ensures;
     }
 
 pub overflow_add-entry : goal.overflow_add-entry
-overflow_add-entry c = record { fits = numbers (traded (priced c.before.before.before.before)) }
+overflow_add-entry c = record { fits = numbers (traded (priced (goal.at.overflow_add-entry c).After-join_rest)) }
 
 pub shape_of-rows : goal.shape_of-rows
 shape_of-rows c =
@@ -71,7 +71,7 @@ returns c =
     entered_is a.d a.a a.rows.now a.trades.now c.requires.taken.fits c.enter_trades-s.ensures.value c.enter_trades-s.ensures.trades_after c.requires.taken
     c.settle_entry.last.0 c.settle_entry.ensures.rows_after_2
     c.join_rest.new.rows
-    (rest (priced c.before.before.before.before.before))
+    (rest (priced (goal.at.returns c).After-join_rest))
     c.join_rest.ensures
     c.remainder_of.ensures
     c.day_after-counted.ensures

@@ -24,7 +24,7 @@ phase_now-phase-requires c = c.row_at-row.ensures
 
 pub asked_refusal-refusal-requires : goal.asked_refusal-refusal-requires
 asked_refusal-refusal-requires c =
-    record { close_value = close_is_price _ _ (sound c.before.before); takes_value = takes_of c.args.d.time c.row_at-row.ensures; phase_value = c.phase_now-phase.ensures }
+    record { close_value = close_is_price _ _ (sound (goal.at.asked_refusal-refusal-requires c).Start); takes_value = takes_of c.args.d.time c.row_at-row.ensures; phase_value = c.phase_now-phase.ensures }
 
 pub returns-then-refusal-ne0 : goal.returns-then-refusal-ne0
 returns-then-refusal-ne0 c =
@@ -44,11 +44,11 @@ side c =
 
 pub best_price-own-requires : goal.best_price-own-requires
 best_price-own-requires c =
-    record { ranked = (sound c.before.before.before.before).ranked; side_bound = side c }
+    record { ranked = (sound (goal.at.best_price-own-requires c).Start).ranked; side_bound = side c }
 
 pub best_price-other-requires : goal.best_price-other-requires
 best_price-other-requires c =
-    record { ranked = (sound c.before.before.before.before.before.before).ranked; side_bound = other_small c.args.a.side c.other_side.ensures }
+    record { ranked = (sound (goal.at.best_price-other-requires c).Start).ranked; side_bound = other_small c.args.a.side c.other_side.ensures }
 
 pub order_with-requires : goal.order_with-requires
 order_with-requires c =

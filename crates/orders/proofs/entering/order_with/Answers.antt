@@ -44,19 +44,19 @@ returns-then-refusal-ne0 c =
     let n = c.if-refusal-ne0.true in
     ap (λ (r : OrderAnswer). call_left r a.rows.now a.trades.now) c.order_refused.ensures
     ∙ order_refused_lem a.d a.a a.rows.now a.trades.now
-    (order_earlier a.d a.a (book_of a.rows.now) (length a.trades.now) c.requires.rows_value (first c.before.before) n)
+    (order_earlier a.d a.a (book_of a.rows.now) (length a.trades.now) c.requires.rows_value (first (goal.at.returns-then-refusal-ne0 c).After-book_refusal-refusal) n)
     n
 
 pub lacks_places-requires : goal.lacks_places-requires
 lacks_places-requires c =
-    record { ranked = (sound c.before.before).ranked; phase_value = c.requires.phase_value; own_value = c.requires.own_value; other_value = c.requires.other_value; issued_bound = (sound c.before.before).sound.issued }
+    record { ranked = (sound (goal.at.lacks_places-requires c).Start).ranked; phase_value = c.requires.phase_value; own_value = c.requires.own_value; other_value = c.requires.other_value; issued_bound = (sound (goal.at.lacks_places-requires c).Start).sound.issued }
 
 pub returns-then-lacks_places : goal.returns-then-lacks_places
 returns-then-lacks_places c =
     let a = c.args in
     ap (λ (r : OrderAnswer). call_left r a.rows.now a.trades.now) c.order_refused-then-lacks_places.ensures
     ∙ order_refused_lem a.d a.a a.rows.now a.trades.now
-    (order_list a.d a.a (book_of a.rows.now) (length a.trades.now) c.requires.rows_value (first c.before.before.before.before) c.if-refusal-ne0.false
+    (order_list a.d a.a (book_of a.rows.now) (length a.trades.now) c.requires.rows_value (first (goal.at.returns-then-lacks_places c).After-book_refusal-refusal) c.if-refusal-ne0.false
     (sym c.lacks_places.ensures ∙ c.if-lacks_places.true))
     (eqb-false 13 0 refl)
 
@@ -69,9 +69,9 @@ none i =
 pub enter-requires : goal.enter-requires
 enter-requires c =
     let a = c.args in
-    (order_taken a.d a.a a.rows.now a.trades.now (none c.before.before) refl, c.requires.1.1)
+    record { taken = order_taken a.d a.a a.rows.now a.trades.now (none (goal.at.enter-requires c).Else-lacks_places) refl; phase_value = c.requires.1.1.0; own_value = c.requires.1.1.1.0; other_value = c.requires.1.1.1.1 }
 
 pub returns : goal.returns
 returns c =
     let a = c.args in
-    order_accepted a.d a.a a.rows.now a.trades.now (none c.before.before.before.before.before) refl c.enter.ensures
+    order_accepted a.d a.a a.rows.now a.trades.now (none (goal.at.returns c).Else-lacks_places) refl c.enter.ensures

@@ -34,12 +34,12 @@ pub pack_command-p-requires : goal.pack_command-p-requires
 pack_command-p-requires c =
     let i = c.loop-command.invariant in
     let s = c.requires in
-    let room = going_room _ _ _ _ _ _ _ i.3 _ _ (read c.before.before.before) s.1 s.2 s.3 s.4 in
+    let room = going_room _ _ _ _ _ _ _ i.3 _ _ (read (goal.at.pack_command-p-requires c).In-Found) s.1 s.2 s.3 s.4 in
     (i.0 ∙ s.0, omega (arith, i.1, room.0), omega (arith, i.2, room.1), room.2, room.3)
 
 pub loop-command-smaller : goal.loop-command-smaller
 loop-command-smaller c =
-    going_less _ _ _ _ _ _ _ c.loop-command.invariant.3 _ _ (read c.before.before.before.before.before.before.before.before.before.before) _ c.pack_command-p.ensures.1
+    going_less _ _ _ _ _ _ _ c.loop-command.invariant.3 _ _ (read (goal.at.loop-command-smaller c).In-Found) _ c.pack_command-p.ensures.1
 
 pub loop-command-preserved : goal.loop-command-preserved
 loop-command-preserved c =
@@ -47,5 +47,5 @@ loop-command-preserved c =
       c.pack_command-p.auto.block ∙ i.0,
       c.pack_command-p.auto.out ∙ i.1,
       c.pack_command-p.auto.said ∙ i.2,
-      going_on _ _ _ _ _ _ _ i.3 _ _ (read c.before.before.before.before.before.before.before.before.before.before) c.pack_command-p.ensures,
+      going_on _ _ _ _ _ _ _ i.3 _ _ (read (goal.at.loop-command-preserved c).In-Found) c.pack_command-p.ensures,
     )

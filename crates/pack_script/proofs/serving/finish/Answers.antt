@@ -22,13 +22,13 @@ notes-within p =
     omega (arith, w.place, end_fits_lem (record { kept = s.h.kept; long = s.h.long }) s.h.line s.h.records, put_long w, p.requires.block_len)
 
 pub slice_bounds-written-end : goal.slice_bounds-written-end
-slice_bounds-written-end c = blocks-within c.before.before.before.before.before.before.before.before
+slice_bounds-written-end c = blocks-within (goal.at.slice_bounds-written-end c).After-put_last-filed
 
 pub slice_bounds-written-end-2 : goal.slice_bounds-written-end-2
-slice_bounds-written-end-2 c = sym (length-take-le c.put_last-filed.result _ (blocks-within c.before.before.before.before.before.before.before.before))
+slice_bounds-written-end-2 c = sym (length-take-le c.put_last-filed.result _ (blocks-within (goal.at.slice_bounds-written-end-2 c).After-put_last-filed))
 
 pub slice_bounds-written-end-3 : goal.slice_bounds-written-end-3
-slice_bounds-written-end-3 c = notes-within c.before.before
+slice_bounds-written-end-3 c = notes-within (goal.at.slice_bounds-written-end-3 c).After-put_end-told
 
 pub slice_bounds-written-end-4 : goal.slice_bounds-written-end-4
-slice_bounds-written-end-4 c = sym (length-take-le c.put_end-told.result _ (notes-within c.before.before))
+slice_bounds-written-end-4 c = sym (length-take-le c.put_end-told.result _ (notes-within (goal.at.slice_bounds-written-end-4 c).After-put_end-told))

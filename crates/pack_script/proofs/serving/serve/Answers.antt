@@ -29,16 +29,16 @@ pack_lines-p-requires c =
     (c.requires.2, omega (arith, c.requires), omega (arith, c.requires), omega (arith, c.requires), omega (arith, c.requires))
 
 pub slice_bounds-written-end : goal.slice_bounds-written-end
-slice_bounds-written-end c = let w = within c.before.before.before.before.before.before in omega (arith, w.0)
+slice_bounds-written-end c = let w = within (goal.at.slice_bounds-written-end c).After-pack_lines-p in omega (arith, w.0)
 
 pub slice_bounds-written-end-2 : goal.slice_bounds-written-end-2
-slice_bounds-written-end-2 c = sym (length-take-le c.pack_lines-p.result.filed _ (within c.before.before.before.before.before.before).0)
+slice_bounds-written-end-2 c = sym (length-take-le c.pack_lines-p.result.filed _ (within (goal.at.slice_bounds-written-end-2 c).After-pack_lines-p).0)
 
 pub slice_bounds-written-end-3 : goal.slice_bounds-written-end-3
-slice_bounds-written-end-3 c = let w = within c.before.before.before.before.before.before in omega (arith, w.1)
+slice_bounds-written-end-3 c = let w = within (goal.at.slice_bounds-written-end-3 c).After-pack_lines-p in omega (arith, w.1)
 
 pub slice_bounds-written-end-4 : goal.slice_bounds-written-end-4
-slice_bounds-written-end-4 c = sym (length-take-le c.pack_lines-p.result.told _ (within c.before.before.before.before.before.before).1)
+slice_bounds-written-end-4 c = sym (length-take-le c.pack_lines-p.result.told _ (within (goal.at.slice_bounds-written-end-4 c).After-pack_lines-p).1)
 
 pub returns-then-not-written : goal.returns-then-not-written
 returns-then-not-written c = λ e. absurd (not_both c.stopped.ensures e)

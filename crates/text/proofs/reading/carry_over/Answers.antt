@@ -20,9 +20,9 @@ pub returns-then-long : goal.returns-then-long
 returns-then-long c =
     ⊎_elim
     (λ w. carried_long _ _ _ _ w.taken refl)
-    (λ w. carried_grown _ _ _ _ w.0.left (omega (arith, tail-long c.before.before, ltb-true 79 (c.args.end - c.args.start) w.1.taken)) refl)
+    (λ w. carried_grown _ _ _ _ w.0.left (omega (arith, tail-long (goal.at.returns-then-long c).Start, ltb-true 79 (c.args.end - c.args.start) w.1.taken)) refl)
     c.then-long.branch
 
 pub returns : goal.returns
 returns c =
-    carried_whole _ _ _ _ _ c.if-long.false (sym (tail-long c.before.before.before.before.before.before.before)) (ltb-false 79 (c.args.end - c.args.start) c.if-rest-gt-LONGEST_LINE.false-raw) c.to_front.ensures
+    carried_whole _ _ _ _ _ c.if-long.false (sym (tail-long (goal.at.returns c).Start)) (ltb-false 79 (c.args.end - c.args.start) c.if-rest-gt-LONGEST_LINE.false-raw) c.to_front.ensures

@@ -21,17 +21,17 @@ pub overflow_add-place : goal.overflow_add-place
 overflow_add-place c = omega (arith, found c)
 
 pub returns-then-long : goal.returns-then-long
-returns-then-long c = asks_long _ _ (found c.before) _ c.if-long.true
+returns-then-long c = asks_long _ _ (found (goal.at.returns-then-long c).In-Found) _ c.if-long.true
 
 pub slice_bounds-command_of-count : goal.slice_bounds-command_of-count
-slice_bounds-command_of-count c = omega (arith, found c.before)
+slice_bounds-command_of-count c = omega (arith, found (goal.at.slice_bounds-command_of-count c).In-Found)
 
 pub slice_bounds-command_of-start : goal.slice_bounds-command_of-start
-slice_bounds-command_of-start c = omega (arith, found c.before)
+slice_bounds-command_of-start c = omega (arith, found (goal.at.slice_bounds-command_of-start c).In-Found)
 
 pub slice_bounds-command_of-end : goal.slice_bounds-command_of-end
-slice_bounds-command_of-end c = omega (arith, found c.before)
+slice_bounds-command_of-end c = omega (arith, found (goal.at.slice_bounds-command_of-end c).In-Found)
 
 pub returns : goal.returns
 returns c =
-    asks_line _ _ (found c.before.before.before) _ c.if-long.false _ c.command_of-command.ensures
+    asks_line _ _ (found (goal.at.returns c).In-Found) _ c.if-long.false _ c.command_of-command.ensures

@@ -20,7 +20,7 @@ pub slice_bounds-written-end : goal.slice_bounds-written-end
 slice_bounds-written-end c = sym (length-take-le c.args.done.next _ c.requires.0)
 
 pub slice_bounds-said-end : goal.slice_bounds-said-end
-slice_bounds-said-end c = told-within c.before
+slice_bounds-said-end c = told-within (goal.at.slice_bounds-said-end c).After-put_refused-told
 
 pub slice_bounds-written-end-2 : goal.slice_bounds-written-end-2
-slice_bounds-written-end-2 c = sym (length-take-le c.put_refused-told.result _ (told-within c.before.before))
+slice_bounds-written-end-2 c = sym (length-take-le c.put_refused-told.result _ (told-within (goal.at.slice_bounds-written-end-2 c).After-put_refused-told))
