@@ -1,32 +1,21 @@
 -- The trades put so far are the front of all.
-use Prim.Native.Nat.{◌+◌, ◌*◌, ◌≤◌, ◌-◌}
 use mathlib.Core.Path.{◌≡◌}
 use native.Mathlib.Omega.{arith}
-use lib.ListN.{length}
 use Rattle.book.specs.Rows.{trades_of}
 use Rattle.printing.proofs.Printed.{put_long}
 use Rattle.printing.proofs.Replied.{trades_start, trades_room, trades_on}
 use borrow.Author.Rules.{rules}
 use Rattle.printing.proofs.put_trades.Goals as goal
-use Rattle.printing.proofs.put_trades.Goals.{At-loop-i}
-
-abbrev Place : Type 0
-Place = At-loop-i
-
--- there is room for the trades that are left
-room : (l : Place) → l.loop.p + 128 * ((start l).args.n - l.loop.i) ≤ length l.loop.out
-room l =
-    let w = l.loop.inv.1 in
-    let h = (start l).pre in
-    let i : l.loop.i ≤ (start l).args.n = l.loop.inv.0 in
-    let r = trades_room (start l).args.trades.now l.loop.i w (omega arith) in
-    omega (arith, put_long w)
 
 pub loop-i-init : goal.loop-i-init
 loop-i-init c = (search rules, trades_start (trades_of c.args.trades.now))
 
+-- there is room for the trades that are left
 pub put_trade-p-requires : goal.put_trade-p-requires
-put_trade-p-requires c = omega (arith, room c)
+put_trade-p-requires c =
+    let w = c.loop-i.invariant.1 in
+    let r = trades_room c.args.trades.now c.loop-i.i w (omega arith) in
+    omega (arith, put_long w)
 
 pub loop-i-preserved : goal.loop-i-preserved
 loop-i-preserved c =
