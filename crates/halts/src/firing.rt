@@ -11,9 +11,9 @@ use model::Day;
 
 // So many percent away from the open, up or down. Two products are compared, so nothing is rounded.
 fn is_away(percent: u64, opened: u64, price: u64) -> bool
-    requires fact_1 { percent ≤ 100 }
-    requires fact_2 { opened ≤ 999_999 }
-    requires fact_3 { price ≤ 999_999 }
+    requires percent_bound { percent ≤ 100 }
+    requires opened_bound { opened ≤ 999_999 }
+    requires price_bound { price ≤ 999_999 }
     ensures { result ≡ away percent opened price }
 {
     (100 + percent) * opened <= 100 * price || 100 * price <= (100 - percent) * opened

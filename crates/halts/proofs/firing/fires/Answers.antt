@@ -1,6 +1,5 @@
 -- `halts::firing::fires` meets its contract: 30%, then 60%, each where it is not used. Assumes nothing.
 use mathlib.Core.Path.{◌≡◌}
-use mathlib.Core.Logic.{⊎_elim}
 use mathlib.Core.Bool.{false, ◌&&◌}
 use lib.ListN.{take}
 use lib.Dec.{eqb}
@@ -8,7 +7,11 @@ use Rattle.model.specs.Halts.{reach}
 use Rattle.book.specs.Rows.{trades_of}
 use Rattle.halts.proofs.Fires.{fires_limited, fires_thirty, thirty_used, thirty_short, fires_sixty, fires_none}
 use Rattle.halts.proofs.firing.fires.Goals as goal
-use Rattle.halts.proofs.firing.fires.Goals.{Joined-else-day-eq0}
+use Rattle.halts.proofs.firing.fires.Goals.{
+  Joined-else-day-eq0,
+  else-day-eq0-via-then-day-eq0+else-reaches,
+  else-day-eq0-via-else-day-eq0,
+}
 
 pub returns-then-day-ne0 : goal.returns-then-day-ne0
 returns-then-day-ne0 c =
@@ -24,9 +27,10 @@ not_thirty : (c : Joined-else-day-eq0) → (eqb c.args.day.used30 0 && reach 30 
 not_thirty c =
     let a = c.args in
     let ts = trades_of (take a.n a.trades.now) in
-    ⊎_elim (λ w. thirty_short a.day (trades_of (take a.n a.trades.now)) w.0.taken w.1.ensures w.2.left)
-    (λ w. thirty_used a.day (trades_of (take a.n a.trades.now)) w.left)
-    c.else-day-eq0.branch
+    elim c.else-day-eq0.branch [
+      | else-day-eq0-via-then-day-eq0+else-reaches w ↦ thirty_short a.day ts w.if-day-eq0.true w.reaches.ensures w.if-reaches.false
+      | else-day-eq0-via-else-day-eq0 w ↦ thirty_used a.day ts w.if-day-eq0.false
+    ]
 
 pub returns-then-day-eq0-2 : goal.returns-then-day-eq0-2
 returns-then-day-eq0-2 c =

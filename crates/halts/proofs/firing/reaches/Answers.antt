@@ -1,6 +1,5 @@
 -- `halts::firing::reaches` meets its contract: the trades passed so far are not so far away, so those that are left decide.
 -- Assumes nothing.
-use Prim.Native.Nat.{◌-◌}
 use mathlib.Core.Path.{refl, sym, ◌∙◌}
 use native.Mathlib.Omega.{arith}
 use Rattle.model.specs.Figures.{open_price}
@@ -13,7 +12,7 @@ loop-i-init c = (omega arith, refl)
 pub is_away-requires : goal.is_away-requires
 unfolding open_price
 is_away-requires c =
-    let a = c.args in record { fact_1 = c.requires.percent_bound; fact_2 = c.requires.priced.opened; fact_3 = price_at a.percent a.day a.trades.now a.n c.loop-i.i c.loop-i-test.true c.requires.n_in_bounds c.trade_at-t.ensures c.requires.priced }
+    let a = c.args in record { percent_bound = c.requires.percent_bound; opened_bound = c.requires.priced.opened; price_bound = price_at a.percent a.day a.trades.now a.n c.loop-i.i c.loop-i-test.true c.requires.n_in_bounds c.trade_at-t.ensures c.requires.priced }
 
 pub returns-then-is_away : goal.returns-then-is_away
 returns-then-is_away c =
