@@ -1,5 +1,4 @@
 -- What is added up so far, with what the rest of the book brings, is the whole.
-use Prim.Native.Nat.{◌-◌}
 use native.Mathlib.Omega.{arith}
 use Rattle.auction.proofs.Sides.{passed_start, passed_next, buys_fit, sells_fit, passed_end}
 use Rattle.auction.proofs.depth.interest_at.Goals as goal

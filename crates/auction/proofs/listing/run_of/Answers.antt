@@ -1,6 +1,5 @@
 -- The prices due are those of the span from the greater of the asked price and its lower end.
 use mathlib.Core.Path.{ap, ◌∙◌}
-use borrow.Author.Tests.{ltb-true, ltb-false}
 use mathlib.Core.Logic.{⊎_elim}
 use Rattle.auction.specs.Fitting.{run_within}
 use Rattle.auction.proofs.Spanning.{spanned}
@@ -10,7 +9,7 @@ use Rattle.auction.proofs.listing.run_of.Goals as goal
 pub returns-then-lo-eq0 : goal.returns-then-lo-eq0
 returns-then-lo-eq0 c =
     let e = c.span_of-span.ensures in
-    within_none _ (⊎_elim (λ w. due_none _ _ e w.taken) (λ w. due_past _ _ e (ltb-true _ _ w.1.taken)) c.then-lo-eq0.branch)
+    within_none _ (⊎_elim (λ w. due_none _ _ e w) (λ w. due_past _ _ e w.1) c.then-lo-eq0.either)
 
 pub run_between-requires : goal.run_between-requires
 run_between-requires c =
@@ -25,7 +24,7 @@ returns-then-asked-lo c =
 pub run_between-requires-2 : goal.run_between-requires-2
 run_between-requires-2 c =
     let t = spanned _ c.span_of-span.ensures c.if-lo-eq0.false in
-    (ltb-false _ _ c.if-hi-asked.false-raw, t.to_999999)
+    (c.if-hi-asked.false, t.to_999999)
 
 pub returns : goal.returns
 returns c =

@@ -1,5 +1,4 @@
 -- The first i of the prices stand in front of the rest of the lent list.
-use Prim.Native.Nat.{◌-◌}
 use Rattle.auction.proofs.Writing.{filled_start, filled_next, filled_end}
 use Rattle.auction.proofs.listing.write_run.Goals as goal
 

@@ -16,11 +16,15 @@ returns-then-lo-hi c =
 
 pub left_at-buys-requires : goal.left_at-buys-requires
 left_at-buys-requires c =
-    buys_fit c.args.rows.now c.requires.ranked c.requires.middle_value c.requires.end_value c.requires.stop_of c.span_at-span.ensures c.if-lo-hi.false
+    let fit =
+    buys_fit c.args.rows.now c.requires.ranked c.requires.middle_value c.requires.end_value c.requires.stop_of c.span_at-span.ensures c.if-lo-hi.false in
+    record { end_in_bounds = fit.0; at_lt_end = fit.1.0; rows_bound = fit.1.1 }
 
 pub left_at-sells-requires : goal.left_at-sells-requires
 left_at-sells-requires c =
-    sells_fit c.args.rows.now c.requires.ranked c.requires.middle_value c.requires.end_value c.requires.stop_of c.span_at-span.ensures c.if-lo-hi.false
+    let fit =
+    sells_fit c.args.rows.now c.requires.ranked c.requires.middle_value c.requires.end_value c.requires.stop_of c.span_at-span.ensures c.if-lo-hi.false in
+    record { end_in_bounds = fit.0; at_lt_end = fit.1.0; rows_bound = fit.1.1 }
 
 pub overflow_add-lo : goal.overflow_add-lo
 overflow_add-lo c =

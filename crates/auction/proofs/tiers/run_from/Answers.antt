@@ -1,5 +1,4 @@
 -- What is added up so far, with the rest of the run, is the whole run.
-use Prim.Native.Nat.{◌-◌}
 use native.Mathlib.Omega.{arith}
 use Rattle.auction.proofs.Leaving.{run_ends, run_more, run_all}
 use Rattle.auction.proofs.tiers.run_from.Goals as goal
