@@ -1,5 +1,4 @@
 -- `records::blocks::load_held` meets its contract: the invariant is `Filling`, over declarations of 56 bytes. Assumes nothing.
-use Prim.Native.Nat.{◌-◌}
 use Rattle.book.specs.Rows.{declaration_row}
 use Rattle.declarations.proofs.Memory.{held_set}
 use Rattle.records.proofs.Stored.{held_read}

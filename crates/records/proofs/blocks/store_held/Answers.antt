@@ -1,5 +1,4 @@
 -- `records::blocks::store_held` meets its contract: the invariant is `Emptying`, over declarations of 56 bytes. Assumes nothing.
-use Prim.Native.Nat.{◌-◌}
 use Rattle.records.proofs.Sizes.{length_declaration}
 use Rattle.records.proofs.Stored.{held_put}
 use Rattle.records.proofs.Rows.{emptying_start, emptying_next, emptying_end}

@@ -8,6 +8,6 @@ use Rattle.records.proofs.days.held_screen.Goals as goal
 pub returns : goal.returns
 returns c =
     let a = c.args in
-    let bits = to_z-of_z w64 c.signed_of.result (record { sfits = c.signed_of.type-inv }) in
+    let bits = to_z-of_z w64 c.signed_of.result (record { sfits = c.signed_of.type_inv }) in
     screen_held a.row.now a.at c.held_levels.ensures
     c.held_levels-2.ensures (bits ∙ c.signed_of.ensures)

@@ -1,6 +1,7 @@
 -- `records::days::put_screen` meets its contract: its rows of numbers, one behind the other. Assumes nothing.
 use mathlib.Core.Path.{ap, ◌∙◌}
 use native.Mathlib.Omega.{arith}
+use borrow.Author.Rules.{rules}
 use mir.Syntax.{w64}
 use mir.ValLaws.{to_z-of_z}
 use Rattle.replies.specs.Words.{word}
@@ -14,6 +15,6 @@ pub returns : goal.returns
 returns c =
     let a = c.args in
     -- what a signed field holds is read back from its bits
-    let bits = to_z-of_z w64 a.s.surplus (record { sfits = c.struct_told-1.given.1.1.1.1.1.1.1.1.1.0.1 }) in
+    let bits = to_z-of_z w64 a.s.surplus (search rules) in
     screen_put a.b.now a.at a.s (c.word_of.ensures ∙ ap word bits) c.put_numbers.ensures c.put_levels.ensures c.put_levels-2.ensures
     c.put_numbers-2.ensures

@@ -1,5 +1,4 @@
 -- `records::lists::load_book` meets its contract: the invariant is `Filling`, over orders of 40 bytes. Assumes nothing.
-use Prim.Native.Nat.{◌-◌}
 use Rattle.book.specs.Rows.{row_of}
 use Rattle.book.proofs.Memory.{book_set}
 use Rattle.records.proofs.Stored.{book_read}

@@ -1,5 +1,4 @@
 -- `records::lists::store_book` meets its contract: the invariant is `Emptying`, over orders of 40 bytes. Assumes nothing.
-use Prim.Native.Nat.{◌-◌}
 use Rattle.records.proofs.Sizes.{length_order}
 use Rattle.records.proofs.Stored.{book_put}
 use Rattle.records.proofs.Rows.{emptying_start, emptying_next, emptying_end}

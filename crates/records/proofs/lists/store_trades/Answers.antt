@@ -1,5 +1,4 @@
 -- `records::lists::store_trades` meets its contract: the invariant is `Emptying`, over trades of 48 bytes. Assumes nothing.
-use Prim.Native.Nat.{◌-◌}
 use Rattle.records.proofs.Sizes.{length_trade}
 use Rattle.records.proofs.Stored.{trades_put}
 use Rattle.records.proofs.Rows.{emptying_start, emptying_next, emptying_end}

@@ -1,5 +1,4 @@
 -- `records::numbers::put_number` meets its contract: the invariant is `Putting`. Assumes nothing.
-use Prim.Native.Nat.{◌-◌}
 use Rattle.records.proofs.Digits.{putting_start, putting_next, putting_end}
 use Rattle.records.proofs.numbers.put_number.Goals as goal
 

@@ -1,5 +1,4 @@
 -- `records::numbers::put_numbers` meets its contract: the invariant is `Storing`, over numbers of 8 bytes. Assumes nothing.
-use Prim.Native.Nat.{◌-◌}
 use Rattle.octets.proofs.Digits.{length_digits}
 use Rattle.records.specs.Layout.{bytes}
 use Rattle.records.proofs.Runs.{storing_start, storing_next, storing_end}

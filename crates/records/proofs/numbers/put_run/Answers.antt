@@ -1,5 +1,4 @@
 -- `records::numbers::put_run` meets its contract: the invariant is `Counting`. Assumes nothing.
-use Prim.Native.Nat.{◌-◌}
 use Rattle.records.proofs.Counted.{counting_start, counting_next, counting_end}
 use Rattle.records.proofs.numbers.put_run.Goals as goal
 

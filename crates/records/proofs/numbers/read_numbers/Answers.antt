@@ -1,5 +1,4 @@
 -- `records::numbers::read_numbers` meets its contract: the invariant is `Loading`, over numbers of 8 bytes. Assumes nothing.
-use Prim.Native.Nat.{◌-◌}
 use Rattle.records.specs.Layout.{numbers}
 use Rattle.records.proofs.Runs.{loading_start, loading_next, loading_end}
 use Rattle.records.proofs.numbers.read_numbers.Goals as goal
