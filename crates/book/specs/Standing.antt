@@ -1,5 +1,5 @@
 -- What a sound day gives of its book: orders as they may stand in one, and a book in its order.
-use Rattle.std.specs.Prelude.{ℕ, ◌≤◌, ◌≡◌, List, length}
+use Rattle.std.specs.Prelude.{◌≤◌, ◌≡◌, List, length}
 use Rattle.model.specs.declared.Order.{Order}
 use Rattle.model.specs.Book.{free}
 use Rattle.model.specs.Words.{Each, Apart, Ordered}

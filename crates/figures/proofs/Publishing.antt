@@ -1,6 +1,6 @@
 -- What is published of a day, before 15:30 and from then on. Assumes nothing.
 use Prim.Native.Nat.{◌+◌, ◌≤◌, ◌<◌}
-use mathlib.Core.Path.{◌≡◌, refl}
+use mathlib.Core.Path.{◌≡◌}
 use borrow.Author.Tests.{le-leb, lt-leb}
 use Rattle.model.specs.declared.Day.{Day}
 use Rattle.model.specs.Clock.{day_end}

@@ -33,7 +33,7 @@ use Rattle.model.specs.SoundFixed.{one_sided, fixed_sums, sound_fixed}
 use Rattle.model.specs.SoundBlocks.{is_undeclared, is_declaration, sound_blocks}
 use Rattle.model.specs.Refusals.{◌when◌, first_of, unsound, unsound_fixed, unsound_blocks, unsound_books, Rule}
 use Rattle.model.specs.Calls.{written, cleared, is_own, cancel_rules}
-use Rattle.model.specs.ClockCall.{auction_trades, auction, resume, lapse, pass, through, start, moved, Held}
+use Rattle.model.specs.ClockCall.{auction_trades, auction, resume, lapse, pass, through, start, moved}
 use Rattle.model.specs.FixedCalls.{fixed_cancel_rules}
 use Rattle.model.specs.BlockCalls.{declaring, block_trades, block_rules, block_entered, block_call}
 use Rattle.model.specs.AfterClose.{confirm_all, match_all, end_all, pass_after, through_after, After}

@@ -1,6 +1,6 @@
 -- Halts, by evaluation: both sides of each threshold, when a halt ends, what fires, what phase 7 takes, what the end of a halt does
 -- once its auction's trades are known, the seconds of a move one after the other, and each clause of soundness. Assumes nothing.
-use Prim.Native.Nat.{ℕ, ◌*◌, ◌+◌}
+use Prim.Native.Nat.{ℕ, ◌*◌}
 use mathlib.Core.Path.{◌≡◌, refl}
 use mathlib.Core.Bool.{true, false}
 use mathlib.Core.List.{List, [], ◌∷◌, ◌++◌, map}
@@ -12,7 +12,6 @@ use Rattle.model.specs.declared.Trade.{Trade}
 use Rattle.model.specs.declared.Day.{Day}
 use Rattle.model.specs.declared.Remainder.TheVariants.{Rests}
 use Rattle.model.specs.declared.OrderReply as OrderReply
-use Rattle.model.specs.declared.ClockReply as ClockReply
 use Rattle.model.specs.declared.OrderAnswer.{OrderAnswer}
 use Rattle.model.specs.Choice.{if◌then◌else◌}
 use Rattle.model.specs.Lists.{keep, all, any, total, least, at_least, from, among, once, different}
@@ -30,8 +29,7 @@ use Rattle.model.specs.Refusals.{◌when◌, first_of, unsound}
 use Rattle.model.specs.Calls.{Outcome, written, open_rules, cleared, open_call, order_rules, ended, joined, entered, order_call, is_own, cancel_rules, cancel_call}
 use Rattle.model.specs.ClockCall.{auction_trades, Held, auction, resume, lapse, pass, through, start, moved, clock_rules, clock_call}
 use Rattle.model.specs.Replies.{resting_of, withdrawn_of, entry_numbers, open_numbers, order_numbers, cancel_numbers, clock_numbers, report_numbers, list_numbers}
-use Rattle.model.specs.Lines.{reply}
-use Rattle.model.specs.Session.{opened, answer}
+use Rattle.model.specs.Session.{opened}
 use Rattle.model.proofs.Examples.{order, trade, day_of, untraded, fitting}
 use Rattle.model.proofs.HaltEnds.{led_by, led_is}
 

@@ -1,5 +1,5 @@
 -- A declaration of a block trade (3.6, 02: #108): its refusals in order, and what it does where none holds. None can be cancelled.
-use Rattle.std.specs.Prelude.{ℕ, Bool, not, ◌||◌, List, [], ◌∷◌, ◌++◌, length, leb, ltb, eqb}
+use Rattle.std.specs.Prelude.{ℕ, not, ◌||◌, List, [], ◌∷◌, ◌++◌, length, leb, ltb, eqb}
 use Rattle.model.specs.declared.Order.{Order}
 use Rattle.model.specs.declared.Declaration.{Declaration}
 use Rattle.model.specs.declared.AskedBlock.{AskedBlock}

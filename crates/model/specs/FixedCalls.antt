@@ -1,5 +1,5 @@
 -- A fixed-price order and its cancel (3.7, 02: #107): its refusals in order, and what it does where none holds.
-use Rattle.std.specs.Prelude.{ℕ, ◌-◌, Bool, not, ◌&&◌, ◌||◌, List, [], ◌∷◌, ◌++◌, length, leb, ltb, eqb}
+use Rattle.std.specs.Prelude.{ℕ, ◌-◌, not, ◌&&◌, ◌||◌, List, [], ◌∷◌, ◌++◌, length, leb, ltb, eqb}
 use Rattle.model.specs.declared.Order.{Order}
 use Rattle.model.specs.declared.AskedFixed.{AskedFixed}
 use Rattle.model.specs.declared.Trade.{Trade}

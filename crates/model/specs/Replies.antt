@@ -9,7 +9,6 @@ use Rattle.model.specs.declared.OrderReply as OrderReply
 use Rattle.model.specs.declared.BlockReply as BlockReply
 use Rattle.model.specs.declared.CancelReply as CancelReply
 use Rattle.model.specs.declared.ClockReply as ClockReply
-use Rattle.model.specs.declared.Move.{Move}
 use Rattle.model.specs.declared.MoveReply as MoveReply
 use Rattle.model.specs.declared.ReportReply as ReportReply
 use Rattle.model.specs.declared.ListReply as ListReply

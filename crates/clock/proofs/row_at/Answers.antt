@@ -1,6 +1,6 @@
 -- `clock::row_at` meets its contract: at each turn the row at `at` and those after it decide the row of the whole table.
 -- That the code's table is the definitions' is seen by computation, where the loop begins. Assumes nothing.
-use Prim.Native.Nat.{ℕ, ◌+◌, ◌-◌}
+use Prim.Native.Nat.{ℕ, ◌+◌}
 use mathlib.Core.Path.{◌≡◌, refl, sym, subst, ◌∙◌}
 use native.Mathlib.Omega.{arith}
 use lib.ListN.{get_or, drop}

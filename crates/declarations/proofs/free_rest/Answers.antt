@@ -1,5 +1,4 @@
 -- The places from the first one up to this are free.
-use Prim.Native.Nat.{◌-◌}
 use native.Mathlib.Omega.{arith}
 use Rattle.declarations.proofs.Freeing.{freeing_start, freeing_next, freeing_end}
 use Rattle.declarations.proofs.free_rest.Goals as goal

@@ -1,6 +1,6 @@
 -- `figures::totals_of` meets its contract: what is added up so far and what is still to come is the whole, so nothing
 -- overflows on the way. Assumes nothing.
-use Prim.Native.Nat.{◌+◌, ◌-◌}
+use Prim.Native.Nat.{◌+◌}
 use mathlib.Core.List.{◌∷◌}
 use native.Mathlib.Omega.{arith}
 use lib.ListN.{take, drop}

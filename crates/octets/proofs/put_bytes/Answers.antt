@@ -1,5 +1,4 @@
 -- `octets::put_bytes` meets its contract. Assumes nothing.
-use Prim.Native.Nat.{◌-◌}
 use Rattle.octets.proofs.Put.{putting_start, putting_next, putting_end}
 use Rattle.octets.proofs.put_bytes.Goals as goal
 

@@ -1,5 +1,4 @@
 -- The value, and whether all are digits, of what is left of the word.
-use Prim.Native.Nat.{◌-◌}
 use mathlib.Core.Path.{◌≡◌, sym, ap, ◌∙◌}
 use mathlib.Core.Bool.{true}
 use native.Mathlib.Omega.{arith}
@@ -7,16 +6,7 @@ use borrow.Author.Tests.{not-true, not-false}
 use lib.ListN.{get_or}
 use Rattle.model.specs.Lines.{is_digit}
 use Rattle.parsing.specs.Words.{found}
-use Rattle.parsing.proofs.Words.{
-  not_bare,
-  digit_from,
-  Reading,
-  reading_starts,
-  digit_bad,
-  value_bad,
-  reading_on,
-  reading_ends,
-}
+use Rattle.parsing.proofs.Words.{not_bare, digit_from, reading_starts, digit_bad, value_bad, reading_on, reading_ends}
 use Rattle.parsing.proofs.number_of.Goals as goal
 use Rattle.parsing.proofs.number_of.Goals.{Else-not-is_digit}
 

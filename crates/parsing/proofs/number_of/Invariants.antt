@@ -1,16 +1,7 @@
 -- The value, and whether all are digits, of what is left of the word.
 use Prim.Native.Nat.{◌-◌}
 use lib.ListN.{length}
-use Rattle.parsing.proofs.Words.{
-  not_bare,
-  digit_from,
-  Reading,
-  reading_starts,
-  digit_bad,
-  value_bad,
-  reading_on,
-  reading_ends,
-}
+use Rattle.parsing.proofs.Words.{Reading}
 use Rattle.parsing.proofs.number_of.Given as goal
 
 abbrev pub invariant-loop-i : goal.invariant-loop-i

@@ -1,5 +1,5 @@
 -- The numbers read so far stand in front of those after the place that is reached.
-use Prim.Native.Nat.{◌+◌, ◌-◌}
+use Prim.Native.Nat.{◌+◌}
 use native.Mathlib.Omega.{arith}
 use lib.ListN.{drop, length-drop}
 use Rattle.parsing.proofs.Words.{word_fits}

@@ -1,5 +1,4 @@
 -- What is left of the word at each place, by the three laws of its next byte.
-use Prim.Native.Nat.{◌-◌}
 use native.Mathlib.Omega.{arith}
 use Rattle.parsing.proofs.Words.{word_stops, word_goes, word_ends}
 use Rattle.parsing.proofs.word_end.Goals as goal

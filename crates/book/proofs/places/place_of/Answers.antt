@@ -1,5 +1,4 @@
 -- A walk from the first place on, by the law of the first place that passes a test.
-use Prim.Native.Nat.{◌-◌}
 use mathlib.Core.Path.{sym, ◌∙◌}
 use Rattle.model.specs.Calls.{is_own}
 use Rattle.book.specs.Places.{place_of}

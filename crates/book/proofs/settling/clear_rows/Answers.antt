@@ -1,6 +1,6 @@
 -- Place by place: the first `i` are free, the others still stand.
 -- the place is one of the book's
-use Prim.Native.Nat.{◌<◌, ◌-◌}
+use Prim.Native.Nat.{◌<◌}
 use mathlib.Core.Path.{◌≡◌, refl}
 use native.Mathlib.Omega.{arith}
 use lib.ListN.{length}

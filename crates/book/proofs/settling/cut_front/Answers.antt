@@ -1,5 +1,4 @@
 -- The rows stay until the shares end; what comes off from here on is what was to come off at first.
-use Prim.Native.Nat.{◌-◌}
 use mathlib.Core.Path.{refl, ap, ◌∙◌}
 use native.Mathlib.Omega.{arith}
 use lib.ListN.{length}

@@ -1,5 +1,4 @@
 -- The places from the first one up to this are free.
-use Prim.Native.Nat.{◌-◌}
 use native.Mathlib.Omega.{arith}
 use Rattle.book.proofs.Closing.{freed_start, freed_next, freed_end}
 use Rattle.book.proofs.settling.free_places.Goals as goal

@@ -1,5 +1,4 @@
 -- The orders moved so far stand one behind the other from the place on; behind them nothing has changed.
-use Prim.Native.Nat.{◌-◌}
 use native.Mathlib.Omega.{arith}
 use Rattle.book.proofs.Closing.{moved_start, moved_next, moved_end}
 use Rattle.book.proofs.settling.move_up.Goals as goal

@@ -1,5 +1,4 @@
 -- `file_blocks::reading::are_records` meets its contract: the invariant is `Checking`. Assumes nothing.
-use Prim.Native.Nat.{◌-◌}
 use borrow.Author.Tests.{not-true, not-false}
 use Rattle.file_blocks.proofs.Looking.{checking_start, checking_no, checking_next, checking_end}
 use Rattle.file_blocks.proofs.reading.are_records.Goals as goal

@@ -1,5 +1,4 @@
 -- `file_blocks::reading::check_of` meets its contract: the invariant is `Weighing`. Assumes nothing.
-use Prim.Native.Nat.{◌-◌}
 use native.Mathlib.Omega.{arith}
 use Rattle.file_blocks.proofs.Looking.{weighing_start, weighing_next, weighing_end}
 use Rattle.file_blocks.proofs.reading.check_of.Goals as goal

@@ -1,5 +1,4 @@
 -- `file_blocks::writing::clear` meets its contract. Assumes nothing.
-use Prim.Native.Nat.{◌-◌}
 use Rattle.file_blocks.proofs.Filled.{clearing_start, clearing_next, clearing_end}
 use Rattle.file_blocks.proofs.writing.clear.Goals as goal
 

@@ -1,5 +1,4 @@
 -- `file_records::reading::zero_between` meets its contract: what is left to look at says what all would. Assumes nothing.
-use Prim.Native.Nat.{◌-◌}
 use mathlib.Core.Path.{◌∙◌}
 use Rattle.file_records.proofs.Looking.{zero_not, zero_next, zero_end}
 use Rattle.file_records.proofs.reading.zero_between.Goals as goal

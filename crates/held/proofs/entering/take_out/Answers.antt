@@ -1,5 +1,4 @@
 -- One after the other moves up by one place.
-use Prim.Native.Nat.{◌-◌}
 use mathlib.Core.Path.{◌∙◌}
 use native.Mathlib.Omega.{arith}
 use Rattle.held.proofs.Closing.{leaving_start, leaving_inside, leaving_next, leaving_end}

@@ -1,5 +1,4 @@
 -- Those passed so far are in order of arrival; the rest is still to be told.
-use Prim.Native.Nat.{◌-◌}
 use mathlib.Core.Path.{◌∙◌}
 use native.Mathlib.Omega.{arith}
 use lib.ListN.{length-map}
