@@ -30,8 +30,7 @@ fn judge_any(day: &[u8], book: &[u8], claims: &[u8], price: u64) -> Verdict
     judge_bytes(day_in(day), book, claims, price)
 }
 
-#[unsafe(no_mangle)]
-pub extern "C" fn flemorix_judge(
+pub fn flemorix_judge(
     day: &[u8],
     book: &[u8],
     claims: &[u8],
