@@ -16,7 +16,7 @@ import re
 import subprocess
 import sys
 
-from program import ROOT, X86, Counts, run
+from program import ROOT, X86, Counts, build, run
 
 SEED = 111_000
 PROGRAM = ROOT / "target" / "bin" / "convert_script"
@@ -152,8 +152,7 @@ def faults(counts):
 
 
 def main(seed):
-    if not PROGRAM.exists():
-        subprocess.run(["rt", "check", "convert_script"], cwd=ROOT, stdout=sys.stderr, check=True)
+    build(PROGRAM)
     counts = Converting("convert")
     print("convert: seed %d" % seed)
     old_scripts(counts, seed)

@@ -15,7 +15,7 @@ import subprocess
 import sys
 
 import dayfiles
-from program import ROOT, X86, Counts, run
+from program import ROOT, X86, Counts, build, run
 
 SEED = 109_110
 PROGRAMS = ["pack_script", "unpack_file", "rescue_file"]
@@ -171,8 +171,7 @@ def faults(counts):
 
 def main(seed):
     for name in ["rehearse"] + PROGRAMS:
-        if not path(name).exists():
-            subprocess.run(["rt", "check", name], cwd=ROOT, stdout=sys.stderr, check=True)
+        build(path(name))
     counts = Files("dayfile")
     print("dayfile: seed %d" % seed)
     source = random.Random(seed)

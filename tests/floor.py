@@ -13,7 +13,6 @@ import collections
 import itertools
 import random
 import re
-import subprocess
 import sys
 
 import floor_desk
@@ -22,7 +21,7 @@ import halting
 import made
 import pairs
 import random_bytes
-from program import PROGRAM, ROOT, Counts, run
+from program import PROGRAM, ROOT, Counts, build, run
 
 SEED = 1_140_000
 COUNT = 40
@@ -159,9 +158,8 @@ def main():
         return
     if len(sys.argv) not in (1, 3):
         sys.exit("usage: floor.py [SEED COUNT | --write]")
-    for program in (FLOOR, PROGRAM):
-        if not program.exists():
-            subprocess.run(["rt", "check", program.name], cwd=ROOT, stdout=sys.stderr, check=True)
+    build(FLOOR)
+    build(PROGRAM)
     counts = Counts("floor", FLOOR)
     if len(sys.argv) == 3:
         random_days(counts, int(sys.argv[1]), int(sys.argv[2]))

@@ -94,7 +94,7 @@ def check_crates(counts):
     readme, contributing = ROOT / "README.md", ROOT / "docs" / "CONTRIBUTING.md"
     table = "\n".join(re.findall(r"^\|.*", readme.read_text(), re.M))
     picture = "\n".join(re.findall(r"^```text(.*?)^```", contributing.read_text(), re.M | re.S))
-    for crate in re.findall(r"^(\w+):", (ROOT / "crates.txt").read_text(), re.M):
+    for crate in re.findall(r"^(\w+)(?: \w+)?:", (ROOT / "crates.txt").read_text(), re.M):
         counts.holds(readme, re.search(r"\bcrates/%s\b" % crate, table), "crates/%s is not in the table" % crate)
         counts.holds(contributing, re.search(r"\b%s\b" % crate, picture), "%s is not in the picture" % crate)
 

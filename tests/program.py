@@ -14,6 +14,11 @@ PROGRAM = ROOT / "target" / "bin" / "rehearse"
 X86 = ROOT / "tests" / "x86"  # runs a built program on any machine
 
 
+def build(program):
+    """Proves and builds a program where something that it is made from has changed; half a second where nothing has."""
+    subprocess.run([ROOT / "doors" / "build", program.name], stdin=subprocess.DEVNULL, stdout=sys.stderr, check=True)
+
+
 class Counts:
     """Passed and failed comparisons of a part of the tests; finish() ends the part with its last line."""
 

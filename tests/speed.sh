@@ -9,9 +9,7 @@ folder=target/busy-day
 lines=100000
 export PYTHONDONTWRITEBYTECODE=1
 
-if [ ! -x "$program" ]; then
-    rt check rehearse >&2 || exit 1
-fi
+doors/build rehearse >&2 || exit 1
 mkdir -p "$folder" || exit 2
 
 # 1. A busy day, three times; the replies have to be the desk's.

@@ -83,8 +83,7 @@ fn change(day: &mut [u8], book: &mut [u8], reply: &mut [u8], asked: BookAsked) -
     put_book_reply(reply, told)
 }
 
-#[unsafe(no_mangle)]
-pub extern "C" fn flemorix_open(
+pub fn flemorix_open(
     day: &mut [u8],
     book: &mut [u8],
     reply: &mut [u8],
@@ -96,8 +95,7 @@ pub extern "C" fn flemorix_open(
     change(day, book, reply, BookAsked::Open { close, mark })
 }
 
-#[unsafe(no_mangle)]
-pub extern "C" fn flemorix_cancel(
+pub fn flemorix_cancel(
     day: &mut [u8],
     book: &mut [u8],
     reply: &mut [u8],

@@ -59,15 +59,13 @@ fn put_prices(prices: &mut [u8], told: ReadReply)
     }
 }
 
-#[unsafe(no_mangle)]
-pub extern "C" fn flemorix_report(day: &[u8], book: &[u8], reply: &mut [u8]) -> u64
+pub fn flemorix_report(day: &[u8], book: &[u8], reply: &mut [u8]) -> u64
     ensures { ReportPromise day.now book.now reply.old result reply.new }
 {
     put_read_reply(reply, read(day, book, ReadAsked::Report))
 }
 
-#[unsafe(no_mangle)]
-pub extern "C" fn flemorix_list(
+pub fn flemorix_list(
     day: &[u8],
     book: &[u8],
     prices: &mut [u8],

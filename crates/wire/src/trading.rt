@@ -48,8 +48,7 @@ fn trade(
     put_trade_reply(reply, told)
 }
 
-#[unsafe(no_mangle)]
-pub extern "C" fn flemorix_order(
+pub fn flemorix_order(
     day: &mut [u8],
     book: &mut [u8],
     trades: &mut [u8],
@@ -74,8 +73,7 @@ pub extern "C" fn flemorix_order(
     trade(day, book, trades, reply, TradeAsked::Order(a))
 }
 
-#[unsafe(no_mangle)]
-pub extern "C" fn flemorix_clock(
+pub fn flemorix_clock(
     day: &mut [u8],
     book: &mut [u8],
     trades: &mut [u8],

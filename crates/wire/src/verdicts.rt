@@ -30,14 +30,7 @@ fn judge_any(day: &[u8], book: &[u8], claims: &[u8], price: u64) -> Verdict
     judge_bytes(day_in(day), book, claims, price)
 }
 
-#[unsafe(no_mangle)]
-pub extern "C" fn flemorix_judge(
-    day: &[u8],
-    book: &[u8],
-    claims: &[u8],
-    reply: &mut [u8],
-    price: u64,
-) -> u64
+pub fn flemorix_judge(day: &[u8], book: &[u8], claims: &[u8], reply: &mut [u8], price: u64) -> u64
     ensures { JudgePromise day.now book.now claims.now reply.old price result reply.new }
 {
     let row = verdict_numbers(judge_any(day, book, claims, price));
