@@ -1,7 +1,7 @@
 -- The trades of an order that came in take what they fill off the front of the other side, and nothing off its own: the book
 -- afterwards.
 use Prim.Native.Nat.{ℕ, ◌+◌, ◌-◌, ◌≤◌, min}
-use mathlib.Core.Path.{◌≡◌, refl, sym, ap, ◌∙◌}
+use mathlib.Core.Path.{◌≡◌, refl, sym, ap, ◌∙◌, subst}
 use mathlib.Core.Bool.{Bool, true, false}
 use mathlib.Core.List.{List, [], ◌∷◌, ◌++◌, map, nil≢cons, head-eq_of_cons-eq, tail-eq_of_cons-eq}
 use native.Mathlib.Decide.{dec_lt}
@@ -116,13 +116,20 @@ module _ (t : Taker) where
       alone : Each (λ p. p.number ≡ o.number → ⊥) met
       alone = (each_parts (λ p. p.number ≡ o.number → ⊥) met behind (rw (sym (tail-eq_of_cons-eq e)) at d.0)).0
 
+      AtFront : List Trade → Type 0
+      AtFront ts = map (after ts) (o ∷ os) ≡ less_front (filled ts) (o ∷ os)
+
       go :
           (w : Bool)
           → wants t q o.price ≡ w
           → map (after (sweep t (q - o.left) met)) os ≡ less_front (filled (sweep t (q - o.left) met)) os
           → map (after (sweep t q (m ∷ met))) (o ∷ os) ≡ less_front (filled (sweep t q (m ∷ met))) (o ∷ os)
-      go false w ih = rw (same, sweep_none t q o met w) (empty_front (o ∷ os))
-      go true w ih = rw (same, sweep_one t q o met w) (sweep_turn q o os met f.0 alone f.1 d.0 ih)
+      go false w ih =
+          let none : sweep t q (m ∷ met) ≡ [] = ap (λ (x : Order). sweep t q (x ∷ met)) same ∙ sweep_none t q o met w in
+          subst AtFront (sym none) (empty_front (o ∷ os))
+      go true w ih =
+          let all : sweep t q (m ∷ met) ≡ trade_with t q o ∷ sweep t (q - o.left) met = ap (λ (x : Order). sweep t q (x ∷ met)) same ∙ sweep_one t q o met w in
+          subst AtFront (sym all) (sweep_turn q o os met f.0 alone f.1 d.0 ih)
 
   -- the trades with a book, for a taker whose number no order of it has
   module _ (q n : ℕ) (book : List Order) (standing : Standing book) (fresh : Each (λ (o : Order). o.number ≡ t.number → ⊥) book) where

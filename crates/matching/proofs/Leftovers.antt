@@ -1,7 +1,7 @@
 -- What stays where something of an order is left: whoever it might have met is filled, or beyond its limit; and what was
 -- cut off is worse than all that was swept.
 use Prim.Native.Nat.{ℕ, zero, suc, ◌+◌, ◌-◌, ◌≤◌, ◌<◌, min}
-use mathlib.Core.Path.{◌≡◌, refl, sym, ap, ◌∙◌}
+use mathlib.Core.Path.{◌≡◌, refl, sym, ap, ◌∙◌, subst}
 use mathlib.Core.Bool.{Bool, true, false, cond, ◌&&◌, ◌||◌, or-true}
 use mathlib.Core.List.{List, [], ◌∷◌, ◌++◌}
 use mathlib.Core.Logic.{◌⊎◌, inl, inr}
@@ -112,7 +112,7 @@ module _ (t : Taker) where
           ap filled all ∙ filled_more (trade_with t q o) ts ∙ ap (λ (n : ℕ). n + filled ts) (taken q o)
           in
           let whole : o.left ≤ q = omega arith in
-          rw all (
+          subst (λ (us : List Trade). Each (Gone us) (o ∷ os)) (sym all) (
             inr (omega (arith, filled_cons o.number (trade_with t q o) ts, part_whole q o whole)),
             each (Gone ts) (Gone (trade_with t q o ∷ ts)) os (more_gone (trade_with t q o) ts) (ih (omega arith)),
           )

@@ -1,6 +1,6 @@
 -- At every turn of either loop the trades made since the loop began, with those still to come, are those that were to come
 -- then (`Same`); between two prices the next order begins another one.
-use Prim.Native.Nat.{ℕ, ◌+◌, ◌-◌}
+use Prim.Native.Nat.{ℕ, ◌+◌}
 use mathlib.Core.Path.{◌≡◌, refl, sym, ap, ◌∙◌}
 use mathlib.Core.List.{List, [], ◌∷◌}
 use native.Mathlib.Omega.{arith}
@@ -43,39 +43,34 @@ next_of :
 next_of c =
     line_cons _ _ _ c.orders-test.true c.places_of-line.ensures.within c.order_at-order.ensures
 
--- what holds from the function's start to a turn
-abbrev Since : At-prices → Swept → ℕ → List Order → List (List ℕ) → Type 0
-Since p s left os out =
-    let a = p.args in
-    let r = p.places_of-line.result in
-    Same a.t a.most p.nothing_yet-s.result a.quantity (line r.from r.to a.rows.now) a.trades.now s
-    left os out
-
+-- what holds from the function's start to a turn at the orders of a price
 so_far :
     (o : At-orders)
-    → Since (turn-of o) o.orders.s o.orders.left
-    (line o.orders.at o.places_of-line.result.to o.args.rows.now)
-    o.orders.trades
+    → Same o.args.t o.args.most o.nothing_yet-s.result o.args.quantity
+    (line o.places_of-line.result.from o.places_of-line.result.to o.args.rows.now) o.args.trades.now
+    o.orders.s o.orders.left (line o.orders.at o.places_of-line.result.to o.args.rows.now) o.orders.trades
 so_far o =
     let a = o.args in
     let wanted = sym o.wants.ensures ∙ not-false _ o.if-not-wants.false-raw in
+    let first = line_cons _ _ _ o.prices-test.true o.places_of-line.ensures.within o.order_at-best.ensures in
     then a.t a.most o.prices.invariant.0
     (then a.t a.most
-    (price_opens a.t a.most _ _ _ (first_of_lem o.before.before.before.before.before.before) o.prices.invariant.1
-    o.if-most-s.false wanted o.with_price-s.ensures)
+    (price_opens a.t a.most _ _ _ first o.prices.invariant.1 o.if-most-s.false wanted o.with_price-s.ensures)
     o.orders.invariant.0)
 
+-- and where no trade is to come
 ended :
     (p : At-prices) {s : Swept} {left : ℕ} {os : List Order} {out : List (List ℕ)}
-    → Since p s left os out
+    → Same p.args.t p.args.most p.nothing_yet-s.result p.args.quantity
+    (line p.places_of-line.result.from p.places_of-line.result.to p.args.rows.now) p.args.trades.now
+    s left os out
     → coming p.args.t p.args.most s left os ≡ []
-    → let a = p.args in
-    let ts = swept a.t a.most a.quantity a.rows.now in
-    (s ≡ comes_to ts) × (out ≡ fitted (trade_rows ts) a.trades.now)
+    → (s ≡ comes_to (swept p.args.t p.args.most p.args.quantity p.args.rows.now))
+    × (out ≡ fitted (trade_rows (swept p.args.t p.args.most p.args.quantity p.args.rows.now)) p.args.trades.now)
 ended p =
     let a = p.args in
-    outcome a.t a.most a.quantity a.rows.now a.trades.now p.requires.stands
-    p.nothing_yet-s.ensures (all_of (line_of p))
+    outcome a.t a.most a.quantity a.rows.now a.trades.now p.requires.stands p.nothing_yet-s.ensures
+    (p.places_of-line.ensures.orders ∙ ap (λ n. queue n (book_of a.rows.now)) p.other_side.ensures)
 
 pub places_of-line-requires : goal.places_of-line-requires
 places_of-line-requires c =
@@ -128,6 +123,7 @@ pub with_trade-s-requires : goal.with_trade-s-requires
 with_trade-s-requires c =
     let a = c.args in
     let all = c.places_of-line in
+    let more =
     one_more a.t a.most _ _ _ (next_of (goal.at.with_trade-s-requires c).After-order_at-order) c.trade_with-trade.ensures (so_far (goal.at.with_trade-s-requires c).At-orders)
     c.nothing_yet-s.ensures
     (omega (
@@ -136,7 +132,8 @@ with_trade-s-requires c =
       c.well_formed.0.0,
       all.ensures.within,
     ))
-    c.ranges.quantity.fits
+    c.ranges.quantity.fits in
+    record { trades_bound = more.0; quantity_bound = more.1 }
 
 pub overflow_sub-left : goal.overflow_sub-left
 overflow_sub-left c =
@@ -179,9 +176,11 @@ shape_of-trades-after-prices c =
 pub returns-after-prices : goal.returns-after-prices
 returns-after-prices c =
     let a = c.args in
+    let all =
     ended (goal.at.returns-after-prices c).At-prices c.prices.invariant.0
     (nobody a.t a.most c.prices.s c.prices.left a.trades.now
-    (line_end _ _ _ c.prices-test.false))
+    (line_end _ _ _ c.prices-test.false)) in
+    record { value = all.0; trades_after = all.1 }
 
 pub shape_of-trades-then-most-s : goal.shape_of-trades-then-most-s
 shape_of-trades-then-most-s c =
@@ -190,9 +189,11 @@ shape_of-trades-then-most-s c =
 pub returns-then-most-s : goal.returns-then-most-s
 returns-then-most-s c =
     let a = c.args in
+    let all =
     ended (goal.at.returns-then-most-s c).At-prices c.prices.invariant.0
     (no_price a.t a.most c.prices.s c.prices.left a.trades.now
-    (first_of_lem (goal.at.returns-then-most-s c).After-order_at-best) c.prices.invariant.1 c.if-most-s.true)
+    (first_of_lem (goal.at.returns-then-most-s c).After-order_at-best) c.prices.invariant.1 c.if-most-s.true) in
+    record { value = all.0; trades_after = all.1 }
 
 pub shape_of-trades-then-not-wants : goal.shape_of-trades-then-not-wants
 shape_of-trades-then-not-wants c =
@@ -201,10 +202,12 @@ shape_of-trades-then-not-wants c =
 pub returns-then-not-wants : goal.returns-then-not-wants
 returns-then-not-wants c =
     let a = c.args in
+    let all =
     ended (goal.at.returns-then-not-wants c).At-prices c.prices.invariant.0
     (spent_new a.t a.most c.prices.s c.prices.left a.trades.now
     (first_of_lem (goal.at.returns-then-not-wants c).After-order_at-best) c.prices.invariant.1 c.if-most-s.false
-    (sym c.wants.ensures ∙ not-true _ c.if-not-wants.true-raw))
+    (sym c.wants.ensures ∙ not-true _ c.if-not-wants.true-raw)) in
+    record { value = all.0; trades_after = all.1 }
 
 pub shape_of-trades-then-not-wants-2 : goal.shape_of-trades-then-not-wants-2
 shape_of-trades-then-not-wants-2 c =
@@ -215,6 +218,8 @@ returns-then-not-wants-2 c =
     let a = c.args in
     let at_price = c.if-order-price.false in
     let spent = ap (wants _ _) at_price ∙ sym c.wants-in-orders.ensures ∙ not-true _ c.if-not-wants-2.true-raw in
+    let all =
     ended (goal.at.returns-then-not-wants-2 c).At-prices (so_far (goal.at.returns-then-not-wants-2 c).At-orders)
     (spent_same a.t a.most c.orders.s c.orders.left a.trades.now
-    (next_of (goal.at.returns-then-not-wants-2 c).After-order_at-order) (at_price ∙ sym c.orders.invariant.2) spent)
+    (next_of (goal.at.returns-then-not-wants-2 c).After-order_at-order) (at_price ∙ sym c.orders.invariant.2) spent) in
+    record { value = all.0; trades_after = all.1 }
