@@ -1,6 +1,5 @@
 -- `day_files::count_records` meets its contract: the invariant is `Counting`. Assumes nothing.
-use Prim.Native.Nat.{◌-◌}
-use mathlib.Core.Path.{refl, sym, ◌∙◌}
+use mathlib.Core.Path.{refl, ◌∙◌}
 use native.Mathlib.Omega.{arith}
 use Rattle.day_files.proofs.Counting.{counting_start, counting_next, counting_refused, counting_tail, counting_end}
 use Rattle.day_files.proofs.count_records.Goals as goal
@@ -10,18 +9,17 @@ loop-done-init c = counting_start _
 
 pub returns-in_default : goal.returns-in_default
 returns-in_default c =
-    c.in_default.is ∙ counting_refused c.args.file.now c.loop-done.invariant c.loop-done-test.true refl (sym c.in_default.is ∙ c.read_block-found.ensures)
+    c.in_default.is
+    ∙ counting_refused c.args.file.now c.loop-done.invariant c.loop-done-test.true refl c.in_default.ensures
 
 pub overflow_add-total : goal.overflow_add-total
 overflow_add-total c =
-    let f = c.found-1 in
-    let k = counting_next c.args.file.now c.loop-done.invariant c.loop-done-test.true refl (sym f.given.1 ∙ c.read_block-found.ensures) in
+    let k = counting_next c.args.file.now c.loop-done.invariant c.loop-done-test.true refl c.in-Records.ensures in
     omega (arith, k.0, c.loop-done.invariant.few)
 
 pub loop-done-preserved : goal.loop-done-preserved
 loop-done-preserved c =
-    let f = c.found-1 in
-    (counting_next c.args.file.now c.loop-done.invariant c.loop-done-test.true refl (sym f.given.1 ∙ c.read_block-found.ensures)).1
+    (counting_next c.args.file.now c.loop-done.invariant c.loop-done-test.true refl c.in-Records.ensures).1
 
 pub returns-then-whole-file : goal.returns-then-whole-file
 returns-then-whole-file c = counting_tail _ c.loop-done.invariant c.loop-done-test.false c.if-whole-file.true
