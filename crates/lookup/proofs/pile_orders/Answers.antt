@@ -1,5 +1,4 @@
 -- `lookup::pile_orders` meets its contract: place by place one order more lies on its pile. Assumes nothing.
-use Prim.Native.Nat.{◌-◌}
 use mathlib.Core.Path.{refl, ◌∙◌}
 use native.Mathlib.Omega.{arith}
 use lib.ListN.{length-map}
@@ -13,7 +12,7 @@ loop-i-init c =
 
 pub loop-i-preserved : goal.loop-i-preserved
 loop-i-preserved c =
-    let q = piled_on c.args.rows.now _ _ _ c.loop-i.invariant.3 c.order_at-o.ensures c.loop-i-test.true c.pile_order.ensures in
+    let q = piled_on c.args.rows.now _ _ _ c.loop-i.invariant.3 c.order_at-o.ensures c.loop-i-test.true (c.pile_order.ensures.tops_after, c.pile_order.ensures.under_after) in
     (omega (arith, c.loop-i-test.true), q.0 ∙ c.loop-i.invariant.1, q.1 ∙ c.loop-i.invariant.2, q.2)
 
 pub shape_of-tops : goal.shape_of-tops
