@@ -1,4 +1,5 @@
 -- Buys reach sells exactly where some price has volume, and then some price qualifies.
+use Rattle.std.specs.Prelude.{if◌then◌else◌}
 use Prim.Native.Nat.{ℕ, ◌+◌, ◌-◌, ◌≤◌, ◌<◌}
 use mathlib.Core.Path.{◌≡◌, refl, sym, ap, ◌∙◌}
 use mathlib.Core.Logic.{◌⊎◌, inl, inr, ⊎_elim}
@@ -10,7 +11,6 @@ use native.Mathlib.Omega.{arith}
 use borrow.Author.Tests.{leb-true, le-leb, ltb-false, ltb-true, eqb-true, eq-eqb, ne_eqb, eqb-false, not-true}
 use lib.Dec.{leb, ltb, eqb}
 use Rattle.model.specs.declared.Order.{Order}
-use Rattle.model.specs.Choice.{if◌then◌else◌}
 use Rattle.model.specs.Lists.{keep}
 use Rattle.model.specs.Book.{stands_on, better, ahead, insert, in_priority, queue, head_price, best}
 use Rattle.model.specs.Matching.{meets}

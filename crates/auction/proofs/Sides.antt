@@ -1,4 +1,5 @@
 -- Demand and supply: how they move with the price, how they split at a price, their bounds, and the pass that adds them up.
+use Rattle.std.specs.Prelude.{if◌then◌else◌}
 use Prim.Native.Nat.{ℕ, suc, ◌+◌, ◌-◌, ◌≤◌, ◌<◌, min}
 use mathlib.Core.Path.{◌≡◌, refl, sym, ap, ap₂, ◌∙◌}
 use mathlib.Core.Logic.{◌⊎◌, inl, inr, ⊎_elim}
@@ -13,7 +14,6 @@ use lib.ListN.{length, get_or, drop, drop_of_length-le}
 use lib.Seq.{drop-cons}
 use lib.Dec.{leb, ltb, eqb, leb-suc-suc}
 use Rattle.model.specs.declared.Order.{Order}
-use Rattle.model.specs.Choice.{if◌then◌else◌}
 use Rattle.model.specs.Book.{stands_on}
 use Rattle.model.specs.Matching.{meets}
 use Rattle.model.specs.Auction.{demand, supply, volume, buys_above, sells_below, buys_at, sells_at}

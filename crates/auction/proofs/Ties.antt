@@ -1,4 +1,5 @@
 -- The two tie rules on the qualifying prices: those of smallest difference lie together, and one of them is nearest.
+use Rattle.std.specs.Prelude.{if◌then◌else◌}
 use Prim.Native.Nat.{ℕ, ◌+◌, ◌-◌, ◌≤◌, ◌<◌, min}
 use mathlib.Core.Path.{◌≡◌, refl, sym, ap, ◌∙◌}
 use mathlib.Core.Logic.{◌⊎◌, inl, inr, ⊎_elim}
@@ -10,7 +11,6 @@ use borrow.Author.Tests.{lt-ltb, le-ltb}
 use lib.ListN.{get_or}
 use lib.Dec.{ltb}
 use Rattle.model.specs.declared.Order.{Order}
-use Rattle.model.specs.Choice.{if◌then◌else◌}
 use Rattle.model.specs.Lists.{at_least, from}
 use Rattle.model.specs.Auction.{distance, demand, supply, qualifying, least_difference, left_by}
 use Rattle.auction.specs.declared.Span.{Span}

@@ -1,7 +1,6 @@
 -- What an auction comes to at a price.
-use Rattle.std.specs.Prelude.{ℕ, List, pos, eqb}
+use Rattle.std.specs.Prelude.{ℕ, List, pos, eqb, if◌then◌else◌}
 use Rattle.model.specs.declared.Order.{Order}
-use Rattle.model.specs.Choice.{if◌then◌else◌}
 use Rattle.model.specs.Auction.{volume, surplus}
 use Rattle.auction.specs.declared.Fixing.{Fixing}
 

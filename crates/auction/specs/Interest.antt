@@ -1,7 +1,6 @@
 -- One side's shares at a price, so that one law serves both sides: side 0 at p is the demand, side 1 the supply.
-use Rattle.std.specs.Prelude.{ℕ, Bool, ◌&&◌, List}
+use Rattle.std.specs.Prelude.{ℕ, Bool, ◌&&◌, List, if◌then◌else◌}
 use Rattle.model.specs.declared.Order.{Order}
-use Rattle.model.specs.Choice.{if◌then◌else◌}
 use Rattle.model.specs.Book.{stands_on}
 use Rattle.model.specs.Matching.{meets}
 use Rattle.model.specs.Auction.{shares_of, demand, supply}

@@ -1,7 +1,6 @@
 -- The qualifying prices by their two ends, and the price that is left by the ends.
-use Rattle.std.specs.Prelude.{ℕ, ◌+◌, ◌-◌, Bool, not, ◌&&◌, List, length, get_or, leb, ltb, eqb}
+use Rattle.std.specs.Prelude.{ℕ, ◌+◌, ◌-◌, Bool, not, ◌&&◌, List, length, get_or, leb, ltb, eqb, if◌then◌else◌}
 use Rattle.model.specs.declared.Order.{Order}
-use Rattle.model.specs.Choice.{if◌then◌else◌}
 use Rattle.model.specs.Lists.{keep}
 use Rattle.model.specs.Auction.{prices, distance, demand, supply}
 use Rattle.auction.specs.declared.Span.{Span}

@@ -1,7 +1,6 @@
 -- The orders at the front of a list that stand at one price.
-use Rattle.std.specs.Prelude.{ℕ, suc, ◌+◌, List, [], ◌∷◌, eqb}
+use Rattle.std.specs.Prelude.{ℕ, suc, ◌+◌, List, [], ◌∷◌, eqb, if◌then◌else◌}
 use Rattle.model.specs.declared.Order.{Order}
-use Rattle.model.specs.Choice.{if◌then◌else◌}
 use Rattle.auction.specs.declared.Tier.{Tier}
 
 -- the shares of the orders at the front that stand at p

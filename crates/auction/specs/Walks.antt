@@ -1,7 +1,6 @@
 -- The walk along both sides of an auction: where it goes on, where it ends, and the qualifying prices there.
-use Rattle.std.specs.Prelude.{ℕ, ◌+◌, ◌≤◌, ◌<◌, min, max, ◌≡◌, Bool, ◌&&◌, List, ltb, leb, eqb}
+use Rattle.std.specs.Prelude.{ℕ, ◌+◌, ◌≤◌, ◌<◌, min, max, ◌≡◌, Bool, ◌&&◌, List, ltb, leb, eqb, if◌then◌else◌}
 use Rattle.model.specs.declared.Order.{Order}
-use Rattle.model.specs.Choice.{if◌then◌else◌}
 use Rattle.model.specs.Lists.{total}
 use Rattle.model.specs.Matching.{meets}
 use Rattle.model.specs.Auction.{demand, supply, volume, qualifying}

@@ -1,9 +1,8 @@
 -- Confirmations place by place: what one place adds to the trades so far, and which declarations stay.
-use Rattle.std.specs.Prelude.{ℕ, ◌+◌, ◌-◌, ◌≡◌, not, ◌&&◌, List, [], ◌∷◌, ◌++◌, length, set, replicate, eqb}
+use Rattle.std.specs.Prelude.{ℕ, ◌+◌, ◌-◌, ◌≡◌, not, ◌&&◌, List, [], ◌∷◌, ◌++◌, length, set, replicate, eqb, if◌then◌else◌}
 use Rattle.std.proofs.lemmas.List.Edits.{sets}
 use Rattle.model.specs.declared.Declaration.{Declaration}
 use Rattle.model.specs.declared.Trade.{Trade}
-use Rattle.model.specs.Choice.{if◌then◌else◌}
 use Rattle.model.specs.Matching.{filled}
 use Rattle.model.specs.Blocks.{undeclared}
 use Rattle.book.specs.declared.Dealt.{Dealt}

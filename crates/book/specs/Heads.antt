@@ -1,7 +1,6 @@
 -- How far an auction has come on a side: the order that trades next, with what is left of it, and those behind it.
-use Rattle.std.specs.Prelude.{ℕ, ◌+◌, ◌-◌, List, [], ◌∷◌, ltb}
+use Rattle.std.specs.Prelude.{ℕ, ◌+◌, ◌-◌, List, [], ◌∷◌, ltb, if◌then◌else◌}
 use Rattle.model.specs.declared.Order.{Order}
-use Rattle.model.specs.Choice.{if◌then◌else◌}
 use Rattle.book.specs.declared.Head.{Head}
 
 -- the first of the orders from a place on

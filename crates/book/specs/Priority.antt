@@ -1,7 +1,6 @@
 -- Priority as one number, the same way for both sides: of two orders of a side the one with the smaller key stands first.
-use Rattle.std.specs.Prelude.{ℕ, ◌+◌, ◌-◌, ◌*◌, eqb}
+use Rattle.std.specs.Prelude.{ℕ, ◌+◌, ◌-◌, ◌*◌, eqb, if◌then◌else◌}
 use Rattle.model.specs.declared.Order.{Order}
-use Rattle.model.specs.Choice.{if◌then◌else◌}
 
 -- the better a price, the smaller its rank
 unfoldable pub rank : ℕ → ℕ → ℕ

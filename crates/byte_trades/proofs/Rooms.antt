@@ -1,5 +1,6 @@
 -- No event has more trades than the book has places, so one in a local list of so many shows what it is in a lent list of any
 -- length: the same where its trades fit, and 13 where they do not, as no rule comes after that. Assumes nothing.
+use Rattle.std.specs.Prelude.{if◌then◌else◌}
 use Prim.Native.Nat.{ℕ, zero, suc, ◌≤◌, ◌<◌}
 use mathlib.Core.Path.{◌≡◌, refl, sym, ap, ◌∙◌}
 use mathlib.Core.Bool.{Bool}
@@ -15,7 +16,6 @@ use Rattle.model.specs.declared.Trade.{Trade}
 use Rattle.model.specs.declared.Day.{Day}
 use Rattle.model.specs.declared.OrderAnswer.{OrderAnswer}
 use Rattle.model.specs.declared.ClockAnswer.{ClockAnswer}
-use Rattle.model.specs.Choice.{if◌then◌else◌}
 use Rattle.model.specs.Entry.{entry_trades}
 use Rattle.model.specs.Refusals.{Rule, ◌when◌, first_of}
 use Rattle.model.specs.Calls.{Outcome, written, order_rules, entered, order_call}

@@ -1,7 +1,6 @@
 -- What a C author may rely on, said of the slices alone.
-use Rattle.std.specs.Prelude.{ℕ, ◌≤◌, ◌≡◌, List, [], ◌∷◌, ◌++◌, length, drop, eqb}
+use Rattle.std.specs.Prelude.{ℕ, ◌≤◌, ◌≡◌, List, [], ◌∷◌, ◌++◌, length, drop, eqb, if◌then◌else◌}
 use Rattle.model.specs.declared.Asked.{Asked}
-use Rattle.model.specs.Choice.{if◌then◌else◌}
 use Rattle.model.specs.Lists.{from}
 use Rattle.model.specs.Words.{Each, Some}
 use Rattle.demands.specs.Owning.{TakesOut}

@@ -1,10 +1,9 @@
 -- An order's rules, in the groups in which the code goes through them: what is asked by itself, when it is asked, its numbers,
 -- the book, and the lent list. Law `order-groups` says that these are document 01's rules, in its order.
-use Rattle.std.specs.Prelude.{ℕ, Bool, not, ◌&&◌, ◌||◌, List, [], ◌∷◌, ◌++◌, length, leb, ltb, eqb}
+use Rattle.std.specs.Prelude.{ℕ, Bool, not, ◌&&◌, ◌||◌, List, [], ◌∷◌, ◌++◌, length, leb, ltb, eqb, if◌then◌else◌}
 use Rattle.model.specs.declared.Order.{Order}
 use Rattle.model.specs.declared.Asked.{Asked}
 use Rattle.model.specs.declared.Day.{Day}
-use Rattle.model.specs.Choice.{if◌then◌else◌}
 use Rattle.model.specs.Lists.{all}
 use Rattle.model.specs.Clock.{continuous, takes_orders}
 use Rattle.model.specs.Limits.{is_price, is_quantity, in_band, in_range}

@@ -1,7 +1,6 @@
 -- The class of a declaration: what a buyer and a seller that fit have in common. Classes are compared number by number.
-use Rattle.std.specs.Prelude.{ℕ, Bool, true, false, ◌&&◌, List, [], ◌∷◌, eqb, ltb}
+use Rattle.std.specs.Prelude.{ℕ, Bool, true, false, ◌&&◌, List, [], ◌∷◌, eqb, ltb, if◌then◌else◌}
 use Rattle.model.specs.declared.Declaration.{Declaration}
-use Rattle.model.specs.Choice.{if◌then◌else◌}
 
 -- who buys, and who sells, by what a declaration says
 unfoldable pub buying_account : Declaration → ℕ

@@ -1,7 +1,6 @@
 -- A conversion that goes on in the middle of a line, and chunk by chunk.
-use Rattle.std.specs.Prelude.{ℕ, true, List, [], ◌∷◌, ◌++◌, take, eqb}
+use Rattle.std.specs.Prelude.{ℕ, true, List, [], ◌∷◌, ◌++◌, take, eqb, if◌then◌else◌}
 use Prim.Native.Char.{code}
-use Rattle.model.specs.Choice.{if◌then◌else◌}
 use Rattle.convert.specs.Converting.{taken_as_five}
 
 -- what is added at the newline of a line

@@ -1,10 +1,9 @@
 -- An input converted: balance 0 is added to each line that the older form takes as an order of five numbers, and every other
 -- byte is copied.
-use Rattle.std.specs.Prelude.{ℕ, Bool, false, ◌&&◌, length, leb, eqb}
+use Rattle.std.specs.Prelude.{ℕ, Bool, false, ◌&&◌, length, leb, eqb, if◌then◌else◌}
 use Prim.Native.Char.{code}
 use mathlib.Core.List.{List, [], ◌∷◌, ◌++◌, map, flatten}
 use Rattle.std.proofs.Math.Option.{Option, none, some}
-use Rattle.model.specs.Choice.{if◌then◌else◌}
 use Rattle.model.specs.Lines.{Line, lines_of, words_of, numbers_of}
 
 unfoldable pub are_five : Option (List ℕ) → Bool

@@ -1,9 +1,8 @@
 -- The line as it was while an order could leave out its balance: what it asked for, and the session of an old script. Kept
 -- for the converter alone; all that is not the order line is the definitions' own.
-use Rattle.std.specs.Prelude.{ℕ, ◌&&◌, List, [], ◌∷◌, ◌++◌, length, leb, eqb}
+use Rattle.std.specs.Prelude.{ℕ, ◌&&◌, List, [], ◌∷◌, ◌++◌, length, leb, eqb, if◌then◌else◌}
 use Prim.Native.Char.{code}
 use Rattle.std.proofs.Math.Option.{Option, none, some}
-use Rattle.model.specs.Choice.{if◌then◌else◌}
 use Rattle.model.specs.declared.Command.{Command}
 use Rattle.model.specs.declared.Command.TheVariants.{Malformed, Asks}
 use Rattle.model.specs.declared.Event.TheVariants.{Order}

@@ -1,9 +1,8 @@
 -- The price list as a run of prices, and what it is in a lent list.
-use Rattle.std.specs.Prelude.{ℕ, List, ◌++◌, drop, eqb}
+use Rattle.std.specs.Prelude.{ℕ, List, ◌++◌, drop, eqb, if◌then◌else◌}
 use Rattle.model.specs.declared.Order.{Order}
 use Rattle.model.specs.declared.Day.{Day}
 use Rattle.model.specs.declared.ListReply as ListReply
-use Rattle.model.specs.Choice.{if◌then◌else◌}
 use Rattle.model.specs.Lists.{from}
 use Rattle.model.specs.Refusals.{first_of}
 use Rattle.model.specs.AuctionCalls.{list_rules, due}

@@ -1,6 +1,5 @@
 -- A day file: its blocks one after the other, written from events and read back.
-use Rattle.std.specs.Prelude.{ℕ, zero, suc, ◌+◌, ◌/◌, List, [], ◌∷◌, ◌++◌, length, take, drop, ltb, eqb}
-use Rattle.model.specs.Choice.{if◌then◌else◌}
+use Rattle.std.specs.Prelude.{ℕ, zero, suc, ◌+◌, ◌/◌, List, [], ◌∷◌, ◌++◌, length, take, drop, ltb, eqb, if◌then◌else◌}
 use Rattle.model.specs.Lists.{any}
 use Rattle.model.specs.Refusals.{Rule, ◌when◌, first_of}
 use Rattle.model.specs.declared.Event.{Event}

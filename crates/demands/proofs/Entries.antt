@@ -1,4 +1,5 @@
 -- One accepted order: what matching's laws say of its trades, in the words of the demand. Assumes nothing.
+use Rattle.std.specs.Prelude.{if◌then◌else◌}
 use Prim.Native.Nat.{ℕ, ◌+◌, ◌-◌}
 use mathlib.Core.Path.{◌≡◌, refl, ap}
 use mathlib.Core.Bool.{Bool, true, false, cond, ◌&&◌}
@@ -16,7 +17,6 @@ use Rattle.model.specs.declared.Day.{Day}
 use Rattle.model.specs.declared.Remainder.TheVariants.{Nothing, Rests, Withdrawn}
 use Rattle.model.specs.declared.OrderReply as OrderReply
 use Rattle.model.specs.declared.OrderAnswer.{OrderAnswer}
-use Rattle.model.specs.Choice.{if◌then◌else◌}
 use Rattle.model.specs.Book.{stands_on, other, arranged}
 use Rattle.model.specs.Matching.{meets, trade_with, sweep, filled, levels, settle}
 use Rattle.model.specs.Figures.{next_number}

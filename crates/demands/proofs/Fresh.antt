@@ -1,4 +1,5 @@
 -- An empty book: it fits every day, and an accepted opening gives a sound day. Assumes nothing.
+use Rattle.std.specs.Prelude.{if◌then◌else◌}
 use Prim.Native.Nat.{ℕ, ◌≤◌}
 use mathlib.Core.Path.{◌≡◌, refl, sym, ap, ◌∙◌}
 use mathlib.Core.Logic.{inl}
@@ -11,7 +12,6 @@ use lib.Dec.{eqb}
 use Rattle.model.specs.declared.Order.{Order}
 use Rattle.model.specs.declared.Day.{Day}
 use Rattle.model.specs.declared.OpenReply as OpenReply
-use Rattle.model.specs.Choice.{if◌then◌else◌}
 use Rattle.model.specs.Lists.{any, total, among, once}
 use Rattle.model.specs.Limits.{is_price}
 use Rattle.model.specs.Clock.{closed, later_rows, holding, row_at, phase_at, continuous, day_end}

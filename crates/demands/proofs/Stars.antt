@@ -1,4 +1,5 @@
 -- Every situation of the starred table is right: a to f by a book's two turning points, the rest by computing. Assumes nothing.
+use Rattle.std.specs.Prelude.{if◌then◌else◌}
 use Prim.Native.Nat.{ℕ, ◌-◌, min}
 use mathlib.Core.Path.{◌≡◌, refl, sym, ap, ◌∙◌}
 use mathlib.Core.Bool.{Bool, true, false, ◌&&◌}
@@ -13,7 +14,6 @@ use Rattle.model.specs.declared.Trade.{Trade}
 use Rattle.model.specs.declared.Screen.{Screen}
 use Rattle.model.specs.declared.Day.{Day}
 use Rattle.model.specs.declared.OrderReply as OrderReply
-use Rattle.model.specs.Choice.{if◌then◌else◌}
 use Rattle.model.specs.Lists.{keep, all, any, total, from, among, once, different}
 use Rattle.model.specs.Clock.{closed, later_rows, holding, row_at, phase_at, takes_orders, continuous, is_time, matching_from}
 use Rattle.model.specs.Book.{free, is_live, stands_on, better, ahead, insert, in_priority, queue, other, head_price, best, arranged, may_follow, in_order}

@@ -1,5 +1,6 @@
 -- A book's price list and the price that is left, from two numbers: where the sells turn and where the buys do. Each is tested
 -- at itself and one fen below, not at 999,999 prices.
+use Rattle.std.specs.Prelude.{if◌then◌else◌}
 use Prim.Native.Nat.{ℕ, ◌+◌, ◌-◌, ◌≤◌, ◌<◌}
 use mathlib.Core.Path.{◌≡◌, refl, ap, ◌∙◌}
 use mathlib.Core.Bool.{Bool, true, false, not, ◌&&◌, ◌||◌}
@@ -10,7 +11,6 @@ use native.Mathlib.Omega.{arith}
 use borrow.Author.Tests.{leb-true, lt-ltb, le-ltb, eq-eqb, ne_eqb, not-true}
 use lib.Dec.{leb, ltb, eqb}
 use Rattle.model.specs.declared.Order.{Order}
-use Rattle.model.specs.Choice.{if◌then◌else◌}
 use Rattle.model.specs.Lists.{from}
 use Rattle.model.specs.Auction.{qualifying, left_by}
 use Rattle.auction.specs.Spans.{turned, flatter, nearest_in}

@@ -1,6 +1,6 @@
 -- Demand 2, halts (4.2.5, 4.2.6): what a sound day says of its halt; what starts one, and when it ends; that each threshold fires once
 -- a day; what a halt does to orders; and that demand 3 covers the auction at its end.
-use Rattle.std.specs.Prelude.{ℕ, ◌+◌, ◌-◌, ◌*◌, ◌≤◌, ◌<◌, ◌≡◌, ◌⊎◌, ◌↔◌, Bool, true, false, not, ◌&&◌, List, [], ◌∷◌, ◌++◌, take, leb, ltb, eqb}
+use Rattle.std.specs.Prelude.{ℕ, ◌+◌, ◌-◌, ◌*◌, ◌≤◌, ◌<◌, ◌≡◌, ◌⊎◌, ◌↔◌, Bool, true, false, not, ◌&&◌, List, [], ◌∷◌, ◌++◌, take, leb, ltb, eqb, if◌then◌else◌}
 use Rattle.model.specs.declared.Order.{Order}
 use Rattle.model.specs.declared.Asked.{Asked}
 use Rattle.model.specs.declared.Trade.{Trade}
@@ -11,7 +11,6 @@ use Rattle.model.specs.declared.OrderReply as OrderReply
 use Rattle.model.specs.declared.OrderAnswer.{OrderAnswer}
 use Rattle.model.specs.declared.ClockReply as ClockReply
 use Rattle.model.specs.declared.ClockAnswer.{ClockAnswer}
-use Rattle.model.specs.Choice.{if◌then◌else◌}
 use Rattle.model.specs.Clock.{phase_at, takes_orders, takes_cancels}
 use Rattle.model.specs.Figures.{reference, open_price}
 use Rattle.model.specs.Halts.{phase_now}

@@ -1,6 +1,6 @@
 -- Demand 2, what is left after each fill: the left numbers that an event's trades give for an order fall from what it had by what
 -- each trade fills, and the last of them is what stands in the book afterwards.
-use Rattle.std.specs.Prelude.{ℕ, ◌+◌, ◌≤◌, ◌<◌, ◌≡◌, true, false, List, [], ◌∷◌, length, get_or, take, eqb}
+use Rattle.std.specs.Prelude.{ℕ, ◌+◌, ◌≤◌, ◌<◌, ◌≡◌, true, false, List, [], ◌∷◌, length, get_or, take, eqb, if◌then◌else◌}
 use Rattle.model.specs.declared.Order.{Order}
 use Rattle.model.specs.declared.Asked.{Asked}
 use Rattle.model.specs.declared.Trade.{Trade}
@@ -9,7 +9,6 @@ use Rattle.model.specs.declared.Entry.{Entry}
 use Rattle.model.specs.declared.OrderReply as OrderReply
 use Rattle.model.specs.declared.OrderAnswer.{OrderAnswer}
 use Rattle.model.specs.declared.ClockAnswer.{ClockAnswer}
-use Rattle.model.specs.Choice.{if◌then◌else◌}
 use Rattle.model.specs.Book.{free}
 use Rattle.model.specs.Matching.{is_in}
 use Rattle.model.specs.Entry.{rest_price}

@@ -1,12 +1,11 @@
 -- Demand 2, the day's totals after an event: those before with the event's trades added.
-use Rattle.std.specs.Prelude.{ℕ, ◌+◌, ◌≡◌, List, [], take, eqb}
+use Rattle.std.specs.Prelude.{ℕ, ◌+◌, ◌≡◌, List, [], take, eqb, if◌then◌else◌}
 use Rattle.model.specs.declared.Order.{Order}
 use Rattle.model.specs.declared.Asked.{Asked}
 use Rattle.model.specs.declared.Trade.{Trade}
 use Rattle.model.specs.declared.Day.{Day}
 use Rattle.model.specs.declared.OrderAnswer.{OrderAnswer}
 use Rattle.model.specs.declared.ClockAnswer.{ClockAnswer}
-use Rattle.model.specs.Choice.{if◌then◌else◌}
 use Rattle.model.specs.Matching.{filled, first_price, last_price}
 use Rattle.model.specs.Figures.{money}
 use Rattle.model.specs.Calls.{Outcome, order_call, cancel_call}

@@ -1,8 +1,7 @@
 -- How many blocks a move will confirm, and how many fixed-price trades it will have.
-use Rattle.std.specs.Prelude.{ℕ, List, not, length}
+use Rattle.std.specs.Prelude.{ℕ, List, not, length, if◌then◌else◌}
 use Rattle.model.specs.declared.Order.{Order}
 use Rattle.model.specs.declared.Declaration.{Declaration}
-use Rattle.model.specs.Choice.{if◌then◌else◌}
 use Rattle.model.specs.Lists.{keep}
 use Rattle.model.specs.FixedBook.{is_void, matches}
 use Rattle.model.specs.Blocks.{confirmations}

@@ -1,8 +1,7 @@
 -- A block of 512 bytes. 0 to 3: block number; 4 and 5: records in the block; 6 and 7: zero; 8 to 507: 25 places of 20 bytes;
 -- 508 to 511: the check. All numbers have their least byte first.
-use Rattle.std.specs.Prelude.{ℕ, suc, ◌+◌, ◌-◌, ◌*◌, ◌%◌, Bool, not, ◌&&◌, ◌||◌, List, [], ◌∷◌, ◌++◌, length, take, drop, replicate, leb, eqb}
+use Rattle.std.specs.Prelude.{ℕ, suc, ◌+◌, ◌-◌, ◌*◌, ◌%◌, Bool, not, ◌&&◌, ◌||◌, List, [], ◌∷◌, ◌++◌, length, take, drop, replicate, leb, eqb, if◌then◌else◌}
 use Rattle.std.proofs.lemmas.List.Edits.{sets}
-use Rattle.model.specs.Choice.{if◌then◌else◌}
 use Rattle.model.specs.Lists.{all}
 use Rattle.model.specs.Refusals.{Rule, ◌when◌, first_of}
 use Rattle.octets.specs.Numbers.{worth, digits, parts, flat}

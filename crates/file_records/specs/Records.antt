@@ -1,6 +1,5 @@
 -- A record of 20 bytes: kind, side, order kind, zero, then four 32-bit numbers.
-use Rattle.std.specs.Prelude.{ℕ, ◌+◌, ◌*◌, Bool, false, ◌&&◌, ◌||◌, List, ◌∷◌, ◌++◌, get_or, take, drop, leb, ltb, eqb}
-use Rattle.model.specs.Choice.{if◌then◌else◌}
+use Rattle.std.specs.Prelude.{ℕ, ◌+◌, ◌*◌, Bool, false, ◌&&◌, ◌||◌, List, ◌∷◌, ◌++◌, get_or, take, drop, leb, ltb, eqb, if◌then◌else◌}
 use Rattle.model.specs.Lists.{all}
 use Rattle.octets.specs.Numbers.{worth, digits}
 use Rattle.model.specs.declared.Event.{Event}

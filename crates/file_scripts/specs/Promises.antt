@@ -1,9 +1,8 @@
 -- What is promised of scripts and day files, as statements: each can be read without its proof.
-use Rattle.std.specs.Prelude.{ℕ, ◌≡◌, Bool, true, false, List, [], ◌∷◌, ◌++◌, map, length, ltb}
+use Rattle.std.specs.Prelude.{ℕ, ◌≡◌, Bool, true, false, List, [], ◌∷◌, ◌++◌, map, length, ltb, if◌then◌else◌}
 use Rattle.std.proofs.Math.Option.{Option, none}
 use Rattle.model.specs.declared.Event.{Event}
 use Rattle.model.specs.declared.Command.TheVariants.{Asks}
-use Rattle.model.specs.Choice.{if◌then◌else◌}
 use Rattle.model.specs.Lines.{Line, lines_of, line_command}
 use Rattle.model.specs.Lists.{keep, all, any}
 use Rattle.model.specs.Session.{Desk, answer, answers, session}

@@ -1,11 +1,10 @@
 -- Scripts of the rehearsal program and day files: which lines are stored, and how an event is written as a line.
-use Rattle.std.specs.Prelude.{ℕ, suc, List, [], ◌∷◌, ◌++◌, map}
+use Rattle.std.specs.Prelude.{ℕ, suc, List, [], ◌∷◌, ◌++◌, map, if◌then◌else◌}
 use Prim.Native.Char.{code}
 use Rattle.model.specs.declared.Event.{Event}
 use Rattle.model.specs.declared.Event.TheVariants.{Open, Clock, Order, Cancel}
 use Rattle.model.specs.declared.Command.{Command}
 use Rattle.model.specs.declared.Command.TheVariants.{Malformed, Asks}
-use Rattle.model.specs.Choice.{if◌then◌else◌}
 use Rattle.model.specs.Lines.{lines_of, line_command, reply}
 use Rattle.octets.specs.Numbers.{flat}
 use Rattle.file_records.specs.Records.{is_wide}

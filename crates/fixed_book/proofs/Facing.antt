@@ -1,5 +1,6 @@
 -- Two lines of orders that face each other, first against first: what the trades fill together, and what they leave of each line.
 -- Assumes nothing.
+use Rattle.std.specs.Prelude.{if◌then◌else◌}
 use Prim.Native.Nat.{ℕ, zero, suc, ◌+◌, ◌-◌, ◌≤◌, ◌<◌, min}
 use mathlib.Core.Path.{◌≡◌, refl, sym, ap, ◌∙◌}
 use mathlib.Core.Bool.{Bool, true, false, ◌||◌}
@@ -11,7 +12,6 @@ use lib.ListN.{length, length-map}
 use lib.Dec.{ltb, eqb}
 use Rattle.model.specs.declared.Order.{Order}
 use Rattle.model.specs.declared.Trade.{Trade}
-use Rattle.model.specs.Choice.{if◌then◌else◌}
 use Rattle.model.specs.Lists.{total}
 use Rattle.model.specs.Book.{free}
 use Rattle.model.specs.Matching.{is_in, filled, filled_of, less_by}

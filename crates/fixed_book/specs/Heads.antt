@@ -1,7 +1,6 @@
 -- Who trades next at the close on a side: the first of those from a place on that are not void, with what is left of it.
-use Rattle.std.specs.Prelude.{ℕ, ◌+◌, ◌<◌, ◌≡◌, Bool, not, ◌&&◌, List, [], ◌∷◌, map, length, drop, ltb}
+use Rattle.std.specs.Prelude.{ℕ, ◌+◌, ◌<◌, ◌≡◌, Bool, not, ◌&&◌, List, [], ◌∷◌, map, length, drop, ltb, if◌then◌else◌}
 use Rattle.model.specs.declared.Order.{Order}
-use Rattle.model.specs.Choice.{if◌then◌else◌}
 use Rattle.model.specs.Lists.{keep}
 use Rattle.model.specs.Book.{stands_on}
 use Rattle.model.specs.Pairing.{Share}

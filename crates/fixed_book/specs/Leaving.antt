@@ -1,7 +1,6 @@
 -- What the close leaves of the line: void orders are gone, and so many shares come off the first of either side.
-use Rattle.std.specs.Prelude.{ℕ, ◌+◌, ◌-◌, List, [], ◌∷◌, eqb}
+use Rattle.std.specs.Prelude.{ℕ, ◌+◌, ◌-◌, List, [], ◌∷◌, eqb, if◌then◌else◌}
 use Rattle.model.specs.declared.Order.{Order}
-use Rattle.model.specs.Choice.{if◌then◌else◌}
 use Rattle.model.specs.Book.{free}
 use Rattle.model.specs.Matching.{less_by}
 use Rattle.model.specs.FixedBook.{is_void}

@@ -1,4 +1,5 @@
 -- An accepted fixed-price order: its number, the day with it, and its reply. Assumes nothing.
+use Rattle.std.specs.Prelude.{if◌then◌else◌}
 use Prim.Native.Nat.{ℕ, suc, ◌+◌, ◌-◌}
 use mathlib.Core.Path.{◌≡◌, refl, sym, ap, ◌∙◌}
 use mathlib.Core.Bool.{false, not}
@@ -13,7 +14,6 @@ use Rattle.model.specs.declared.Trade.{Trade}
 use Rattle.model.specs.declared.Day.{Day}
 use Rattle.model.specs.declared.Remainder.{Remainder}
 use Rattle.model.specs.declared.Remainder.TheVariants.{Nothing, Rests}
-use Rattle.model.specs.Choice.{if◌then◌else◌}
 use Rattle.model.specs.Lists.{once, different}
 use Rattle.model.specs.Matching.{filled, levels}
 use Rattle.model.specs.Figures.{next_fixed, with_fixed_figures, issue_fixed}

@@ -1,12 +1,11 @@
 -- A fixed-price order's rules but 15, in the groups in which the code goes through them: what is asked, and the book with the lent list.
 -- Law `fixed-groups` says that with 15 before them these are the rules of the definition, in its order.
-use Rattle.std.specs.Prelude.{ℕ, ◌<◌, ◌≡◌, not, ◌&&◌, List, [], ◌∷◌, length, leb, ltb, eqb}
+use Rattle.std.specs.Prelude.{ℕ, ◌<◌, ◌≡◌, not, ◌&&◌, List, [], ◌∷◌, length, leb, ltb, eqb, if◌then◌else◌}
 use Rattle.model.specs.declared.Order.{Order}
 use Rattle.model.specs.declared.AskedFixed.{AskedFixed}
 use Rattle.model.specs.declared.Trade.{Trade}
 use Rattle.model.specs.declared.Day.{Day}
 use Rattle.model.specs.declared.OrderAnswer.{OrderAnswer}
-use Rattle.model.specs.Choice.{if◌then◌else◌}
 use Rattle.model.specs.Lists.{keep, all}
 use Rattle.model.specs.Clock.{long_hours, matching_from}
 use Rattle.model.specs.Limits.{is_price, is_quantity, in_band}

@@ -1,5 +1,6 @@
 -- A move with no fixed-price order and no declaration: nothing is due after the close, and the call answers as the main book's own
 -- does. Assumes nothing.
+use Rattle.std.specs.Prelude.{if◌then◌else◌}
 use Prim.Native.Nat.{ℕ, ◌+◌}
 use mathlib.Core.Path.{◌≡◌, refl, ap, ◌∙◌}
 use mathlib.Core.Bool.{Bool, true, false, cond, ◌||◌, or-false}
@@ -12,7 +13,6 @@ use Rattle.model.specs.declared.Day.{Day}
 use Rattle.model.specs.declared.ClockAnswer.{ClockAnswer}
 use Rattle.model.specs.declared.ClockReply as ClockReply
 use Rattle.model.specs.declared.MoveReply as MoveReply
-use Rattle.model.specs.Choice.{if◌then◌else◌}
 use Rattle.model.specs.Lists.{total}
 use Rattle.model.specs.Clock.{confirming_from, matching_from, day_end, passed}
 use Rattle.model.specs.Books.{Books, with_fixed, with_blocks}

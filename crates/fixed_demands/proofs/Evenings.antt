@@ -1,4 +1,5 @@
 -- What a move over all lists does to the fixed-price book and to the declarations, by the seconds that it passes. Assumes nothing.
+use Rattle.std.specs.Prelude.{if◌then◌else◌}
 use Prim.Native.Nat.{ℕ, ◌≤◌}
 use mathlib.Core.Path.{◌≡◌, refl, ap, ◌∙◌}
 use mathlib.Core.Logic.{⊎_elim}
@@ -11,7 +12,6 @@ use borrow.Author.Tests.{le-leb, lt-leb, lt-ltb, le-ltb}
 use Rattle.model.specs.declared.Order.{Order}
 use Rattle.model.specs.declared.Declaration.{Declaration}
 use Rattle.model.specs.declared.Day.{Day}
-use Rattle.model.specs.Choice.{if◌then◌else◌}
 use Rattle.model.specs.Clock.{confirming_from, matching_from, day_end}
 use Rattle.model.specs.Book.{free}
 use Rattle.model.specs.Books.{Books, with_fixed, with_blocks}

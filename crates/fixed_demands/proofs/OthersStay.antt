@@ -1,5 +1,6 @@
 -- A fixed-price order that is taken: the others stand afterwards less what its trades fill of them, and what is left of it stands too.
 -- Assumes nothing.
+use Rattle.std.specs.Prelude.{if◌then◌else◌}
 use Prim.Native.Nat.{ℕ, suc, ◌-◌, ◌≤◌, ◌<◌}
 use mathlib.Core.Path.{◌≡◌, refl, sym, ap, ◌∙◌, subst}
 use mathlib.Core.Logic.{inl}
@@ -18,7 +19,6 @@ use Rattle.model.specs.declared.Day.{Day}
 use Rattle.model.specs.declared.Entry.{Entry}
 use Rattle.model.specs.declared.OrderReply as OrderReply
 use Rattle.model.specs.declared.OrderAnswer.{OrderAnswer}
-use Rattle.model.specs.Choice.{if◌then◌else◌}
 use Rattle.model.specs.Lists.{keep, total}
 use Rattle.model.specs.Book.{free, is_live}
 use Rattle.model.specs.Arrival.{is_taken}

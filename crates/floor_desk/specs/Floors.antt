@@ -1,13 +1,12 @@
 -- The definitions' floor, as the program holds it: the day, once one is open, the rows of the book, and the rows of the claims, of which the
 -- first so many are noted.
-use Rattle.std.specs.Prelude.{ℕ, ◌≤◌, ◌≡◌, Bool, false, ◌&&◌, List, length, take}
+use Rattle.std.specs.Prelude.{ℕ, ◌≤◌, ◌≡◌, Bool, false, ◌&&◌, List, length, take, if◌then◌else◌}
 use Prim.Native.Char.{code}
 use Rattle.model.specs.declared.Order.{Order}
 use Rattle.model.specs.declared.Day.{Day}
 use Rattle.model.specs.declared.Command.{Command}
 use Rattle.model.specs.declared.Command.TheVariants.{Malformed, Asks}
 use Rattle.model.specs.declared.Event.TheVariants.{Open, Clock, Order as Ordered, Cancel}
-use Rattle.model.specs.Choice.{if◌then◌else◌}
 use Rattle.model.specs.Limits.{is_price}
 use Rattle.model.specs.Sound.{is_mark}
 use Rattle.model.specs.Lines.{reply_line}

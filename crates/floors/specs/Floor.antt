@@ -1,6 +1,6 @@
 -- The program ./floor: from the bytes that it reads to the bytes that it writes. What ./run reads in a line is answered as ./run
 -- answers it; a question is answered from the open day, and changes neither day nor book.
-use Rattle.std.specs.Prelude.{ℕ, suc, min, List, [], ◌∷◌, ◌++◌, length, replicate, take, ℤ, pos, negsuc, ltb, eqb}
+use Rattle.std.specs.Prelude.{ℕ, suc, min, List, [], ◌∷◌, ◌++◌, length, replicate, take, ℤ, pos, negsuc, ltb, eqb, if◌then◌else◌}
 use Prim.Native.Char.{code}
 use Rattle.std.proofs.Math.Option.{Option, none, some}
 use Rattle.model.specs.declared.Level.{Level}
@@ -12,7 +12,6 @@ use Rattle.model.specs.declared.Event.TheVariants.{Open, Clock, Order, Cancel}
 use Rattle.model.specs.declared.OpenReply as OpenReply
 use Rattle.model.specs.declared.ReportReply as ReportReply
 use Rattle.model.specs.declared.ListReply as ListReply
-use Rattle.model.specs.Choice.{if◌then◌else◌}
 use Rattle.model.specs.Calls.{open_call}
 use Rattle.model.specs.AuctionCalls.{ListOutcome, report_call, list_call}
 use Rattle.model.specs.Replies.{list_numbers}

@@ -1,10 +1,9 @@
 -- What a line of ./floor asks for: one of its own letters with as many numbers as that wants is a question, any other line is what
 -- ./run reads in it.
-use Rattle.std.specs.Prelude.{ℕ, ◌&&◌, List, [], ◌∷◌, length, leb, eqb}
+use Rattle.std.specs.Prelude.{ℕ, ◌&&◌, List, [], ◌∷◌, length, leb, eqb, if◌then◌else◌}
 use Prim.Native.Char.{code}
 use Rattle.std.proofs.Math.Option.{Option, none, some}
 use Rattle.model.specs.declared.Command.{Command}
-use Rattle.model.specs.Choice.{if◌then◌else◌}
 use Rattle.model.specs.Lines.{Line, words_of, numbers_of, line_command}
 use Rattle.floors.specs.declared.Question.{Question}
 use Rattle.floors.specs.declared.Question.TheVariants.{Report, Prices, Claims, Judge, Screen}

@@ -1,6 +1,5 @@
 -- The blocks of a file before the first refused one, and that one's refusal; of a whole file, and from the middle of it on.
-use Rattle.std.specs.Prelude.{ℕ, zero, suc, ◌+◌, ◌-◌, ◌/◌, List, length, take, drop, eqb}
-use Rattle.model.specs.Choice.{if◌then◌else◌}
+use Rattle.std.specs.Prelude.{ℕ, zero, suc, ◌+◌, ◌-◌, ◌/◌, List, length, take, drop, eqb, if◌then◌else◌}
 use Rattle.model.specs.Refusals.{first_of}
 use Rattle.file_blocks.specs.Blocks.{block_rules}
 use Rattle.day_files.specs.Files.{whole_blocks, rules_from}

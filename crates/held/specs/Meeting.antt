@@ -1,10 +1,9 @@
 -- A new declaration, and the earliest one that it fits, whichever of the two buys.
-use Rattle.std.specs.Prelude.{ℕ, suc, List, [], ◌∷◌, eqb}
+use Rattle.std.specs.Prelude.{ℕ, suc, List, [], ◌∷◌, eqb, if◌then◌else◌}
 use Rattle.model.specs.declared.Declaration.{Declaration}
 use Rattle.model.specs.declared.AskedBlock.{AskedBlock}
 use Rattle.model.specs.declared.Trade.{Trade}
 use Rattle.model.specs.declared.Day.{Day}
-use Rattle.model.specs.Choice.{if◌then◌else◌}
 use Rattle.model.specs.Figures.{next_block}
 use Rattle.model.specs.Blocks.{fits, confirmation}
 

@@ -1,4 +1,5 @@
 -- With no price left nothing is granted, so that no claim is right. Assumes nothing.
+use Rattle.std.specs.Prelude.{if◌then◌else◌}
 use Prim.Native.Nat.{ℕ}
 use mathlib.Core.Path.{◌≡◌, refl, sym, ◌∙◌}
 use mathlib.Core.Logic.{◌↔◌}
@@ -9,7 +10,6 @@ use lib.Dec.{eqb}
 use borrow.Author.Tests.{eqb-true, eq-eqb}
 use Rattle.model.specs.declared.Order.{Order}
 use Rattle.model.specs.declared.Day.{Day}
-use Rattle.model.specs.Choice.{if◌then◌else◌}
 use Rattle.model.specs.Lists.{any, at_least}
 use Rattle.model.specs.Book.{is_live, stands_on, queue}
 use Rattle.model.specs.Auction.{volume, qualifying, least_difference, left_by, auction_price}

@@ -1,4 +1,5 @@
 -- The judge's tests as plain facts: when it refuses, and when it says yes. Assumes nothing.
+use Rattle.std.specs.Prelude.{if◌then◌else◌}
 use Prim.Native.Nat.{ℕ}
 use mathlib.Core.Path.{◌≡◌, refl, sym, ◌∙◌}
 use mathlib.Core.Logic.{◌↔◌}
@@ -9,7 +10,6 @@ use lib.Dec.{eqb}
 use borrow.Author.Tests.{eqb-true, eq-eqb}
 use Rattle.model.specs.declared.Order.{Order}
 use Rattle.model.specs.declared.Day.{Day}
-use Rattle.model.specs.Choice.{if◌then◌else◌}
 use Rattle.model.specs.Book.{is_live}
 use Rattle.model.specs.Refusals.{◌when◌, first_of, unsound}
 use Rattle.model.specs.Auction.{auction_price}

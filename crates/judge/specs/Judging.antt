@@ -1,9 +1,8 @@
 -- A verdict on a claimed price and a list of claimed trades: yes exactly when the price is the one that is left, every trade joins a
 -- live buy with a live sell for at least one share, and each order's fills add up to what priority grants it.
-use Rattle.std.specs.Prelude.{ℕ, Bool, not, ◌&&◌, ◌||◌, List, [], ◌∷◌, leb, eqb}
+use Rattle.std.specs.Prelude.{ℕ, Bool, not, ◌&&◌, ◌||◌, List, [], ◌∷◌, leb, eqb, if◌then◌else◌}
 use Rattle.model.specs.declared.Order.{Order}
 use Rattle.model.specs.declared.Day.{Day}
-use Rattle.model.specs.Choice.{if◌then◌else◌}
 use Rattle.model.specs.Lists.{keep, all, any, total}
 use Rattle.model.specs.Book.{is_live, stands_on, queue}
 use Rattle.model.specs.Auction.{volume, auction_price}

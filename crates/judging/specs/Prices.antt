@@ -1,8 +1,7 @@
 -- What the judge knows before the claims are looked at.
-use Rattle.std.specs.Prelude.{ℕ, List, eqb}
+use Rattle.std.specs.Prelude.{ℕ, List, eqb, if◌then◌else◌}
 use Rattle.model.specs.declared.Order.{Order}
 use Rattle.model.specs.declared.Day.{Day}
-use Rattle.model.specs.Choice.{if◌then◌else◌}
 use Rattle.model.specs.Refusals.{first_of}
 use Rattle.model.specs.Auction.{auction_price}
 use Rattle.judge.specs.declared.Verdict.{Verdict}

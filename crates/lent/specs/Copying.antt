@@ -1,6 +1,5 @@
 -- Elements copied from one list to another, and how many places of a lent book are.
-use Rattle.std.specs.Prelude.{ℕ, List, ◌++◌, map, take, drop, leb}
-use Rattle.model.specs.Choice.{if◌then◌else◌}
+use Rattle.std.specs.Prelude.{ℕ, List, ◌++◌, map, take, drop, leb, if◌then◌else◌}
 
 -- f of the first n of xs, and then ys from n on as it was
 unfoldable pub copied : {X Y : Type 0} → (X → Y) → ℕ → List X → List Y → List Y

@@ -1,4 +1,5 @@
 -- One order after the other goes on its pile. Assumes nothing.
+use Rattle.std.specs.Prelude.{if◌then◌else◌}
 use Prim.Native.Nat.{ℕ, zero, suc, ◌+◌, ◌%◌, ◌≤◌, ◌<◌}
 use mathlib.Core.Path.{◌≡◌, refl, sym, ap, ◌∙◌}
 use mathlib.Core.Bool.{Bool, true, false, and-false}
@@ -10,7 +11,6 @@ use lib.ListN.{length, get_or, set, replicate, length-set, length-replicate, len
 use lib.Seq.{get_or-set_same, get_or-set_other}
 use borrow.Author.Tests.{eq-eqb, ne_eqb}
 use Rattle.model.specs.declared.Order.{Order}
-use Rattle.model.specs.Choice.{if◌then◌else◌}
 use Rattle.model.specs.Book.{free, is_live}
 use Rattle.model.proofs.Bools.{and_both, not_both}
 use Rattle.book.specs.Rows.{order_of, book_of}

@@ -1,4 +1,5 @@
 -- An order keeps the book standing, in every phase: what rests of it has a side, a price, shares and its own number.
+use Rattle.std.specs.Prelude.{if◌then◌else◌}
 use Prim.Native.Nat.{ℕ, ◌+◌, ◌-◌, ◌≤◌, min, max}
 use mathlib.Core.Path.{◌≡◌, refl}
 use mathlib.Core.Bool.{Bool, true, false, cond, ◌||◌}
@@ -11,7 +12,6 @@ use Rattle.model.specs.declared.Order.{Order}
 use Rattle.model.specs.declared.Asked.{Asked}
 use Rattle.model.specs.declared.Trade.{Trade}
 use Rattle.model.specs.declared.Day.{Day}
-use Rattle.model.specs.Choice.{if◌then◌else◌}
 use Rattle.model.specs.Lists.{keep, all, total}
 use Rattle.model.specs.Book.{is_live, stands_on, queue, best, other}
 use Rattle.model.specs.Matching.{within, filled, last_price, settle}

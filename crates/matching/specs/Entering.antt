@@ -1,7 +1,6 @@
 -- The prices of an order by its kind, from the best prices of its own side and of the other side as numbers.
-use Rattle.std.specs.Prelude.{ℕ, leb, eqb}
+use Rattle.std.specs.Prelude.{ℕ, leb, eqb, if◌then◌else◌}
 use Rattle.model.specs.declared.Asked.{Asked}
-use Rattle.model.specs.Choice.{if◌then◌else◌}
 use Rattle.model.specs.Matching.{within}
 
 -- a best price, or the protection limit where that is beyond it; 0 where the side is empty

@@ -1,9 +1,8 @@
 -- The trades of an order that came in, by which the book is settled, and the orders then: shares are off the front of the other side.
-use Rattle.std.specs.Prelude.{ℕ, ◌≡◌, List, ◌++◌, eqb}
+use Rattle.std.specs.Prelude.{ℕ, ◌≡◌, List, ◌++◌, eqb, if◌then◌else◌}
 use Rattle.model.specs.declared.Order.{Order}
 use Rattle.model.specs.declared.Trade.{Trade}
 use Rattle.model.specs.declared.Taker.{Taker}
-use Rattle.model.specs.Choice.{if◌then◌else◌}
 use Rattle.model.specs.Book.{queue, other}
 use Rattle.model.specs.Matching.{sweep}
 use Rattle.model.specs.Words.{Each}

@@ -1,5 +1,6 @@
 -- Halts, by evaluation: both sides of each threshold, when a halt ends, what fires, what phase 7 takes, what the end of a halt does
 -- once its auction's trades are known, the seconds of a move one after the other, and each clause of soundness. Assumes nothing.
+use Rattle.std.specs.Prelude.{if◌then◌else◌}
 use Prim.Native.Nat.{ℕ, ◌*◌}
 use mathlib.Core.Path.{◌≡◌, refl}
 use mathlib.Core.Bool.{true, false}
@@ -13,7 +14,6 @@ use Rattle.model.specs.declared.Day.{Day}
 use Rattle.model.specs.declared.Remainder.TheVariants.{Rests}
 use Rattle.model.specs.declared.OrderReply as OrderReply
 use Rattle.model.specs.declared.OrderAnswer.{OrderAnswer}
-use Rattle.model.specs.Choice.{if◌then◌else◌}
 use Rattle.model.specs.Lists.{keep, all, any, total, least, at_least, from, among, once, different}
 use Rattle.model.specs.Clock.{is_time, closed, later_rows, holding, row_at, phase_at, takes_orders, takes_cancels, continuous, passed, day_end, matching_from}
 use Rattle.model.specs.Book.{free, is_live, stands_on, better, ahead, insert, in_priority, queue, other, head_price, best, arranged, may_follow, in_order}

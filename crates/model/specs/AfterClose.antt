@@ -1,11 +1,10 @@
 -- What a move of the clock does after the close, in time order (02: #107, #108): at 15:00 blocks are confirmed, at 15:05 the
 -- fixed-price orders match, and at 15:30 what is left of both lapses.
-use Rattle.std.specs.Prelude.{ℕ, not, List, [], ◌∷◌, ◌++◌, length, eqb}
+use Rattle.std.specs.Prelude.{ℕ, not, List, [], ◌∷◌, ◌++◌, length, eqb, if◌then◌else◌}
 use Rattle.model.specs.declared.Order.{Order}
 use Rattle.model.specs.declared.Declaration.{Declaration}
 use Rattle.model.specs.declared.Trade.{Trade}
 use Rattle.model.specs.declared.Day.{Day}
-use Rattle.model.specs.Choice.{if◌then◌else◌}
 use Rattle.model.specs.Lists.{keep, total}
 use Rattle.model.specs.Clock.{confirming_from, matching_from, day_end}
 use Rattle.model.specs.Books.{Books, with_fixed, with_blocks}

@@ -1,12 +1,11 @@
 -- The two calls that work on all lists of a day: its opening, and a move of the clock. Of the main book alone they are open_call and
 -- clock_call, by which the rehearsal program answers: it has no other lists.
-use Rattle.std.specs.Prelude.{ℕ, not, ◌&&◌, ◌||◌, List, [], ◌∷◌, ◌++◌, length, ltb, eqb}
+use Rattle.std.specs.Prelude.{ℕ, not, ◌&&◌, ◌||◌, List, [], ◌∷◌, ◌++◌, length, ltb, eqb, if◌then◌else◌}
 use Rattle.model.specs.declared.Trade.{Trade}
 use Rattle.model.specs.declared.Day.{Day}
 use Rattle.model.specs.declared.OpenReply as OpenReply
 use Rattle.model.specs.declared.MoveReply as MoveReply
 use Rattle.model.specs.declared.MoveAnswer.{MoveAnswer}
-use Rattle.model.specs.Choice.{if◌then◌else◌}
 use Rattle.model.specs.Clock.{is_time, passed}
 use Rattle.model.specs.Limits.{is_price}
 use Rattle.model.specs.Figures.{fresh_day, at}

@@ -1,5 +1,5 @@
 -- A declaration of a block trade (3.6, 02: #108): its refusals in order, and what it does where none holds. None can be cancelled.
-use Rattle.std.specs.Prelude.{ℕ, not, ◌||◌, List, [], ◌∷◌, ◌++◌, length, leb, ltb, eqb}
+use Rattle.std.specs.Prelude.{ℕ, not, ◌||◌, List, [], ◌∷◌, ◌++◌, length, leb, ltb, eqb, if◌then◌else◌}
 use Rattle.model.specs.declared.Order.{Order}
 use Rattle.model.specs.declared.Declaration.{Declaration}
 use Rattle.model.specs.declared.AskedBlock.{AskedBlock}
@@ -7,7 +7,6 @@ use Rattle.model.specs.declared.Trade.{Trade}
 use Rattle.model.specs.declared.Day.{Day}
 use Rattle.model.specs.declared.BlockReply as BlockReply
 use Rattle.model.specs.declared.BlockAnswer.{BlockAnswer}
-use Rattle.model.specs.Choice.{if◌then◌else◌}
 use Rattle.model.specs.Lists.{keep, all}
 use Rattle.model.specs.Clock.{long_hours, confirming_from}
 use Rattle.model.specs.Limits.{is_price, in_band}

@@ -1,9 +1,8 @@
 -- Block trades by agreement (3.6): how large a block is, which two declarations fit, which are confirmed, and the places of those
 -- that are held.
-use Rattle.std.specs.Prelude.{ℕ, ◌*◌, Bool, not, ◌&&◌, ◌||◌, List, [], ◌∷◌, ◌++◌, map, leb, eqb}
+use Rattle.std.specs.Prelude.{ℕ, ◌*◌, Bool, not, ◌&&◌, ◌||◌, List, [], ◌∷◌, ◌++◌, map, leb, eqb, if◌then◌else◌}
 use Rattle.model.specs.declared.Declaration.{Declaration}
 use Rattle.model.specs.declared.Trade.{Trade}
-use Rattle.model.specs.Choice.{if◌then◌else◌}
 use Rattle.model.specs.Lists.{keep, any}
 use Rattle.model.specs.Book.{other}
 use Rattle.model.specs.Arrival.{is_taken, in_places}

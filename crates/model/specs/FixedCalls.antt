@@ -1,5 +1,5 @@
 -- A fixed-price order and its cancel (3.7, 02: #107): its refusals in order, and what it does where none holds.
-use Rattle.std.specs.Prelude.{ℕ, ◌-◌, not, ◌&&◌, ◌||◌, List, [], ◌∷◌, ◌++◌, length, leb, ltb, eqb}
+use Rattle.std.specs.Prelude.{ℕ, ◌-◌, not, ◌&&◌, ◌||◌, List, [], ◌∷◌, ◌++◌, length, leb, ltb, eqb, if◌then◌else◌}
 use Rattle.model.specs.declared.Order.{Order}
 use Rattle.model.specs.declared.AskedFixed.{AskedFixed}
 use Rattle.model.specs.declared.Trade.{Trade}
@@ -7,7 +7,6 @@ use Rattle.model.specs.declared.Day.{Day}
 use Rattle.model.specs.declared.OrderReply as OrderReply
 use Rattle.model.specs.declared.OrderAnswer.{OrderAnswer}
 use Rattle.model.specs.declared.CancelReply as CancelReply
-use Rattle.model.specs.Choice.{if◌then◌else◌}
 use Rattle.model.specs.Lists.{keep, all, any}
 use Rattle.model.specs.Clock.{long_hours, matching_from}
 use Rattle.model.specs.Limits.{is_price, is_quantity, in_band}

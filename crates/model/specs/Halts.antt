@@ -1,8 +1,7 @@
 -- First-day halts (4.2.5, 4.2.6): phase 7, what starts a halt, and when it ends.
-use Rattle.std.specs.Prelude.{ℕ, ◌+◌, ◌-◌, ◌*◌, Bool, not, ◌&&◌, ◌||◌, List, leb, ltb, eqb}
+use Rattle.std.specs.Prelude.{ℕ, ◌+◌, ◌-◌, ◌*◌, Bool, not, ◌&&◌, ◌||◌, List, leb, ltb, eqb, if◌then◌else◌}
 use Rattle.model.specs.declared.Trade.{Trade}
 use Rattle.model.specs.declared.Day.{Day}
-use Rattle.model.specs.Choice.{if◌then◌else◌}
 use Rattle.model.specs.Lists.{any}
 use Rattle.model.specs.Clock.{phase_at, continuous}
 use Rattle.model.specs.Figures.{open_price}

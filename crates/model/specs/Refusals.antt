@@ -1,9 +1,8 @@
 -- A call's refusals: its rules in the order in which they are tested. The first that holds is the refusal.
-use Rattle.std.specs.Prelude.{ℕ, Bool, not, ◌&&◌, ◌||◌, List, [], ◌∷◌}
+use Rattle.std.specs.Prelude.{ℕ, Bool, not, ◌&&◌, ◌||◌, List, [], ◌∷◌, if◌then◌else◌}
 use Rattle.model.specs.declared.Order.{Order}
 use Rattle.model.specs.declared.Declaration.{Declaration}
 use Rattle.model.specs.declared.Day.{Day}
-use Rattle.model.specs.Choice.{if◌then◌else◌}
 use Rattle.model.specs.Books.{Books}
 use Rattle.model.specs.Sound.{has_places, sound}
 use Rattle.model.specs.SoundFixed.{sound_fixed}

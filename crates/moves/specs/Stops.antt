@@ -1,6 +1,5 @@
 -- The stops of the clock: the seconds at which something is due, and the first of them that a move passes.
-use Rattle.std.specs.Prelude.{ℕ, Bool, ◌&&◌, ◌||◌, List, [], ◌∷◌, leb, ltb, eqb}
-use Rattle.model.specs.Choice.{if◌then◌else◌}
+use Rattle.std.specs.Prelude.{ℕ, Bool, ◌&&◌, ◌||◌, List, [], ◌∷◌, leb, ltb, eqb, if◌then◌else◌}
 use Rattle.model.specs.Lists.{among}
 
 -- the same every day: the opening and the closing auction

@@ -1,5 +1,6 @@
 -- An order that no rule refuses: its trades are read back from the list, the day's figures have room for them, the book is settled,
 -- and what is left of the order joins it. Assumes nothing.
+use Rattle.std.specs.Prelude.{if◌then◌else◌}
 use Prim.Native.Nat.{ℕ, ◌+◌, ◌-◌, ◌*◌, ◌^◌, ◌≤◌, ◌<◌}
 use mathlib.Core.Path.{◌≡◌, sym, ap, ◌∙◌}
 use mathlib.Core.Logic.{⊎_elim}
@@ -17,7 +18,6 @@ use Rattle.model.specs.declared.Trade.{Trade}
 use Rattle.model.specs.declared.Day.{Day}
 use Rattle.model.specs.declared.Remainder.{Remainder}
 use Rattle.model.specs.declared.OrderReply.TheVariants.{Accepted}
-use Rattle.model.specs.Choice.{if◌then◌else◌}
 use Rattle.model.specs.Lists.{all, total}
 use Rattle.model.specs.Book.{is_live, queue, best, other, arranged}
 use Rattle.model.specs.Matching.{filled, levels, last_price, settle}

@@ -1,10 +1,9 @@
 -- A script packed chunk by chunk.
-use Rattle.std.specs.Prelude.{ℕ, ◌+◌, false, List, [], ◌∷◌, ◌++◌, length}
+use Rattle.std.specs.Prelude.{ℕ, ◌+◌, false, List, [], ◌∷◌, ◌++◌, length, if◌then◌else◌}
 use Prim.Native.Char.{code}
 use Rattle.model.specs.declared.Event.{Event}
 use Rattle.model.specs.declared.Command.{Command}
 use Rattle.model.specs.declared.Command.TheVariants.{Malformed}
-use Rattle.model.specs.Choice.{if◌then◌else◌}
 use Rattle.model.specs.Lines.{lines_of, reply}
 use Rattle.text.specs.declared.Carry.{Carry}
 use Rattle.text.specs.Readers.{asks_of, commands}

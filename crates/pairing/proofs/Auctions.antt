@@ -1,5 +1,6 @@
 -- The trades of an auction as the clock call has them: what they come to, that no buy reaches a sell after them, and the book then,
 -- in its order again.
+use Rattle.std.specs.Prelude.{if◌then◌else◌}
 use Prim.Native.Nat.{ℕ, ◌+◌, ◌-◌, ◌*◌, ◌≤◌}
 use mathlib.Core.Path.{◌≡◌, refl, sym, ap, ◌∙◌}
 use mathlib.Core.Logic.{◌⊎◌, inl, inr, ⊎_elim}
@@ -12,7 +13,6 @@ use lib.ListN.{length}
 use lib.Dec.{eqb}
 use Rattle.model.specs.declared.Order.{Order}
 use Rattle.model.specs.declared.Day.{Day}
-use Rattle.model.specs.Choice.{if◌then◌else◌}
 use Rattle.model.specs.Lists.{keep, total}
 use Rattle.model.specs.Book.{is_live, queue, best, arranged}
 use Rattle.model.specs.Matching.{filled, first_price, last_price, settle}

@@ -1,5 +1,6 @@
 -- What paired trades come to: all are at the price, together they are what either side holds, and each order is filled what
 -- its side's shares grant it.
+use Rattle.std.specs.Prelude.{if◌then◌else◌}
 use Prim.Native.Nat.{ℕ, zero, suc, ◌+◌, ◌-◌, ◌≤◌, min}
 use mathlib.Core.Path.{◌≡◌, refl, sym, ap, ◌∙◌}
 use mathlib.Core.Bool.{Bool, true, false, ◌||◌}
@@ -11,7 +12,6 @@ use lib.ListN.{length}
 use lib.Dec.{eqb}
 use Rattle.model.specs.declared.Order.{Order}
 use Rattle.model.specs.declared.Trade.{Trade}
-use Rattle.model.specs.Choice.{if◌then◌else◌}
 use Rattle.model.specs.Lists.{keep, total}
 use Rattle.model.specs.Matching.{filled, is_in, filled_of}
 use Rattle.model.specs.Pairing.{Share, cut, head_less, pair}

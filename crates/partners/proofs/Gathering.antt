@@ -1,4 +1,5 @@
 -- The places of one side: what stands at them, and the loop that gathers them. Assumes nothing.
+use Rattle.std.specs.Prelude.{if◌then◌else◌}
 use Prim.Native.Nat.{ℕ, suc, ◌+◌, ◌≤◌, ◌<◌}
 use mathlib.Core.Path.{◌≡◌, refl, sym, ap, ◌∙◌}
 use mathlib.Core.Bool.{Bool, true, false}
@@ -8,7 +9,6 @@ use native.Mathlib.Numerals.{add-one}
 use lib.ListN.{length, get_or, set, take, drop, length-set, length-map, drop_of_length-le}
 use lib.Seq.{drop-cons, take-suc-set, take_at, length-take-le}
 use Rattle.model.specs.declared.Declaration.{Declaration}
-use Rattle.model.specs.Choice.{if◌then◌else◌}
 use Rattle.model.specs.Lists.{keep}
 use Rattle.model.specs.Blocks.{undeclared}
 use Rattle.model.specs.Words.{Each}

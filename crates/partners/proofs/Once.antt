@@ -1,11 +1,11 @@
 -- Nobody is paired twice: where no number stands twice, each pair's two numbers stand in no other pair. Assumes nothing.
+use Rattle.std.specs.Prelude.{if◌then◌else◌}
 use mathlib.Core.Path.{◌≡◌, refl, sym}
 use mathlib.Core.Logic.{◌⊎◌, inl, inr, ⊎_elim}
 use mathlib.Core.Bool.{Bool, true, false}
 use mathlib.Core.List.{List, [], ◌∷◌, ◌++◌, map}
 use Rattle.model.specs.declared.Declaration.{Declaration}
 use Rattle.model.specs.declared.Trade.{Trade}
-use Rattle.model.specs.Choice.{if◌then◌else◌}
 use Rattle.model.specs.Blocks.{fits, confirmation}
 use Rattle.model.specs.Words.{Each}
 use Rattle.book.proofs.Lists.{each, both, each_parts}

@@ -1,11 +1,11 @@
 -- Buyers in turn, each with the first seller of a list that fits, who then leaves it. Where classes decide who fits, it is the k-th
 -- buyer of a class with its k-th seller. Assumes nothing.
+use Rattle.std.specs.Prelude.{if◌then◌else◌}
 use Prim.Native.Nat.{ℕ}
 use mathlib.Core.Path.{◌≡◌, refl, sym, ap, ◌∙◌}
 use mathlib.Core.Bool.{Bool, true, false}
 use mathlib.Core.List.{List, [], ◌∷◌, ◌++◌}
 use Rattle.model.specs.declared.Declaration.{Declaration}
-use Rattle.model.specs.Choice.{if◌then◌else◌}
 use Rattle.model.specs.Lists.{keep}
 use Rattle.model.specs.Blocks.{fits}
 use Rattle.model.specs.Words.{Each}

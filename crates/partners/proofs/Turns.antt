@@ -1,11 +1,11 @@
 -- One buyer after the other: whom its trades name, and the same in two runs. Assumes nothing.
+use Rattle.std.specs.Prelude.{if◌then◌else◌}
 use mathlib.Core.Path.{◌≡◌, refl}
 use mathlib.Core.Logic.{◌⊎◌, inl, inr}
 use mathlib.Core.Bool.{Bool, true, false, not}
 use mathlib.Core.List.{List, [], ◌∷◌, ◌++◌, append_assoc}
 use Rattle.model.specs.declared.Declaration.{Declaration}
 use Rattle.model.specs.declared.Trade.{Trade}
-use Rattle.model.specs.Choice.{if◌then◌else◌}
 use Rattle.model.specs.Lists.{any}
 use Rattle.model.specs.Matching.{is_in}
 use Rattle.model.specs.Blocks.{fits, confirmation, with_earliest, unnamed, in_turn}

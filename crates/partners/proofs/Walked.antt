@@ -1,5 +1,6 @@
 -- What callers cite: the confirmations and those they leave, as one walk over the places writes them, and who has a partner.
 -- Assumes nothing.
+use Rattle.std.specs.Prelude.{if◌then◌else◌}
 use Prim.Native.Nat.{ℕ}
 use mathlib.Core.Path.{◌≡◌, refl, sym, ap, ◌∙◌}
 use mathlib.Core.Logic.{⊎_elim}
@@ -10,7 +11,6 @@ use lib.Dec.{eqb}
 use borrow.Author.Tests.{eq-eqb, ne_eqb}
 use Rattle.model.specs.declared.Declaration.{Declaration}
 use Rattle.model.specs.declared.Trade.{Trade}
-use Rattle.model.specs.Choice.{if◌then◌else◌}
 use Rattle.model.specs.Lists.{keep, any}
 use Rattle.model.specs.Matching.{is_in}
 use Rattle.model.specs.Blocks.{undeclared, fits, confirmation, unnamed, in_turn, confirmations}

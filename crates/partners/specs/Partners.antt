@@ -1,8 +1,7 @@
 -- The partner of each declaration that is held, and the confirmations as one walk over the places writes them.
-use Rattle.std.specs.Prelude.{ℕ, Bool, not, ◌&&◌, List, [], ◌∷◌, map, eqb}
+use Rattle.std.specs.Prelude.{ℕ, Bool, not, ◌&&◌, List, [], ◌∷◌, map, eqb, if◌then◌else◌}
 use Rattle.model.specs.declared.Declaration.{Declaration}
 use Rattle.model.specs.declared.Trade.{Trade}
-use Rattle.model.specs.Choice.{if◌then◌else◌}
 use Rattle.model.specs.Blocks.{is_held, confirmations}
 
 -- the other number of the first trade that names this one as buyer or seller, 0 where none does

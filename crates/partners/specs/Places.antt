@@ -1,8 +1,7 @@
 -- The places of one side's declarations, and what trades give each place.
-use Rattle.std.specs.Prelude.{ℕ, suc, Bool, ◌&&◌, List, [], ◌∷◌, map, get_or, eqb}
+use Rattle.std.specs.Prelude.{ℕ, suc, Bool, ◌&&◌, List, [], ◌∷◌, map, get_or, eqb, if◌then◌else◌}
 use Rattle.model.specs.declared.Declaration.{Declaration}
 use Rattle.model.specs.declared.Trade.{Trade}
-use Rattle.model.specs.Choice.{if◌then◌else◌}
 use Rattle.model.specs.Blocks.{undeclared, is_held}
 use Rattle.classes.specs.Sorting.{class_at, Sorted}
 use Rattle.partners.specs.Partners.{partner_in}

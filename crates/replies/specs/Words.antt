@@ -1,7 +1,6 @@
 -- Numbers with a sign as words of 64 bits, both ways, and the report's numbers as words: its surplus has a sign.
-use Rattle.std.specs.Prelude.{ℕ, suc, ◌-◌, ◌^◌, List, map, ℤ, pos, negsuc, ltb}
+use Rattle.std.specs.Prelude.{ℕ, suc, ◌-◌, ◌^◌, List, map, ℤ, pos, negsuc, ltb, if◌then◌else◌}
 use Rattle.model.specs.declared.ReportReply.{ReportReply}
-use Rattle.model.specs.Choice.{if◌then◌else◌}
 use Rattle.model.specs.Replies.{report_numbers}
 
 -- a number with a sign as 64 bits, in two's complement

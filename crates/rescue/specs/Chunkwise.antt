@@ -1,7 +1,6 @@
 -- A rescue as the program does it: bytes copied, lines told, and chunk by chunk.
-use Rattle.std.specs.Prelude.{ℕ, zero, suc, ◌+◌, ◌*◌, ◌/◌, false, ◌&&◌, List, [], ◌∷◌, ◌++◌, length, take, drop, ltb, eqb}
+use Rattle.std.specs.Prelude.{ℕ, zero, suc, ◌+◌, ◌*◌, ◌/◌, false, ◌&&◌, List, [], ◌∷◌, ◌++◌, length, take, drop, ltb, eqb, if◌then◌else◌}
 use Prim.Native.Char.{code}
-use Rattle.model.specs.Choice.{if◌then◌else◌}
 use Rattle.model.specs.Lines.{reply}
 use Rattle.octets.specs.Numbers.{flat}
 use Rattle.file_blocks.specs.Blocks.{number_in, right_check, own_layout}

@@ -1,6 +1,5 @@
 -- A test as a number, and what is told at the front of a buffer.
-use Rattle.std.specs.Prelude.{ℕ, ◌≤◌, Bool, List, length}
-use Rattle.model.specs.Choice.{if◌then◌else◌}
+use Rattle.std.specs.Prelude.{ℕ, ◌≤◌, Bool, List, length, if◌then◌else◌}
 use Rattle.printing.specs.Printing.{Wrote}
 
 abbrev pub mark : Bool → ℕ

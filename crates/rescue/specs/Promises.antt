@@ -1,6 +1,5 @@
 -- What is promised of a rescue, as statements: each can be read without its proof.
-use Rattle.std.specs.Prelude.{ℕ, suc, ◌+◌, ◌-◌, ◌*◌, ◌%◌, ◌≡◌, ◌↔◌, List, [], map, length, take, ltb}
-use Rattle.model.specs.Choice.{if◌then◌else◌}
+use Rattle.std.specs.Prelude.{ℕ, suc, ◌+◌, ◌-◌, ◌*◌, ◌%◌, ◌≡◌, ◌↔◌, List, [], map, length, take, ltb, if◌then◌else◌}
 use Rattle.model.specs.Lists.{from}
 use Rattle.model.specs.declared.Event.{Event}
 use Rattle.day_files.specs.Files.{Reading, whole_blocks, events_of, read_file}

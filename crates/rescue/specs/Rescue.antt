@@ -1,7 +1,6 @@
 -- The rescue of a damaged day file: a new file from the events before the first refused block, and a list of each block from
 -- there on.
-use Rattle.std.specs.Prelude.{ℕ, zero, suc, ◌-◌, ◌*◌, Bool, false, ◌&&◌, List, [], ◌∷◌, length, take, drop, ltb}
-use Rattle.model.specs.Choice.{if◌then◌else◌}
+use Rattle.std.specs.Prelude.{ℕ, zero, suc, ◌-◌, ◌*◌, Bool, false, ◌&&◌, List, [], ◌∷◌, length, take, drop, ltb, if◌then◌else◌}
 use Rattle.model.specs.declared.Event.{Event}
 use Rattle.file_blocks.specs.Blocks.{number_in, right_check, own_layout}
 use Rattle.day_files.specs.Files.{file_bytes, whole_blocks, events_of}

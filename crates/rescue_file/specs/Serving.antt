@@ -1,6 +1,5 @@
 -- The rescue from chunk to chunk: its memory holds what the definitions hand on.
-use Rattle.std.specs.Prelude.{ℕ, suc, ◌+◌, ◌*◌, ◌/◌, ◌≡◌, Bool, true, false, not, List, [], ◌∷◌, ◌++◌, length, take, drop, eqb}
-use Rattle.model.specs.Choice.{if◌then◌else◌}
+use Rattle.std.specs.Prelude.{ℕ, suc, ◌+◌, ◌*◌, ◌/◌, ◌≡◌, Bool, true, false, not, List, [], ◌∷◌, ◌++◌, length, take, drop, eqb, if◌then◌else◌}
 use Rattle.day_files.specs.Files.{events_of}
 use Rattle.fronts.specs.Good.{good_from, refusal_from, followed}
 use Rattle.rescue_file.specs.declared.AfterChunk.{AfterChunk}

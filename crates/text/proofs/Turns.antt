@@ -98,8 +98,8 @@ module _ {A S : Type 0} (P : Program A S) where
 
   one_more : (b : Between S) (bs : List (List ℕ)) (chunk : List ℕ) → after_chunks P b (bs ++ (chunk ∷ [])) ≡ after_chunk P (after_chunks P b bs) chunk
   unfolding after_chunks
-  one_more b [] chunk = refl
-  one_more b (x ∷ bs) chunk = one_more (after_chunk P b x) bs chunk
+  one_more b [] last = refl
+  one_more b (x ∷ bs) last = one_more (after_chunk P b x) bs last
 
   pub reached_on :
       {first : S} {c c' : Carry} {buf buf' : List ℕ} {s s' : S}

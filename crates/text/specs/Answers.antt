@@ -1,8 +1,7 @@
 -- A program that answers line by line, whatever its lines ask for and whatever it keeps from line to line: its answers one after the
 -- other, and its session answered chunk by chunk.
-use Rattle.std.specs.Prelude.{ℕ, Bool, List, [], ◌∷◌, ◌++◌, take}
+use Rattle.std.specs.Prelude.{ℕ, Bool, List, [], ◌∷◌, ◌++◌, take, if◌then◌else◌}
 use Rattle.std.proofs.Math.Option.{Option}
-use Rattle.model.specs.Choice.{if◌then◌else◌}
 use Rattle.model.specs.declared.Command.{Command}
 use Rattle.model.specs.Lines.{lines_of}
 use Rattle.model.specs.Session.{Desk, answer}

@@ -1,7 +1,6 @@
 -- Input that is read chunk by chunk: the next line of a chunk, what it asks for, and what is carried over to the next chunk.
 -- Of a line that is too long nothing but that is kept: whatever it is, it is one malformed line.
-use Rattle.std.specs.Prelude.{ℕ, ◌+◌, Bool, true, false, ◌||◌, ◌≡◌, List, [], ◌∷◌, ◌++◌, ltb, length, take, drop}
-use Rattle.model.specs.Choice.{if◌then◌else◌}
+use Rattle.std.specs.Prelude.{ℕ, ◌+◌, Bool, true, false, ◌||◌, ◌≡◌, List, [], ◌∷◌, ◌++◌, ltb, length, take, drop, if◌then◌else◌}
 use Rattle.model.specs.Lines.{Line, lines_of}
 use Rattle.text.specs.declared.Bounds as Bounds
 use Rattle.text.specs.declared.NextCommand as NextCommand

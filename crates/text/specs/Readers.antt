@@ -1,6 +1,5 @@
 -- Lines as any program reads them: what they ask for there, and what a line asks for that is not of the form.
-use Rattle.std.specs.Prelude.{ℕ, ◌<◌, Bool, true, false, ◌≡◌, List, [], ◌∷◌, map, length}
-use Rattle.model.specs.Choice.{if◌then◌else◌}
+use Rattle.std.specs.Prelude.{ℕ, ◌<◌, Bool, true, false, ◌≡◌, List, [], ◌∷◌, map, length, if◌then◌else◌}
 use Rattle.model.specs.declared.Command.{Command}
 use Rattle.model.specs.declared.Command.TheVariants.{Malformed}
 use Rattle.model.specs.Lines.{Line, lines_of, line_command}

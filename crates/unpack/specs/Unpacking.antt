@@ -1,8 +1,7 @@
 -- A day file unpacked: the script of the blocks before the first refused one, and what is told of that one. As a whole, from its
 -- middle on, and chunk by chunk.
-use Rattle.std.specs.Prelude.{ℕ, suc, ◌+◌, ◌*◌, List, [], ◌∷◌, ◌++◌, drop, eqb}
+use Rattle.std.specs.Prelude.{ℕ, suc, ◌+◌, ◌*◌, List, [], ◌∷◌, ◌++◌, drop, eqb, if◌then◌else◌}
 use Prim.Native.Char.{code}
-use Rattle.model.specs.Choice.{if◌then◌else◌}
 use Rattle.model.specs.Lines.{reply}
 use Rattle.model.specs.Refusals.{first_of}
 use Rattle.day_files.specs.Files.{read_rules, events_of}

@@ -1,6 +1,6 @@
 -- What each call leaves in memory, as bytes: the number that it returns, and every slice that it may write. A day of another
 -- length than 352 bytes is refused before anything else.
-use Rattle.std.specs.Prelude.{ℕ, Bool, List, length, eqb}
+use Rattle.std.specs.Prelude.{ℕ, Bool, List, length, eqb, if◌then◌else◌}
 use Rattle.model.specs.declared.Asked.{Asked}
 use Rattle.model.specs.declared.Day.{Day}
 use Rattle.model.specs.declared.OrderReply as OrderReply
@@ -11,7 +11,6 @@ use Rattle.model.specs.declared.OpenReply as OpenReply
 use Rattle.model.specs.declared.CancelReply as CancelReply
 use Rattle.model.specs.declared.ReportReply as ReportReply
 use Rattle.model.specs.declared.ListReply as ListReply
-use Rattle.model.specs.Choice.{if◌then◌else◌}
 use Rattle.model.specs.Calls.{Outcome, order_call, OpenOutcome, open_call, CancelOutcome, cancel_call}
 use Rattle.model.specs.ClockCall.{clock_call}
 use Rattle.model.specs.AuctionCalls.{report_call, ListOutcome, list_call}

@@ -1,8 +1,7 @@
 -- Two calls as one, on bytes of any length: the numbers of either reply, and what either leaves.
-use Rattle.std.specs.Prelude.{ℕ, ◌+◌, ◌/◌, ◌≤◌, ◌≡◌, List, length}
+use Rattle.std.specs.Prelude.{ℕ, ◌+◌, ◌/◌, ◌≤◌, ◌≡◌, List, length, if◌then◌else◌}
 use Rattle.model.specs.declared.OpenReply as OpenReply
 use Rattle.model.specs.declared.CancelReply as CancelReply
-use Rattle.model.specs.Choice.{if◌then◌else◌}
 use Rattle.model.specs.Lists.{from}
 use Rattle.model.specs.Replies.{open_numbers, order_numbers, cancel_numbers, clock_numbers, list_numbers}
 use Rattle.auction.specs.declared.Run.{Run}

@@ -1,6 +1,5 @@
 -- The judge on bytes: what it leaves in memory, and what it promises. Day, book and claims are only read.
-use Rattle.std.specs.Prelude.{ℕ, ◌≡◌, List}
-use Rattle.model.specs.Choice.{if◌then◌else◌}
+use Rattle.std.specs.Prelude.{ℕ, ◌≡◌, List, if◌then◌else◌}
 use Rattle.records.specs.Layout.{day_in, book_in, returned, replied}
 use Rattle.judge.specs.declared.Verdict.{Verdict}
 use Rattle.judge.specs.declared.Verdict.TheVariants.{Refused}

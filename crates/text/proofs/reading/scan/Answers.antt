@@ -1,5 +1,4 @@
 -- The lines from the start on, seen from each place that is reached, by the three laws of the next byte.
-use Prim.Native.Nat.{◌-◌}
 use mathlib.Core.Path.{refl, sym, ◌∙◌}
 use native.Mathlib.Omega.{arith}
 use Rattle.text.specs.Chunks.{next_line}
