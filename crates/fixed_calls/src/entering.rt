@@ -1,5 +1,5 @@
 // A fixed-price order that no rule but 13 refuses: before 15:05 it only rests, and from then on it matches.
-ghost use Rattle.std.specs.Prelude.{◌≡◌, not, List, ℕ, ◌+◌, ◌^◌, ◌≤◌, ◌<◌, length, ltb, eqb};
+ghost use Rattle.std.specs.Prelude.{◌≡◌, not, List, ℕ, ◌+◌, ◌^◌, ◌≤◌, ◌<◌, length, ltb, eqb, if◌then◌else◌};
 ghost use Rattle.model.specs.Lists.{keep};
 ghost use Rattle.model.specs.Figures.{issue_fixed};
 ghost use Rattle.model.specs.FixedBook.{is_void, matches};
@@ -11,7 +11,6 @@ ghost use Rattle.fixed_book.specs.Asked.{incoming};
 ghost use Rattle.fixed_calls.specs.Rules.{Welcome, welcomed};
 ghost use Rattle.fixed_calls.specs.Entries.{entry_of};
 
-use Rattle.std.specs.Prelude.{if◌then◌else◌}
 use book::places::free_place;
 use book::put_order;
 use figures::reference_of;

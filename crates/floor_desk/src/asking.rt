@@ -11,7 +11,7 @@ ghost use Rattle.floor_desk.specs.Floors.{Replied, verdict_line};
 
 use crate::Told;
 use day::auctions::{Listing, list_reply, list_run, report_call};
-use floor_printing::screens::put_screen;
+use floor_printing::screen_lines::put_screen;
 use floor_printing::{put_listed, put_noted, put_prices, put_report, put_verdict};
 use floors::{MOST_LISTED, Question};
 use judge::Claim;

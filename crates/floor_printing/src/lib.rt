@@ -2,7 +2,7 @@
 // function answers the place after what it put.
 #![tactic(auto)]
 
-pub mod screens;
+pub mod screen_lines;
 
 ghost use Rattle.std.specs.Prelude.{◌≡◌, ◌+◌, ◌*◌, ◌≤◌, [], ◌∷◌, length, nat_abs};
 ghost use Rattle.model.specs.declared.ReportReply.TheVariants.{Priced};

@@ -1,7 +1,7 @@
 -- The figures, the buys and the sells one after the other. Assumes nothing.
 use native.Mathlib.Omega.{arith}
 use Rattle.floor_printing.proofs.Screening.{room_after, figures_fit_lem, levels_fit, put_parts}
-use Rattle.floor_printing.proofs.screens.put_screen.Goals as goal
+use Rattle.floor_printing.proofs.screen_lines.put_screen.Goals as goal
 
 pub put_levels-q-requires : goal.put_levels-q-requires
 put_levels-q-requires c =

@@ -3,7 +3,7 @@ use mir.Syntax.{w64}
 use mir.ValLaws.{to_z-of_z}
 use Rattle.printing.proofs.Printed.{put_as}
 use Rattle.floor_printing.proofs.Screening.{figures_line_lem}
-use Rattle.floor_printing.proofs.screens.put_figures.Goals as goal
+use Rattle.floor_printing.proofs.screen_lines.put_figures.Goals as goal
 
 pub returns : goal.returns
 returns c =

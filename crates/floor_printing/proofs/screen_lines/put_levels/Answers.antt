@@ -1,7 +1,7 @@
 -- Five levels one after the other. Assumes nothing.
 use native.Mathlib.Omega.{arith}
 use Rattle.floor_printing.proofs.Screening.{room_after, level_fits, put_five}
-use Rattle.floor_printing.proofs.screens.put_levels.Goals as goal
+use Rattle.floor_printing.proofs.screen_lines.put_levels.Goals as goal
 
 pub put_level-q-requires : goal.put_level-q-requires
 put_level-q-requires c =
