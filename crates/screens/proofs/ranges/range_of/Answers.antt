@@ -1,5 +1,4 @@
 -- Trade after trade.
-use Prim.Native.Nat.{◌-◌}
 use Rattle.screens.proofs.Widening.{widening_start, widening_next, widening_end}
 use Rattle.screens.proofs.ranges.range_of.Goals as goal
 

@@ -4,13 +4,13 @@ use Rattle.screens.proofs.ranges.range_with.Goals as goal
 
 pub returns-then-screen-ne0 : goal.returns-then-screen-ne0
 returns-then-screen-ne0 c =
-    range_goes_on c.args.screen c.args.trades.now c.args.n c.if-screen-ne0.taken c.range_of.ensures
+    range_goes_on c.args.screen c.args.trades.now c.args.n c.if-screen-ne0.true c.range_of.ensures
 
 pub returns-then-n-eq0 : goal.returns-then-n-eq0
 returns-then-n-eq0 c =
-    range_nothing c.args.screen c.args.trades.now c.args.n c.if-screen-ne0.left c.if-n-eq0.taken
+    range_nothing c.args.screen c.args.trades.now c.args.n c.if-screen-ne0.false c.if-n-eq0.true
 
 pub returns : goal.returns
 returns c =
-    range_begins c.args.screen c.args.trades.now c.args.n c.if-screen-ne0.left c.if-n-eq0.left c.requires
+    range_begins c.args.screen c.args.trades.now c.args.n c.if-screen-ne0.false c.if-n-eq0.false c.requires
     c.trade_at-first.ensures c.range_of-2.ensures
