@@ -71,7 +71,7 @@ pub record EveningDay (d : Day) : Type 0 where
   -- each share traded was bought and sold, out of at most 1,000,000 for each number
   pub fixed_shares : 2 * d.fixed.shares ≤ 1_000_000 * d.fixed.issued
   pub fixed_money : d.fixed.money ≡ close_price d * d.fixed.shares
-  pub none_yet_lem : d.time < 54_300 → d.fixed.shares ≡ 0
+  pub none_yet : d.time < 54_300 → d.fixed.shares ≡ 0
   pub blocks_issued : d.blocks.issued ≤ 999_999
   pub blocks_shares : d.blocks.shares ≤ 50_000_000 * d.blocks.issued
 

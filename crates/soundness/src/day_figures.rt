@@ -33,8 +33,8 @@ pub fn fits_hours(time: u64, resting: u64) -> bool
 // Twice the shares traded plus all resting shares is at most 1,000,000 times the numbers issued. More than half of that
 // traded is too much by itself, and less than that cannot overflow.
 pub fn shares_fit(day: Day, resting: u64) -> bool
-    requires fact_1 { day.issued ≤ 999_999 }
-    requires fact_2 { resting ≤ 4_096_000_000 }
+    requires issued_bound { day.issued ≤ 999_999 }
+    requires resting_bound { resting ≤ 4_096_000_000 }
     ensures { result ≡ leb (2 * day.shares + resting) (1_000_000 * day.issued) }
 {
     if 500_000 * day.issued < day.shares {

@@ -110,7 +110,7 @@ returns-then-crosses_in_hours c = rw (past_hours (goal.at.returns-then-crosses_i
 
 pub shares_fit-requires : goal.shares_fit-requires
 shares_fit-requires c =
-    record { fact_1 = seated_issued _ _ (seated (goal.at.shares_fit-requires c).Else-not-halt_fits); fact_2 = resting_small _ _ (seated (goal.at.shares_fit-requires c).Else-not-halt_fits) _ c.shares_left-resting.ensures }
+    record { issued_bound = seated_issued _ _ (seated (goal.at.shares_fit-requires c).Else-not-halt_fits); resting_bound = resting_small _ _ (seated (goal.at.shares_fit-requires c).Else-not-halt_fits) _ c.shares_left-resting.ensures }
 
 pub returns-then-not-shares_fit : goal.returns-then-not-shares_fit
 returns-then-not-shares_fit c = rw (past_crossing (goal.at.returns-then-not-shares_fit c).Else-crosses_in_hours, fit (goal.at.returns-then-not-shares_fit c).After-shares_fit ∙ not-true _ c.if-not-shares_fit.true-raw)

@@ -1,5 +1,4 @@
 -- Those passed so far are in order; the rest is still to be told. Assumes nothing.
-use Prim.Native.Nat.{◌-◌}
 use native.Mathlib.Omega.{arith}
 use borrow.Author.Tests.{not-true, not-false}
 use Rattle.soundness.proofs.Following.{followed_start, follow_fails, follow_next, follow_ends}

@@ -1,5 +1,4 @@
 -- Place by place: the test that is still to be made, with the numbers used so far, is the whole test.
-use Prim.Native.Nat.{◌-◌}
 use mathlib.Core.Path.{refl, sym, ap, ◌∙◌}
 use lib.ListN.{length}
 use borrow.Author.Tests.{not-true, not-false}
