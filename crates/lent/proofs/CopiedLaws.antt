@@ -28,3 +28,16 @@ module _ {X Y : Type 0} (f : X → Y) where
 
   pub copied_more : (i : ℕ) (xs : List X) (ys : List Y) (d : X) → i < length xs → i < length ys → set (copied f i xs ys) i (f (get_or xs i d)) ≡ copied f (i + 1) xs ys
   copied_more i xs ys d p q = rw add-one (copied_suc i xs ys d p q)
+
+  -- one turn of a copy: what stands so far, with the next element set behind it
+  pub copied_on :
+      (i : ℕ) (xs : List X) (ys before after : List Y) (d : X) (y : Y)
+      → i < length xs
+      → i < length ys
+      → before ≡ copied f i xs ys
+      → y ≡ f (get_or xs i d)
+      → after ≡ set before i y
+      → after ≡ copied f (i + 1) xs ys
+  copied_on i xs ys before after d y p q b e a =
+      let more : set (copied f i xs ys) i (f (get_or xs i d)) ≡ copied f (i + 1) xs ys = copied_more i xs ys d p q in
+      cc

@@ -22,3 +22,10 @@ places_are n = elim (dec_le n 4_096) [
       let l : 4_096 < n = omega arith in
       inr (l, sym (places_none n l))
 ]
+
+-- there are as many places, and as many rows
+pub places_fit : (n : ℕ) → (places_of n ≤ n) × (places_of n ≤ 4_096)
+places_fit n = elim (places_are n) [
+  | inl h ↦ (omega (arith, h.1), omega (arith, h.0, h.1))
+  | inr h ↦ (omega (arith, h.1), omega (arith, h.1))
+]
