@@ -1,0 +1,9 @@
+-- At the outset no line has begun; a turn that does not stop leaves what one chunk more leaves. Assumes nothing.
+use Rattle.convert_script.proofs.Turns.{at_outset, reached_on}
+use Rattle.convert_script.proofs.serving.run.Goals as goal
+
+pub loop-init : goal.loop-init
+loop-init g c = at_outset c.start-line.ensures
+
+pub loop-preserved : goal.loop-preserved
+loop-preserved g c = reached_on c.loop.invariant (c.turn-after.ensures c.if-after.false)
