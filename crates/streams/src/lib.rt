@@ -82,3 +82,6 @@ pub fn large_buffer() -> [u8; 65536]
 {
     [0; 65536]
 }
+
+#[cfg(test)]
+mod tests;

@@ -10,8 +10,8 @@ slice_bounds-written-end g c =
     let w = c.put_last-filed.ensures some.events some.holds in
     omega (arith, w.place, last_fits some.events, put_long w, c.requires.block_len)
 
-pub slice_bounds-written-end-2 : goal.slice_bounds-written-end-2
-slice_bounds-written-end-2 g c =
+pub slice_bounds-written-end-3 : goal.slice_bounds-written-end-3
+slice_bounds-written-end-3 g c =
     let h = c.args.h in
     let w = c.put_end-told.ensures in
     omega

@@ -18,8 +18,8 @@ slice_bounds-written-end g c =
     let w = chunk_within _ _ _ _ _ _ _ p.ensures (omega (arith, s, l)) (omega (arith, s, l)) in
     omega (arith, w.0, p.auto.out)
 
-pub slice_bounds-written-end-2 : goal.slice_bounds-written-end-2
-slice_bounds-written-end-2 g c =
+pub slice_bounds-written-end-3 : goal.slice_bounds-written-end-3
+slice_bounds-written-end-3 g c =
     let s = c.requires in
     let l = length-take-le c.args.n c.args.buf.now s.0 in
     let p = c.pack_lines-p in

@@ -30,22 +30,22 @@ to_front-requires g c =
     let few = seen_few c.args.buf.now c.args.buf.now c.args.n _ _ c.args.h k.result s.0 s.2 k.ensures in
     (omega (arith, s, few), s.0)
 
-pub overflow_add-behind : goal.overflow_add-behind
-overflow_add-behind g c =
+pub overflow_add-result : goal.overflow_add-result
+overflow_add-result g c =
     let s = c.requires in
     let k = c.look-seen in
     let few = seen_few c.args.buf.now c.args.buf.now c.args.n _ _ c.args.h k.result s.0 s.2 k.ensures in
     omega (arith, s, few, k.ensures.few)
 
-pub overflow_add-records : goal.overflow_add-records
-overflow_add-records g c =
+pub overflow_add-result-2 : goal.overflow_add-result-2
+overflow_add-result-2 g c =
     let s = c.requires in
     let k = c.look-seen in
     let few = seen_few c.args.buf.now c.args.buf.now c.args.n _ _ c.args.h k.result s.0 s.2 k.ensures in
     omega (arith, s, few, k.ensures.few)
 
-pub overflow_sub-kept : goal.overflow_sub-kept
-overflow_sub-kept g c =
+pub overflow_sub-result : goal.overflow_sub-result
+overflow_sub-result g c =
     let s = c.requires in
     let k = c.look-seen in
     let few = seen_few c.args.buf.now c.args.buf.now c.args.n _ _ c.args.h k.result s.0 s.2 k.ensures in

@@ -21,4 +21,4 @@ show-requires g c =
 pub returns : goal.returns
 returns g c =
     λ e. steps c.args.buf.now _ c.args.n _ c.args.h c.requires.0 c.followed-blocks.ensures c.to_front.ensures
-    (sym c.unpack_part-done.ensures.refusal ∙ c.if-done.false)
+    (sym c.unpack_part-done.ensures.refusal ∙ c.if-done-ne0.false)

@@ -4,8 +4,8 @@ use Rattle.printing.proofs.Printed.{put_long}
 use Rattle.unpack.proofs.Put.{refused_short}
 use Rattle.unpack_file.proofs.serving.show.Goals as goal
 
-pub slice_bounds-written-end : goal.slice_bounds-written-end
-slice_bounds-written-end g c =
+pub slice_bounds-said-end : goal.slice_bounds-said-end
+slice_bounds-said-end g c =
     let a = c.args in
     let w = c.put_refused-told.ensures in
     omega (arith, w.place, put_long w, refused_short a.done.refusal (a.passed + a.done.good + 1), c.note-said.ensures, c.requires)

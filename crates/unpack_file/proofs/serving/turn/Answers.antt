@@ -9,7 +9,7 @@ fill-input-requires g c = omega (arith, c.requires.buf_len.0, reached_few c.requ
 pub finish-requires : goal.finish-requires
 finish-requires g c =
     let s = c.requires.buf_len in
-    (reached_few c.requires.reached, omega (arith, s.0, c.fill-input.auto.buf), s.1, omega (arith, c.if-MOST_BLOCKS-lt-h.false))
+    (reached_few c.requires.reached, omega (arith, s.0, c.fill-input.auto.buf), s.1, omega (arith, c.if-h-gt-MOST_BLOCKS.false))
 
 pub returns-in-Bytes : goal.returns-in-Bytes
 returns-in-Bytes g c =
