@@ -5,6 +5,7 @@
 mod serving;
 
 use convert::Pending;
+use streams::Streams;
 
 // What goes from chunk to chunk: the line that has not ended, and whether the program stops here.
 #[derive(Clone, Copy)]
@@ -20,6 +21,11 @@ pub struct Input {
     pub bytes: usize,
 }
 
-fn main() {
-    serving::run();
+fn main(rt: HostRuntime) {
+    let mut streams = Streams {
+        input: rt.stdin(),
+        output: rt.stdout(),
+        errors: rt.stderr(),
+    };
+    serving::run(&mut streams);
 }

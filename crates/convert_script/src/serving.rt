@@ -1,6 +1,7 @@
 // Chunks read from standard input, and written converted to standard output. No promise can say what is read or written;
 // what lies between is the definitions' step from chunk to chunk.
 ghost use Rattle.std.specs.Prelude.{◌≡◌, true, false, ◌*◌, ◌≤◌, length, take};
+ghost use Rattle.std.specs.Io.KnownBytes.{Appends};
 ghost use Rattle.convert.specs.Chunkwise.{line_after, remembered};
 ghost use Rattle.convert.specs.Promises.{text_of};
 ghost use Rattle.convert_script.specs.Turns.{Reached, Turned};
@@ -9,6 +10,8 @@ use crate::{AfterChunk, Input};
 use convert::Pending;
 use convert::chunks::convert_chunk;
 use convert::lines::start;
+use std::io::{Read, Write};
+use streams::{Streams, large_buffer, tell, write_or_tell};
 
 // Three bytes for each byte of a chunk.
 const OUTPUT: usize = 196_608;
@@ -26,25 +29,31 @@ fn stopped(line: Pending) -> AfterChunk
 }
 
 // Writes a text out, or says that it cannot.
-fn write_out(text: &[u8]) -> bool {
-    if io::write_all(libc::STDOUT_FILENO, text) {
-        return true;
-    }
-    io::write_all(
-        libc::STDERR_FILENO,
+fn write_out<R, W: Write, E: Write>(streams: &mut Streams<R, W, E>, text: &[u8]) -> bool
+    ensures written { result ≡ true → Appends (W.contents streams.old.output) (W.contents streams.new.output) text.now }
+    ensures input { streams.new.input ≡ streams.old.input }
+{
+    write_or_tell(
+        streams,
+        text,
         b"convert: standard output cannot be written\n",
-    );
-    false
+    )
 }
 
 // Converts the first n bytes of the buffer and writes them out.
-fn serve(line: Pending, buf: &[u8], n: usize, out: &mut [u8]) -> AfterChunk
+fn serve<R, W: Write, E: Write>(
+    line: Pending,
+    streams: &mut Streams<R, W, E>,
+    buf: &[u8],
+    n: usize,
+    out: &mut [u8],
+) -> AfterChunk
     requires { (n ≤ length buf.now) × (3 * length buf.now ≤ length out.old) }
     ensures { result.stops ≡ false → text_of result.line ≡ remembered (line_after (text_of line) (take n buf.now)) }
 {
     let done = convert_chunk(line, &buf[..n], out);
     let next = done.next;
-    if !write_out(&out[..next]) {
+    if !write_out(streams, &out[..next]) {
         return stopped(line);
     }
     let rest = done.line;
@@ -54,32 +63,36 @@ fn serve(line: Pending, buf: &[u8], n: usize, out: &mut [u8]) -> AfterChunk
     }
 }
 
-fn fill(buf: &mut [u8]) -> Input
+fn fill<R: Read>(from: &mut R, buf: &mut [u8]) -> Input
     ensures { result.bytes ≤ length buf.new }
 {
-    let got = libc::read(libc::STDIN_FILENO, &mut *buf);
-    if got < 0 {
-        return Input {
+    match from.read(buf) {
+        Ok(bytes) => Input {
+            failed: false,
+            bytes,
+        },
+        Err(_) => Input {
             failed: true,
             bytes: 0,
-        };
-    }
-    Input {
-        failed: false,
-        bytes: io::count(got, buf),
+        },
     }
 }
 
 // Reads once, and writes what was read.
-fn turn(line: Pending, buf: &mut [u8], out: &mut [u8]) -> AfterChunk
+fn turn<R: Read, W: Write, E: Write>(
+    line: Pending,
+    streams: &mut Streams<R, W, E>,
+    buf: &mut [u8],
+    out: &mut [u8],
+) -> AfterChunk
     requires buf_in_bounds { 3 * length buf.old ≤ length out.old }
     requires reached { Reached line }
     ensures { result.stops ≡ false → Turned line result.line }
 {
-    let input = fill(buf);
+    let input = fill(&mut streams.input, &mut *buf);
     if input.failed {
-        io::write_all(
-            libc::STDERR_FILENO,
+        tell(
+            &mut streams.errors,
             b"convert: standard input cannot be read\n",
         );
         return stopped(line);
@@ -88,19 +101,16 @@ fn turn(line: Pending, buf: &mut [u8], out: &mut [u8]) -> AfterChunk
     if n == 0 {
         return stopped(line);
     }
-    serve(line, buf, n, out)
+    serve(line, streams, buf, n, out)
 }
 
-// A proved loop has to end, and nothing says that the input does: the turns are counted down from a number that no run uses
-// up.
-pub fn run() {
-    let mut buf = io::large_buffer();
+// A proved loop has to end, and nothing says that the input does: the turns are counted up to a number that no run uses up.
+pub fn run<R: Read, W: Write, E: Write>(streams: &mut Streams<R, W, E>) {
+    let mut buf = large_buffer();
     let mut out = output();
     let mut line = start();
-    let mut turns = u64::MAX;
-    while 0 < turns {
-        turns = turns - 1;
-        let after = turn(line, &mut buf, &mut out);
+    for _ in 0..u64::MAX {
+        let after = turn(line, &mut *streams, &mut buf, &mut out);
         if after.stops {
             return;
         }

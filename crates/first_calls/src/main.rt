@@ -1,5 +1,5 @@
-// A caller that knows nothing but the promise: an opening with close 0 is refused with 14. The `expect` is proved from what the
-// call promises.
+// A caller that knows nothing but the promise: an opening with close 0 is refused with 14. That it is, is proved from what the call
+// promises.
 #![tactic(auto)]
 
 ghost use Rattle.std.specs.Prelude.{◌≡◌};
@@ -19,5 +19,6 @@ fn open_refusal(r: OpenReply) -> u64
 fn main() {
     let mut rows = [[0u64; 5]; 2];
     let opened = day::opening::open_call(&mut rows, 0, 1);
-    check::expect(open_refusal(opened) == 14);
+    let refused = open_refusal(opened) == 14;
+    prove!(refused);
 }

@@ -5,6 +5,7 @@ mod memory;
 mod serving;
 
 use desk::Desk;
+use streams::Streams;
 
 // What goes from chunk to chunk: the desk, how many claims are noted, the carry, and whether the program stops here.
 #[derive(Clone, Copy)]
@@ -16,6 +17,11 @@ pub struct AfterChunk {
     pub stops: bool,
 }
 
-fn main() {
-    serving::run();
+fn main(rt: HostRuntime) {
+    let mut streams = Streams {
+        input: rt.stdin(),
+        output: rt.stdout(),
+        errors: rt.stderr(),
+    };
+    serving::run(&mut streams);
 }

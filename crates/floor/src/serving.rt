@@ -1,6 +1,7 @@
 // Chunks read from standard input, and their replies written to standard output. No promise can say what is read or
 // written; what lies between is the definitions' step from chunk to chunk.
 ghost use Rattle.std.specs.Prelude.{◌≡◌, true, false, ◌≤◌, [], length, take};
+ghost use Rattle.std.specs.Io.KnownBytes.{Appends};
 ghost use Rattle.printing.specs.Printing.{Wrote};
 ghost use Rattle.text.specs.Answers.{chunkwise};
 ghost use Rattle.text.specs.Points.{Onward, Through};
@@ -16,7 +17,8 @@ use crate::memory::{claim_list, output, places, trade_list};
 use desk::Desk;
 use floor_chunks::{FloorProgress, answer_lines};
 use printing::put_refusal;
-use streams::{Input, fill};
+use std::io::{Read, Write};
+use streams::{Input, Streams, fill, large_buffer, tell, write_or_tell};
 use text::Carry;
 use text::reading::{carry_over, is_left};
 
@@ -29,20 +31,17 @@ fn stopped(h: AfterChunk) -> AfterChunk
 }
 
 // Writes replies out, or says that it cannot.
-fn reply(text: &[u8]) -> bool {
-    if io::write_all(libc::STDOUT_FILENO, text) {
-        return true;
-    }
-    io::write_all(
-        libc::STDERR_FILENO,
-        b"floor: standard output cannot be written\n",
-    );
-    false
+fn reply<R, W: Write, E: Write>(streams: &mut Streams<R, W, E>, text: &[u8]) -> bool
+    ensures written { result ≡ true → Appends (W.contents streams.old.output) (W.contents streams.new.output) text.now }
+    ensures input { streams.new.input ≡ streams.old.input }
+{
+    write_or_tell(streams, text, b"floor: standard output cannot be written\n")
 }
 
 // Answers the lines of a chunk, round by round as the output holds them. Not done: the output cannot be written.
-fn answer_chunk(
+fn answer_chunk<R, W: Write, E: Write>(
     from: FloorProgress,
+    streams: &mut Streams<R, W, E>,
     rows: &mut [[u64; 5]],
     trades: &mut [[u64; 6]],
     claims: &mut [[u64; 3]],
@@ -58,7 +57,7 @@ fn answer_chunk(
     loop {
         p = answer_lines(p, &mut *rows, &mut *trades, &mut *claims, chunk, &mut *out);
         let n = p.next;
-        if !reply(&out[..n]) {
+        if !reply(&mut *streams, &out[..n]) {
             p.done = false;
             return p;
         }
@@ -69,8 +68,9 @@ fn answer_chunk(
 }
 
 // Serves the first n bytes of the buffer as a chunk, and keeps its tail at the buffer's front.
-fn serve(
+fn serve<R, W: Write, E: Write>(
     h: AfterChunk,
+    streams: &mut Streams<R, W, E>,
     rows: &mut [[u64; 5]],
     trades: &mut [[u64; 6]],
     claims: &mut [[u64; 3]],
@@ -91,7 +91,7 @@ fn serve(
         next: 0,
         done: false,
     };
-    let p = answer_chunk(from, rows, trades, claims, &buf[..n], out);
+    let p = answer_chunk(from, streams, rows, trades, claims, &buf[..n], out);
     if !p.done {
         return stopped(h);
     }
@@ -119,7 +119,11 @@ fn put_end(carry: Carry, out: &mut [u8]) -> usize
 }
 
 // The end of the input.
-fn finish(h: AfterChunk, out: &mut [u8]) -> AfterChunk
+fn finish<R, W: Write, E: Write>(
+    h: AfterChunk,
+    streams: &mut Streams<R, W, E>,
+    out: &mut [u8],
+) -> AfterChunk
     requires { 110 ≤ length out.old }
     ensures { result.stops ≡ true }
 {
@@ -128,13 +132,14 @@ fn finish(h: AfterChunk, out: &mut [u8]) -> AfterChunk
         long: h.long,
     };
     let n = put_end(carry, out);
-    reply(&out[..n]);
+    reply(streams, &out[..n]);
     stopped(h)
 }
 
 // Reads once, and answers the lines that end there.
-fn turn(
+fn turn<R: Read, W: Write, E: Write>(
     h: AfterChunk,
+    streams: &mut Streams<R, W, E>,
     rows: &mut [[u64; 5]],
     trades: &mut [[u64; 6]],
     claims: &mut [[u64; 3]],
@@ -146,27 +151,26 @@ fn turn(
     ensures { result.stops ≡ false → Turned rows.old claims.old buf.old h rows.new claims.new buf.new result × (result.noted ≤ 4096) }
 {
     let kept = h.kept;
-    let input = fill(buf, kept);
+    let input = fill(&mut streams.input, buf, kept);
     match input {
         Input::Failed => {
-            io::write_all(
-                libc::STDERR_FILENO,
+            tell(
+                &mut streams.errors,
                 b"floor: standard input cannot be read\n",
             );
             stopped(h)
         }
-        Input::Ended => finish(h, out),
-        Input::Bytes(n) => serve(h, rows, trades, claims, buf, n, out),
+        Input::Ended => finish(h, streams, out),
+        Input::Bytes(n) => serve(h, streams, rows, trades, claims, buf, n, out),
     }
 }
 
-// A proved loop has to end, and nothing says that the input does: the turns are counted down from a number that no run uses
-// up.
-pub fn run() {
+// A proved loop has to end, and nothing says that the input does: the turns are counted up to a number that no run uses up.
+pub fn run<R: Read, W: Write, E: Write>(streams: &mut Streams<R, W, E>) {
     let mut rows = places();
     let mut trades = trade_list();
     let mut claims = claim_list();
-    let mut buf = io::large_buffer();
+    let mut buf = large_buffer();
     let mut out = output();
     let mut h = AfterChunk {
         desk: Desk::Closed,
@@ -175,10 +179,16 @@ pub fn run() {
         long: false,
         stops: false,
     };
-    let mut turns = u64::MAX;
-    while 0 < turns {
-        turns = turns - 1;
-        h = turn(h, &mut rows, &mut trades, &mut claims, &mut buf, &mut out);
+    for _ in 0..u64::MAX {
+        h = turn(
+            h,
+            &mut *streams,
+            &mut rows,
+            &mut trades,
+            &mut claims,
+            &mut buf,
+            &mut out,
+        );
         if h.stops {
             return;
         }

@@ -5,6 +5,8 @@
 mod memory;
 mod serving;
 
+use streams::Streams;
+
 // What goes from chunk to chunk: how many records are stored, the number of the next line, the carry, and whether the program
 // stops here.
 #[derive(Clone, Copy)]
@@ -16,6 +18,11 @@ pub struct AfterChunk {
     pub stops: bool,
 }
 
-fn main() {
-    serving::run();
+fn main(rt: HostRuntime) {
+    let mut streams = Streams {
+        input: rt.stdin(),
+        output: rt.stdout(),
+        errors: rt.stderr(),
+    };
+    serving::run(&mut streams);
 }

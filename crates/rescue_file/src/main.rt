@@ -4,6 +4,8 @@
 
 mod serving;
 
+use streams::Streams;
+
 // What goes from chunk to chunk: whether a block was refused, how many blocks stand behind, how many records are kept, how many
 // bytes stand at the buffer's front, and whether the program stops here.
 #[derive(Clone, Copy)]
@@ -15,6 +17,11 @@ pub struct AfterChunk {
     pub stops: bool,
 }
 
-fn main() {
-    serving::run();
+fn main(rt: HostRuntime) {
+    let mut streams = Streams {
+        input: rt.stdin(),
+        output: rt.stdout(),
+        errors: rt.stderr(),
+    };
+    serving::run(&mut streams);
 }

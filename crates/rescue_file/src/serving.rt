@@ -1,12 +1,14 @@
 // Chunks read from standard input, their good blocks written to standard output, and the others listed on standard error. No
 // promise can say what is read or written; what lies between is the definitions' step from chunk to chunk.
 ghost use Rattle.std.specs.Prelude.{◌≡◌, true, false, ◌*◌, ◌≤◌, length, take};
+ghost use Rattle.std.specs.Io.KnownBytes.{Appends};
 ghost use Rattle.rescue_file.specs.Serving.{with_bytes, Keeps, Lists, Steps, Reached, Turned};
 
 use crate::AfterChunk;
 use fronts::look;
 use rescue::{list_blocks, list_rest};
-use streams::{Input, fill};
+use std::io::{Read, Write};
+use streams::{Input, Streams, buffer, fill, tell, write_or_tell};
 use text::reading::to_front;
 use unpack::followed;
 
@@ -32,33 +34,40 @@ fn stopped(h: AfterChunk) -> AfterChunk
     r
 }
 
-fn fail(text: &[u8], h: AfterChunk) -> AfterChunk
+fn fail<E: Write>(errors: &mut E, text: &[u8], h: AfterChunk) -> AfterChunk
     ensures { result.stops ≡ true }
 {
-    io::write_all(libc::STDERR_FILENO, text);
+    tell(errors, text);
     stopped(h)
 }
 
 // Writes blocks out, or says that it cannot.
-fn written(blocks: &[u8]) -> bool {
-    if io::write_all(libc::STDOUT_FILENO, blocks) {
-        return true;
-    }
-    io::write_all(
-        libc::STDERR_FILENO,
+fn written<R, W: Write, E: Write>(streams: &mut Streams<R, W, E>, blocks: &[u8]) -> bool
+    ensures written { result ≡ true → Appends (W.contents streams.old.output) (W.contents streams.new.output) blocks.now }
+    ensures input { streams.new.input ≡ streams.old.input }
+{
+    write_or_tell(
+        streams,
+        blocks,
         b"rescue: standard output cannot be written\n",
-    );
-    false
+    )
 }
 
 // Copies the good ones of so many blocks, of a file that has so many whole ones, and goes on behind them.
-fn keep(h: AfterChunk, buf: &mut [u8], n: usize, whole: usize, blocks: usize) -> AfterChunk
+fn keep<R, W: Write, E: Write>(
+    h: AfterChunk,
+    streams: &mut Streams<R, W, E>,
+    buf: &mut [u8],
+    n: usize,
+    whole: usize,
+    blocks: usize,
+) -> AfterChunk
     requires { (n ≤ length buf.old) × (length buf.old ≡ 4096) × (512 * blocks ≤ n) × (h.behind ≤ 2_305_843_009_213_693_952) × (h.records ≤ 2_305_843_009_213_693_952) }
     ensures { result.stops ≡ false → Keeps whole blocks (take n buf.old) h buf.new result }
 {
     let seen = look(&buf[..n], whole, blocks, h.behind + 1);
     let end = 512 * seen.good;
-    if !written(&buf[..end]) {
+    if !written(streams, &buf[..end]) {
         return stopped(h);
     }
     to_front(buf, end, n);
@@ -72,7 +81,7 @@ fn keep(h: AfterChunk, buf: &mut [u8], n: usize, whole: usize, blocks: usize) ->
 }
 
 // Lists the whole blocks that stand in the buffer, and goes on behind them.
-fn list(h: AfterChunk, buf: &mut [u8], said: &mut [u8]) -> AfterChunk
+fn list<E: Write>(h: AfterChunk, errors: &mut E, buf: &mut [u8], said: &mut [u8]) -> AfterChunk
     requires { (h.kept ≤ length buf.old) × (length buf.old ≡ 4096) × (length said.old ≡ 650) × (h.behind ≤ 4_611_686_018_427_387_904) }
     ensures { Lists (take h.kept buf.old) h buf.new result }
 {
@@ -80,7 +89,7 @@ fn list(h: AfterChunk, buf: &mut [u8], said: &mut [u8]) -> AfterChunk
     let blocks = kept / 512;
     let place = h.behind + 1;
     let told = list_blocks(&buf[..kept], blocks, place as u64, said);
-    io::write_all(libc::STDERR_FILENO, &said[..told]);
+    tell(errors, &said[..told]);
     let end = 512 * blocks;
     to_front(buf, end, kept);
     AfterChunk {
@@ -106,77 +115,104 @@ fn with_bytes(h: AfterChunk, n: usize) -> AfterChunk
 }
 
 // Serves the first n bytes of the buffer: as long as no block is refused they are kept, and then listed.
-fn serve(h: AfterChunk, buf: &mut [u8], n: usize, said: &mut [u8]) -> AfterChunk
+fn serve<R, W: Write, E: Write>(
+    h: AfterChunk,
+    streams: &mut Streams<R, W, E>,
+    buf: &mut [u8],
+    n: usize,
+    said: &mut [u8],
+) -> AfterChunk
     requires { (n ≤ length buf.old) × (length buf.old ≡ 4096) × (length said.old ≡ 650) × (h.behind ≤ 2_305_843_009_213_693_952) × (h.records ≤ 2_305_843_009_213_693_952) }
     ensures { result.stops ≡ false → Steps (take n buf.old) h buf.new result }
 {
     if h.listing {
-        return list(with_bytes(h, n), buf, said);
+        return list(with_bytes(h, n), &mut streams.errors, buf, said);
     }
-    let r = keep(h, buf, n, 0, followed(n));
+    let r = keep(h, &mut *streams, buf, n, 0, followed(n));
     if r.stops {
         return r;
     }
     if !r.listing {
         return r;
     }
-    list(r, buf, said)
+    list(r, &mut streams.errors, buf, said)
 }
 
 // What is told at the end.
-fn tell_rest(h: AfterChunk, buf: &[u8], said: &mut [u8]) -> AfterChunk
+fn tell_rest<E: Write>(h: AfterChunk, errors: &mut E, buf: &[u8], said: &mut [u8]) -> AfterChunk
     requires { (h.kept ≤ 1023) × (length buf.now ≡ 4096) × (length said.old ≡ 650) × (h.behind ≤ 4_611_686_018_427_387_904) }
     ensures { result.stops ≡ true }
 {
     let kept = h.kept;
     let place = h.behind + 1;
     let told = list_rest(&buf[..kept], place as u64, h.records, said);
-    io::write_all(libc::STDERR_FILENO, &said[..told]);
+    tell(errors, &said[..told]);
     stopped(h)
 }
 
 // The end of the file: what was kept is its rest.
-fn finish(h: AfterChunk, buf: &mut [u8], said: &mut [u8]) -> AfterChunk
+fn finish<R, W: Write, E: Write>(
+    h: AfterChunk,
+    streams: &mut Streams<R, W, E>,
+    buf: &mut [u8],
+    said: &mut [u8],
+) -> AfterChunk
     requires { (h.kept ≤ 1023) × (length buf.old ≡ 4096) × (length said.old ≡ 650) × (h.behind ≤ 2_305_843_009_213_693_952) × (h.records ≤ 2_305_843_009_213_693_952) }
     ensures { result.stops ≡ true }
 {
     if h.listing {
-        return tell_rest(h, buf, said);
+        return tell_rest(h, &mut streams.errors, buf, said);
     }
     let kept = h.kept;
     let blocks = kept / 512;
-    let r = keep(h, buf, kept, h.behind + blocks, blocks);
+    let r = keep(h, &mut *streams, buf, kept, h.behind + blocks, blocks);
     if r.stops {
         return r;
     }
-    tell_rest(r, buf, said)
+    tell_rest(r, &mut streams.errors, buf, said)
 }
 
 // Reads once, and serves the blocks that can be judged then.
-fn turn(h: AfterChunk, buf: &mut [u8], said: &mut [u8]) -> AfterChunk
+fn turn<R: Read, W: Write, E: Write>(
+    h: AfterChunk,
+    streams: &mut Streams<R, W, E>,
+    buf: &mut [u8],
+    said: &mut [u8],
+) -> AfterChunk
     requires buf_len { (length buf.old ≡ 4096) × (length said.old ≡ 650) }
     requires reached { Reached buf.old h }
     ensures { result.stops ≡ false → Turned buf.old h buf.new result }
 {
     if MOST < h.behind {
-        return fail(b"rescue: no file has so many blocks\n", h);
+        return fail(
+            &mut streams.errors,
+            b"rescue: no file has so many blocks\n",
+            h,
+        );
     }
     if MOST_RECORDS < h.records {
-        return fail(b"rescue: no file has so many records\n", h);
+        return fail(
+            &mut streams.errors,
+            b"rescue: no file has so many records\n",
+            h,
+        );
     }
     let kept = h.kept;
-    let input = fill(buf, kept);
+    let input = fill(&mut streams.input, buf, kept);
     match input {
-        Input::Failed => fail(b"rescue: standard input cannot be read\n", h),
-        Input::Ended => finish(h, buf, said),
-        Input::Bytes(n) => serve(h, buf, n, said),
+        Input::Failed => fail(
+            &mut streams.errors,
+            b"rescue: standard input cannot be read\n",
+            h,
+        ),
+        Input::Ended => finish(h, streams, buf, said),
+        Input::Bytes(n) => serve(h, streams, buf, n, said),
     }
 }
 
-// A proved loop has to end, and nothing says that the input does: the turns are counted down from a number that no run uses
-// up.
-pub fn run() {
-    let mut buf = io::buffer();
+// A proved loop has to end, and nothing says that the input does: the turns are counted up to a number that no run uses up.
+pub fn run<R: Read, W: Write, E: Write>(streams: &mut Streams<R, W, E>) {
+    let mut buf = buffer();
     let mut said = notes();
     let mut h = AfterChunk {
         listing: false,
@@ -185,10 +221,8 @@ pub fn run() {
         kept: 0,
         stops: false,
     };
-    let mut turns = u64::MAX;
-    while 0 < turns {
-        turns = turns - 1;
-        h = turn(h, &mut buf, &mut said);
+    for _ in 0..u64::MAX {
+        h = turn(h, &mut *streams, &mut buf, &mut said);
         if h.stops {
             return;
         }

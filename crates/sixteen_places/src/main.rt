@@ -15,6 +15,7 @@ use lent::sixteen::{ask_on_sixteen, take_on_sixteen};
 use lent::{Answer, OnDay, Question};
 use model::{Asked, Day, Event, OpenReply, Order};
 use showing::{print_answer, print_book, print_told};
+use std::io::Write;
 
 // The day and its book.
 #[derive(Clone, Copy)]
@@ -37,7 +38,7 @@ fn day_after(day: Day, answer: Answer) -> Day {
 }
 
 // One event: it is answered, the answer is printed, and day and book are those after it.
-fn step(s: Stand, event: Event) -> Stand
+fn step<W: Write>(output: &mut W, s: Stand, event: Event) -> Stand
     ensures { result.book ≡ (call_of event s.day s.book (trades_of no_trades)).book }
 {
     let mut trades = [[0u64; 6]; 16];
@@ -45,7 +46,7 @@ fn step(s: Stand, event: Event) -> Stand
     let book = s.book;
     let handed = take_on_sixteen(book, &mut trades, OnDay { day, event });
     let answer = handed.answer;
-    print_answer(event, answer, &trades);
+    print_answer(output, event, answer, &trades);
     let after = handed.book;
     Stand {
         day: day_after(s.day, answer),
@@ -53,38 +54,38 @@ fn step(s: Stand, event: Event) -> Stand
     }
 }
 
-fn open(s: Stand, close: u64, mark: u64) -> Stand {
-    step(s, Event::Open { close, mark })
+fn open<W: Write>(output: &mut W, s: Stand, close: u64, mark: u64) -> Stand {
+    step(output, s, Event::Open { close, mark })
 }
 
-fn clock(s: Stand, time: u64) -> Stand {
-    step(s, Event::Clock(time))
+fn clock<W: Write>(output: &mut W, s: Stand, time: u64) -> Stand {
+    step(output, s, Event::Clock(time))
 }
 
-fn order(s: Stand, asked: Asked) -> Stand {
-    step(s, Event::Order(asked))
+fn order<W: Write>(output: &mut W, s: Stand, asked: Asked) -> Stand {
+    step(output, s, Event::Order(asked))
 }
 
-fn cancel(s: Stand, account: u64, number: u64) -> Stand {
-    step(s, Event::Cancel { account, number })
+fn cancel<W: Write>(output: &mut W, s: Stand, account: u64, number: u64) -> Stand {
+    step(output, s, Event::Cancel { account, number })
 }
 
 // What an auction held now would do, with room for eight prices.
-fn ask(s: Stand, question: Question) {
+fn ask<W: Write>(output: &mut W, s: Stand, question: Question) {
     let mut prices = [0u64; 8];
     let book = s.book;
     let told = ask_on_sixteen(book, &mut prices, question);
-    print_told(told, &prices);
+    print_told(output, told, &prices);
 }
 
-fn report(s: Stand) {
+fn report<W: Write>(output: &mut W, s: Stand) {
     let day = s.day;
-    ask(s, Question::Report(day));
+    ask(output, s, Question::Report(day));
 }
 
-fn list(s: Stand, asked: u64) {
+fn list<W: Write>(output: &mut W, s: Stand, asked: u64) {
     let day = s.day;
-    ask(s, Question::List { day, asked });
+    ask(output, s, Question::List { day, asked });
 }
 
 // The session's orders name no balance.
@@ -107,21 +108,22 @@ fn before_the_day() -> Stand {
     Stand { day, book }
 }
 
-fn main() {
-    let mut s = open(before_the_day(), 1000, 1);
-    s = clock(s, 33_300);
-    s = order(s, asked(0, 0, 7, 200, 1010));
-    s = order(s, asked(1, 0, 8, 300, 990));
-    print_book(s);
-    report(s);
-    list(s, 1);
-    s = clock(s, 33_600);
-    s = cancel(s, 7, 1);
-    s = clock(s, 34_200);
-    s = order(s, asked(0, 1, 9, 150, 1300));
-    print_book(s);
-    s = cancel(s, 9, 3);
-    s = cancel(s, 9, 3);
-    s = clock(s, 54_000);
-    print_book(s);
+fn main(rt: HostRuntime) {
+    let mut output = rt.stdout();
+    let mut s = open(&mut output, before_the_day(), 1000, 1);
+    s = clock(&mut output, s, 33_300);
+    s = order(&mut output, s, asked(0, 0, 7, 200, 1010));
+    s = order(&mut output, s, asked(1, 0, 8, 300, 990));
+    print_book(&mut output, s);
+    report(&mut output, s);
+    list(&mut output, s, 1);
+    s = clock(&mut output, s, 33_600);
+    s = cancel(&mut output, s, 7, 1);
+    s = clock(&mut output, s, 34_200);
+    s = order(&mut output, s, asked(0, 1, 9, 150, 1300));
+    print_book(&mut output, s);
+    s = cancel(&mut output, s, 9, 3);
+    s = cancel(&mut output, s, 9, 3);
+    s = clock(&mut output, s, 54_000);
+    print_book(&mut output, s);
 }

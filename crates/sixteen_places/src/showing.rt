@@ -5,12 +5,14 @@ use crate::Stand;
 use lent::{Answer, Told};
 use model::{Event, ListReply, ReportReply};
 use printing::{put_cancel, put_clock, put_open, put_order, put_reply, put_trades};
+use std::io::Write;
+use streams::{buffer, tell};
 
 // The first n bytes go to standard output.
-fn write_out(out: &[u8], n: usize)
+fn write_out<W: Write>(output: &mut W, out: &[u8], n: usize)
     requires { n ≤ length out.now }
 {
-    io::write_all(libc::STDOUT_FILENO, &out[..n]);
+    tell(output, &out[..n]);
 }
 
 // As many trades as were made, and never more than the list has.
@@ -53,75 +55,75 @@ fn put_lines(event: Event, answer: Answer, trades: &[[u64; 6]], out: &mut [u8]) 
     }
 }
 
-pub fn print_answer(event: Event, answer: Answer, trades: &[[u64; 6]])
+pub fn print_answer<W: Write>(output: &mut W, event: Event, answer: Answer, trades: &[[u64; 6]])
     requires { length trades.now ≡ 16 }
 {
-    let mut out = io::buffer();
+    let mut out = buffer();
     let n = put_lines(event, answer, trades, &mut out[..]);
-    write_out(&out[..], n);
+    write_out(output, &out[..], n);
 }
 
 // A letter and numbers.
-fn print_line(letter: u8, numbers: &[u64])
+fn print_line<W: Write>(output: &mut W, letter: u8, numbers: &[u64])
     requires { length numbers.now ≤ 5 }
 {
-    let mut out = io::buffer();
+    let mut out = buffer();
     let end = put_reply(letter, numbers, &mut out[..], 0);
-    write_out(&out[..], end);
+    write_out(output, &out[..], end);
 }
 
 // `R`, then price and volume.
-fn print_report(reply: ReportReply) {
+fn print_report<W: Write>(output: &mut W, reply: ReportReply) {
     match reply {
-        ReportReply::Refused(n) => print_line(b'X', &[n]),
+        ReportReply::Refused(n) => print_line(output, b'X', &[n]),
         ReportReply::Priced {
             price,
             volume,
             surplus: _,
-        } => print_line(b'R', &[price, volume]),
+        } => print_line(output, b'R', &[price, volume]),
     }
 }
 
 // `P` and a price, for the first n of the list.
-fn print_prices(prices: &[u64], n: usize) {
+fn print_prices<W: Write>(output: &mut W, prices: &[u64], n: usize) {
     let mut i: usize = 0;
     while i < n {
         if prices.len() <= i {
             return;
         }
         let numbers = [prices[i]];
-        print_line(b'P', &numbers);
+        print_line(&mut *output, b'P', &numbers);
         i += 1;
     }
 }
 
 // The prices that were listed, then `N` and the next one due.
-fn print_list(reply: ListReply, prices: &[u64]) {
+fn print_list<W: Write>(output: &mut W, reply: ListReply, prices: &[u64]) {
     match reply {
-        ListReply::Refused(n) => print_line(b'X', &[n]),
+        ListReply::Refused(n) => print_line(output, b'X', &[n]),
         ListReply::Listed { count, next } => {
-            print_prices(prices, count);
-            print_line(b'N', &[next]);
+            print_prices(&mut *output, prices, count);
+            print_line(output, b'N', &[next]);
         }
     }
 }
 
-pub fn print_told(told: Told, prices: &[u64]) {
+pub fn print_told<W: Write>(output: &mut W, told: Told, prices: &[u64]) {
     match told {
-        Told::Report(reply) => print_report(reply),
-        Told::List(reply) => print_list(reply, prices),
+        Told::Report(reply) => print_report(output, reply),
+        Told::List(reply) => print_list(output, reply, prices),
     }
 }
 
 // `B`, then side, account, shares left, price and number, for each order of the book.
-pub fn print_book(s: Stand) {
+pub fn print_book<W: Write>(output: &mut W, s: Stand) {
     let book = s.book;
     let mut i: usize = 0;
     while i < 16 {
         let o = book[i];
         if o.number != 0 {
             let numbers = [o.side, o.account, o.left, o.price, o.number];
-            print_line(b'B', &numbers);
+            print_line(&mut *output, b'B', &numbers);
         }
         i += 1;
     }

@@ -1,8 +1,8 @@
 -- A read that brought bytes: they stand after what was kept, and with that they are one chunk. Assumes nothing.
-use Prim.Native.Nat.{ℕ, ◌≤◌}
-use mathlib.Core.Path.{◌≡◌, sym, ap, subst, ◌∙◌}
-use mathlib.Core.List.{List, ◌++◌}
-use lib.ListN.{length, take, drop, take-append-drop}
+use Rattle.std.proofs.Common.{◌≡◌, ℕ, ◌+◌, ◌-◌, ◌≤◌, List, ◌++◌, arith, length, take, drop, sym, ap, subst, ◌∙◌, drop_at, length-take-le}
+use Rattle.std.proofs.lemmas.List.{take-append-drop, take-append-le}
+use Rattle.std.specs.List.{between}
+use borrow.Rule.Slice.PartMut.{put_mid, post_of}
 use lib.Seq.{take-take}
 use Rattle.streams.specs.declared.Input.{Input}
 use Rattle.streams.specs.declared.Input.TheVariants.{Bytes}
@@ -26,3 +26,16 @@ pub read_on_lem :
 read_on_lem kept n before after f =
     sym (take-append-drop kept (take n after))
     ∙ ap (λ (l : List ℕ). l ++ read kept n after) (take-take kept n after f.0 ∙ f.2)
+
+-- n bytes that were read into the part from `kept` on, as the whole buffer has them then
+pub brought :
+    (kept room n : ℕ) (before part : List ℕ)
+    → kept ≤ length before
+    → n ≤ length part
+    → between kept (kept + n) (put_mid kept room before part) ≡ take n part
+brought kept room n before part within fits =
+    let same : (kept + n) - kept ≡ n = omega arith in
+    let after = post_of kept room before in
+    ap (take ((kept + n) - kept)) (drop_at (take kept before) (part ++ after) kept (length-take-le kept before within))
+    ∙ ap (λ m. take m (part ++ after)) same
+    ∙ take-append-le n part after fits

@@ -4,6 +4,8 @@
 
 mod serving;
 
+use streams::Streams;
+
 // What goes from chunk to chunk: how many blocks have passed, how many bytes behind them stand at the buffer's front, and
 // whether the program stops here.
 #[derive(Clone, Copy)]
@@ -13,6 +15,11 @@ pub struct AfterChunk {
     pub stops: bool,
 }
 
-fn main() {
-    serving::run();
+fn main(rt: HostRuntime) {
+    let mut streams = Streams {
+        input: rt.stdin(),
+        output: rt.stdout(),
+        errors: rt.stderr(),
+    };
+    serving::run(&mut streams);
 }

@@ -1,14 +1,9 @@
--- The read leaves what was kept. Assumes nothing.
-use Prim.Native.Nat.{◌-◌}
-use native.Mathlib.Omega.{arith}
-use lib.ListN.{length}
-use borrow.Rule.Slice.PartMut.{take_put}
-use borrow.Author.Rules.{rules}
+-- What the read consumed is what stands in the buffer from the kept bytes on. Assumes nothing.
+use Rattle.std.proofs.Common.{sym, subst}
+use Rattle.std.specs.Io.KnownBytes.{Consumes}
+use Rattle.streams.proofs.Filling.{brought}
 use Rattle.streams.proofs.fill.Goals as goal
 
-pub returns : goal.returns
-returns c = (
-  omega arith,
-  search rules,
-  take_put c.args.kept (length c.args.buf.now - c.args.kept) c.args.buf.now c.read-got.new.buf c.requires,
-)
+pub returns-in-Ok-clause-reads : goal.returns-in-Ok-clause-reads
+returns-in-Ok-clause-reads g c =
+    subst (Consumes _ _) (sym (brought _ _ _ _ _ c.requires c.in-Ok.ensures.bound.0)) c.in-Ok.ensures.bytes.0

@@ -1,22 +1,14 @@
 -- What is due fits the output. Assumes nothing.
-use mathlib.Core.Path.{sym}
-use native.Mathlib.Omega.{arith}
-use lib.Seq.{length-take-le}
+use Rattle.std.proofs.Common.{arith}
 use Rattle.printing.proofs.Printed.{put_long}
+use Rattle.text.proofs.Turns.{end_fits_lem}
 use Rattle.floors.specs.Floor.{no_floor}
 use Rattle.wishes.specs.Wishes.{floor}
-use Rattle.text.proofs.Turns.{end_fits_lem}
 use Rattle.floor.proofs.Outset.{refused_16}
 use Rattle.floor.proofs.serving.finish.Goals as goal
 
 pub slice_bounds-reply-end : goal.slice_bounds-reply-end
-slice_bounds-reply-end c =
-    let a = c.args in
+slice_bounds-reply-end g c =
+    let h = c.args.h in
     let w = c.put_end-n.ensures in
-    omega (arith, w.place, end_fits_lem floor no_floor refused_16 (record { kept = a.h.kept; long = a.h.long }), put_long w)
-
-pub slice_bounds-reply-end-2 : goal.slice_bounds-reply-end-2
-slice_bounds-reply-end-2 c =
-    let a = c.args in
-    let r = c.put_end-n in
-    sym (length-take-le r.result r.new.1.0 (omega (arith, r.ensures.place, end_fits_lem floor no_floor refused_16 (record { kept = a.h.kept; long = a.h.long }), put_long r.ensures)))
+    omega (arith, w.place, end_fits_lem floor no_floor refused_16 (record { kept = h.kept; long = h.long }), put_long w, c.requires)

@@ -1,35 +1,33 @@
--- A read that failed or ended stops the program; else the chunk is served. Assumes nothing.
-use native.Mathlib.Omega.{arith}
-use Rattle.model.proofs.Bools.{not_both}
-use Rattle.streams.proofs.Filling.{filled_with, read_on_lem}
+-- What was kept fits the buffer, and what was read stands after it, so that the chunk is served. Assumes nothing.
+use Rattle.std.proofs.Common.{arith}
+use Rattle.streams.proofs.Filling.{read_on_lem}
 use Rattle.text.proofs.Turns.{turned, reached_few, reached_fair}
 use Rattle.wishes.specs.Wishes.{floor}
 use Rattle.floor_chunks.proofs.SoundFloors.{SoundFloor, floor_sound}
 use Rattle.floor.specs.Serving.{carry_in}
 use Rattle.floor.proofs.Outset.{first_sound}
-use borrow.Author.Rules.{rules}
 use Rattle.floor.proofs.serving.turn.Goals as goal
 
 pub fill-input-requires : goal.fill-input-requires
-fill-input-requires c =
-    omega (arith, c.requires.rows_len, reached_few floor SoundFloor floor_sound first_sound c.requires.noted_bound.1)
+fill-input-requires g c =
+    omega (arith, c.requires.rows_len.4, reached_few floor SoundFloor floor_sound first_sound c.requires.noted_bound.1)
 
-slice-aggregate-write-all : tie.Need-slice-aggregate-write-all
-slice-aggregate-write-all c = search rules
+pub serve-requires-clause-rows_len : goal.serve-requires-clause-rows_len
+serve-requires-clause-rows_len g c =
+    let s = c.requires.rows_len in
+    (s.0, s.1, s.2, s.3, c.in-Bytes.ensures.filled.1)
 
-pub serve-requires : goal.serve-requires
-serve-requires c =
-    let n = filled_with c.args.h.kept c.args.buf.now c.fill-input.new.buf c.in-Bytes.is c.fill-input.ensures in
-    record { rows_len = (c.requires.rows_len.0, c.requires.rows_len.1, c.requires.rows_len.2, c.requires.rows_len.3, n.1); noted_bound = (c.requires.noted_bound.0, reached_fair floor SoundFloor floor_sound first_sound c.requires.noted_bound.1) }
-
-pub returns-in-Failed : goal.returns-in-Failed
-returns-in-Failed c = λ e. absurd (not_both c.stopped.ensures e)
-
-pub returns-in-Ended : goal.returns-in-Ended
-returns-in-Ended c = λ e. absurd (not_both c.finish.ensures e)
+pub serve-requires-clause-noted_bound : goal.serve-requires-clause-noted_bound
+serve-requires-clause-noted_bound g c =
+    let s = c.requires.noted_bound in
+    (s.0, reached_fair floor SoundFloor floor_sound first_sound s.1)
 
 pub returns-in-Bytes : goal.returns-in-Bytes
-returns-in-Bytes c =
-    let a = c.args in
-    let n = filled_with a.h.kept a.buf.now c.fill-input.new.buf c.in-Bytes.is c.fill-input.ensures in
-    λ e. (turned floor (carry_in a.h) a.buf.now _ c.fill-input.new.buf c.in-Bytes.n _ (read_on_lem a.h.kept _ a.buf.now c.fill-input.new.buf n) (c.serve.ensures e).0, (c.serve.ensures e).1)
+returns-in-Bytes g c =
+    let h = c.args.h in
+    let buf = c.fill-input.new.buf in
+    λ e. let k = c.serve.ensures e in (
+      turned floor (carry_in h) c.args.buf.now _ buf c.in-Bytes.n _
+          (read_on_lem h.kept _ c.args.buf.now buf c.in-Bytes.ensures.filled) k.0,
+      k.1,
+    )

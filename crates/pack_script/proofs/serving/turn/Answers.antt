@@ -1,39 +1,14 @@
--- `pack_script::serving::turn` meets its contract. Assumes nothing.
-use borrow.Author.Rules.{rules}
-use native.Mathlib.Omega.{arith}
-use Rattle.model.proofs.Bools.{not_both}
-use Rattle.streams.proofs.Filling.{filled_with}
+-- What was kept fits the buffer, and what was read stands after it, so that the chunk is packed. Assumes nothing.
+use Rattle.std.proofs.Common.{arith}
 use Rattle.pack_script.proofs.Turns.{turned, reached_few, reached_waits}
 use Rattle.pack_script.proofs.serving.turn.Goals as goal
 
-slice-aggregate-fail : tie.Need-slice-aggregate-fail
-slice-aggregate-fail c = search rules
-
-pub returns-then-h-gt-MOST_LINES : goal.returns-then-h-gt-MOST_LINES
-returns-then-h-gt-MOST_LINES c = λ e. absurd (not_both c.fail.ensures e)
-
 pub fill-input-requires : goal.fill-input-requires
-fill-input-requires c = omega (arith, c.requires.buf_len, reached_few c.requires.reached)
+fill-input-requires g c = omega (arith, c.requires.buf_len.0, reached_few c.requires.reached)
 
-slice-aggregate-fail-2 : tie.Need-slice-aggregate-fail-2
-slice-aggregate-fail-2 c = search rules
-
-pub finish-requires : goal.finish-requires
-finish-requires c = record { block_len = (search rules, search rules, search rules); waits = reached_waits c.requires.reached }
-
-pub serve-requires : goal.serve-requires
-serve-requires c =
-    let n = filled_with c.args.h.kept c.args.buf.now c.fill-input.new.buf c.in-Bytes.is c.fill-input.ensures in
-    (n.1, search rules, search rules, search rules, search rules, search rules, search rules)
-
-pub returns-in-Failed : goal.returns-in-Failed
-returns-in-Failed c = λ e. absurd (not_both c.fail-in-Failed.ensures e)
-
-pub returns-in-Ended : goal.returns-in-Ended
-returns-in-Ended c = λ e. absurd (not_both c.finish.ensures e)
+pub finish-requires-clause-waits : goal.finish-requires-clause-waits
+finish-requires-clause-waits g c = reached_waits c.requires.reached
 
 pub returns-in-Bytes : goal.returns-in-Bytes
-returns-in-Bytes c =
-    let a = c.args in
-    let n = filled_with a.h.kept a.buf.now c.fill-input.new.buf c.in-Bytes.is c.fill-input.ensures in
-    λ e. turned a.h a.buf.now c.fill-input.new.buf a.block.now _ n (c.serve.ensures e)
+returns-in-Bytes g c =
+    λ e. turned c.args.h c.args.buf.now c.fill-input.new.buf _ c.in-Bytes.n c.in-Bytes.ensures.filled (c.serve.ensures e)

@@ -1,30 +1,17 @@
 -- The chunk is answered to its end, or the program stops; then its tail is carried over. Assumes nothing.
-use mathlib.Core.Path.{refl, sym}
-use native.Mathlib.Omega.{arith}
-use lib.ListN.{length-take}
-use lib.Seq.{length-take-le}
-use borrow.Author.Tests.{not-false}
-use Rattle.model.proofs.Bools.{not_both}
+use Rattle.std.proofs.Common.{arith, refl, length-take}
+use Rattle.std.proofs.lemmas.Bool.{not-false}
 use Rattle.text.specs.Answers.{rehearsal}
 use Rattle.text.proofs.Turns.{steps}
 use Rattle.rehearse.proofs.serving.serve.Goals as goal
 
-pub slice_bounds-answer_chunk-end-2 : goal.slice_bounds-answer_chunk-end-2
-slice_bounds-answer_chunk-end-2 c =
-    sym (length-take-le c.args.n c.args.buf.now c.requires.3)
-
-pub returns-then-not-p : goal.returns-then-not-p
-returns-then-not-p c = λ e. absurd (not_both c.stopped.ensures e)
-
 pub carry_over-c-requires : goal.carry_over-c-requires
-carry_over-c-requires c =
+carry_over-c-requires g c =
     let o = c.answer_chunk-p.ensures (not-false _ c.if-not-p.false) in
     let l = length-take c.args.n c.args.buf.now in
     (omega (arith, o.0.inside), c.requires.3)
 
 pub returns : goal.returns
-returns c =
-    let s = c.args in
+returns g c =
     let o = c.answer_chunk-p.ensures (not-false _ c.if-not-p.false) in
-    let v = c.carry_over-c in
-    λ e. steps rehearsal s.buf.now v.new.0 s.n _ _ v.result refl o.0 o.1 v.ensures
+    λ e. steps rehearsal c.args.buf.now c.carry_over-c.new.buf c.args.n _ _ c.carry_over-c.result refl o.0 o.1 c.carry_over-c.ensures

@@ -1,10 +1,10 @@
--- `rescue_file::serving::finish` meets its contract. Assumes nothing.
-use borrow.Author.Rules.{rules}
-use native.Mathlib.Omega.{arith}
+-- What is kept of the rest is no more than the rest was. Assumes nothing.
+use Rattle.std.proofs.Common.{arith}
 use Rattle.rescue_file.proofs.Turns.{keeps_few}
 use Rattle.rescue_file.proofs.serving.finish.Goals as goal
 
 pub tell_rest-requires-2 : goal.tell_rest-requires-2
-tell_rest-requires-2 c =
-    let b = keeps_few _ _ c.args.h.kept c.args.buf.now c.args.h (c.keep-r.ensures c.if-r.false) (omega (arith, c.requires)) in
-    (omega (arith, b.0, c.requires), search rules, search rules, omega (arith, b.1, c.requires))
+tell_rest-requires-2 g c =
+    let s = c.requires in
+    let b = keeps_few _ _ c.args.h.kept c.args.buf.now c.args.h (c.keep-r.ensures c.if-r.false) (omega (arith, s)) in
+    (omega (arith, b.0, s), omega (arith, s.1, c.keep-r.auto.buf), s.2, omega (arith, b.1, s))

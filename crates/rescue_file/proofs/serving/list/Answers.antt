@@ -1,21 +1,16 @@
--- `rescue_file::serving::list` meets its contract. Assumes nothing.
-use mathlib.Core.Path.{sym}
-use native.Mathlib.Omega.{arith}
-use lib.Seq.{length-take-le}
+-- The lines of the whole blocks fit their room; then the tail goes to the buffer's front. Assumes nothing.
+use Rattle.std.proofs.Common.{arith, length-take-le}
 use Rattle.rescue_file.proofs.Turns.{lists}
 use Rattle.rescue_file.proofs.serving.list.Goals as goal
 
-pub slice_bounds-list_blocks-end-2 : goal.slice_bounds-list_blocks-end-2
-slice_bounds-list_blocks-end-2 c = sym (length-take-le c.args.h.kept c.args.buf.now c.requires.0)
-
 pub list_blocks-told-requires : goal.list_blocks-told-requires
-list_blocks-told-requires c = let l = length-take-le c.args.h.kept c.args.buf.now c.requires.0 in (omega (arith, c.requires), omega (arith, c.requires), omega (arith, c.requires))
+list_blocks-told-requires g c =
+    let s = c.requires in
+    let l = length-take-le c.args.h.kept c.args.buf.now s.0 in
+    (omega (arith, s, l), omega (arith, s, l), omega (arith, s, l))
 
-pub slice_bounds-write_all-end : goal.slice_bounds-write_all-end
-slice_bounds-write_all-end c = omega (arith, c.list_blocks-told.ensures.room, c.list_blocks-told.auto.said)
-
-pub slice_bounds-write_all-end-2 : goal.slice_bounds-write_all-end-2
-slice_bounds-write_all-end-2 c = sym (length-take-le _ _ (omega (arith, c.list_blocks-told.ensures.room, c.list_blocks-told.auto.said)))
+pub slice_bounds-tell-end : goal.slice_bounds-tell-end
+slice_bounds-tell-end g c = omega (arith, c.list_blocks-told.ensures.room, c.list_blocks-told.auto.said)
 
 pub returns : goal.returns
-returns c = lists c.args.buf.now _ c.args.h c.requires.0 c.to_front.ensures
+returns g c = lists c.args.buf.now _ c.args.h c.requires.0 c.to_front.ensures

@@ -1,45 +1,16 @@
--- `rescue_file::serving::turn` meets its contract. Assumes nothing.
-use borrow.Author.Rules.{rules}
-use native.Mathlib.Omega.{arith}
-use Rattle.model.proofs.Bools.{not_both}
-use Rattle.streams.proofs.Filling.{filled_with}
+-- What was kept fits the buffer, and what was read stands after it, so that the chunk is served. Assumes nothing.
+use Rattle.std.proofs.Common.{arith, rules}
 use Rattle.rescue_file.proofs.Turns.{turned, reached_few}
 use Rattle.rescue_file.proofs.serving.turn.Goals as goal
 
-slice-aggregate-fail : tie.Need-slice-aggregate-fail
-slice-aggregate-fail c = search rules
-
-pub returns-then-h-gt-MOST : goal.returns-then-h-gt-MOST
-returns-then-h-gt-MOST c = λ e. absurd (not_both c.fail.ensures e)
-
-slice-aggregate-fail-2 : tie.Need-slice-aggregate-fail-2
-slice-aggregate-fail-2 c = search rules
-
-pub returns-then-h-gt-MOST_RECORDS : goal.returns-then-h-gt-MOST_RECORDS
-returns-then-h-gt-MOST_RECORDS c = λ e. absurd (not_both c.fail-then-h-gt-MOST_RECORDS.ensures e)
-
 pub fill-input-requires : goal.fill-input-requires
-fill-input-requires c = omega (arith, c.requires.buf_len, reached_few c.requires.reached)
-
-slice-aggregate-fail-3 : tie.Need-slice-aggregate-fail-3
-slice-aggregate-fail-3 c = search rules
+fill-input-requires g c = omega (arith, c.requires.buf_len.0, reached_few c.requires.reached)
 
 pub finish-requires : goal.finish-requires
-finish-requires c = (reached_few c.requires.reached, search rules, search rules, search rules, search rules)
-
-pub serve-requires : goal.serve-requires
-serve-requires c =
-    let n = filled_with c.args.h.kept c.args.buf.now c.fill-input.new.buf c.in-Bytes.is c.fill-input.ensures in
-    (n.1, search rules, search rules, search rules, search rules)
-
-pub returns-in-Failed : goal.returns-in-Failed
-returns-in-Failed c = λ e. absurd (not_both c.fail-in-Failed.ensures e)
-
-pub returns-in-Ended : goal.returns-in-Ended
-returns-in-Ended c = λ e. absurd (not_both c.finish.ensures e)
+finish-requires g c =
+    let s = c.requires.buf_len in
+    (reached_few c.requires.reached, omega (arith, s.0, c.fill-input.auto.buf), s.1, search rules, search rules)
 
 pub returns-in-Bytes : goal.returns-in-Bytes
-returns-in-Bytes c =
-    let a = c.args in
-    let n = filled_with a.h.kept a.buf.now c.fill-input.new.buf c.in-Bytes.is c.fill-input.ensures in
-    λ e. turned a.h a.buf.now c.fill-input.new.buf _ n (c.serve.ensures e)
+returns-in-Bytes g c =
+    λ e. turned c.args.h c.args.buf.now c.fill-input.new.buf c.in-Bytes.n c.in-Bytes.ensures.filled (c.serve.ensures e)
