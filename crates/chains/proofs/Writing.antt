@@ -65,7 +65,7 @@ module _ (day book trades : Bytes) where
         entry = e.0;
         reply = e.1;
         accepted = entering.accepted (day_in day) a (book_in book) (trades_in trades) e.0 e.1;
-        trades_bytes_lem = ap (λ (l : TradeLeft). l.trades) (p ∙ order_left day book trades reply b.0 a);
+        trades_bytes = ap (λ (l : TradeLeft). l.trades) (p ∙ order_left day book trades reply b.0 a);
       }
 
   clock_wrote :
@@ -85,7 +85,7 @@ module _ (day book trades : Bytes) where
         made = e.1.0;
         reply = e.1.1;
         auctions = pricing.clock_trades (day_in day) (book_in book) b.1 time (trades_in trades);
-        trades_bytes_lem = ap (λ (l : TradeLeft). l.trades) (p ∙ clock_left day book trades reply b.0 time);
+        trades_bytes = ap (λ (l : TradeLeft). l.trades) (p ∙ clock_left day book trades reply b.0 time);
       }
 
 list_wrote :

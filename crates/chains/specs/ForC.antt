@@ -97,17 +97,17 @@ pub record ForC : Type 0 where
       → OpenPromise day.bytes book.bytes reply.bytes close mark r day'.bytes book'.bytes reply'.bytes
       → (r ≡ 0 → ⊥)
       → (day'.bytes ≡ day.bytes) × (book'.bytes ≡ book.bytes)
-  pub clock_refused_lem :
+  pub clock_refused :
       (day book trades reply day' book' trades' reply' : Slice) (time r : ℕ)
       → ClockPromise day.bytes book.bytes trades.bytes reply.bytes time r day'.bytes book'.bytes trades'.bytes reply'.bytes
       → (r ≡ 0 → ⊥)
       → (day'.bytes ≡ day.bytes) × (book'.bytes ≡ book.bytes) × (trades'.bytes ≡ trades.bytes)
-  pub order_refused_lem :
+  pub order_refused :
       (day book trades reply day' book' trades' reply' : Slice) (a : Asked) (r : ℕ)
       → OrderPromise day.bytes book.bytes trades.bytes reply.bytes a r day'.bytes book'.bytes trades'.bytes reply'.bytes
       → (r ≡ 0 → ⊥)
       → (day'.bytes ≡ day.bytes) × (book'.bytes ≡ book.bytes) × (trades'.bytes ≡ trades.bytes)
-  pub cancel_refused_lem :
+  pub cancel_refused :
       (day book reply day' book' reply' : Slice) (account number r : ℕ)
       → CancelPromise day.bytes book.bytes reply.bytes account number r day'.bytes book'.bytes reply'.bytes
       → (r ≡ 0 → ⊥)

@@ -20,7 +20,7 @@ pub record OrderWrote (day book trades trades' : Bytes) (a : Asked) : Type 0 whe
   pub entry : Entry
   pub reply : (order_call (day_in day) a (book_in book) (trades_in trades)).answer.reply ≡ OrderReply.TheVariants.Accepted entry
   pub accepted : Accepted (day_in day) a (book_in book) (trades_in trades) entry (order_call (day_in day) a (book_in book) (trades_in trades))
-  pub trades_bytes_lem : trades' ≡ over (trades_bytes (order_call (day_in day) a (book_in book) (trades_in trades)).trades) trades
+  pub trades_bytes : trades' ≡ over (trades_bytes (order_call (day_in day) a (book_in book) (trades_in trades)).trades) trades
 
 -- a move that is accepted: the trades that it writes are those of demand 3's auctions
 pub record ClockWrote (day book trades trades' : Bytes) (time : ℕ) : Type 0 where
@@ -29,7 +29,7 @@ pub record ClockWrote (day book trades trades' : Bytes) (time : ℕ) : Type 0 wh
   pub made : ℕ
   pub reply : (clock_call (day_in day) time (book_in book) (trades_in trades)).answer.reply ≡ ClockReply.TheVariants.Moved phase made
   pub auctions : ClockTrades (day_in day) time (book_in book) (trades_in trades)
-  pub trades_bytes_lem : trades' ≡ over (trades_bytes (clock_call (day_in day) time (book_in book) (trades_in trades)).trades) trades
+  pub trades_bytes : trades' ≡ over (trades_bytes (clock_call (day_in day) time (book_in book) (trades_in trades)).trades) trades
 
 -- a price list that is told: every price that meets the conditions, from the asked one on, and no other
 pub record ListWrote (day book prices prices' : Bytes) (asked : ℕ) : Type 0 where

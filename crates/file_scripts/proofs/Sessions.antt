@@ -236,5 +236,5 @@ scripts =
       held = λ script. stored_held (lines_of script);
       narrow = λ script. stored_narrow (commands_of script);
       same_session = same_session;
-      left_out_lem = left_out_lem;
+      left_out = left_out_lem;
     }

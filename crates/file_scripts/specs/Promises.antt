@@ -30,4 +30,4 @@ pub record Scripts : Type 0 where
       (script : List ℕ)
       → session (script_of (stored_of (commands_of script))) ≡ answers (keep is_stored (lines_of script)) none
   -- and leaving these out changes no other answer
-  pub left_out_lem : (ls : List Line) (desk : Option Desk) → answers (keep is_stored ls) desk ≡ answers_to_stored ls desk
+  pub left_out : (ls : List Line) (desk : Option Desk) → answers (keep is_stored ls) desk ≡ answers_to_stored ls desk

@@ -259,7 +259,7 @@ module _ (d : Day) (a : AskedFixed) (book : List Order) (r : FixedReady d book) 
 
     -- one side rests at most, so it trades no more than it asks for
     pub entry_fills : filled (matches close orders) ≤ a.quantity
-    entry_fills = go (r.line.one_sided_lem late)
+    entry_fills = go (r.line.one_sided late)
       where
         go : Each (λ o. stands_on 0 o ≡ false) book ⊎ Each (λ o. stands_on 1 o ≡ false) book → filled (matches close orders) ≤ a.quantity
         go (inl e) = omega (arith, entry_clears.smaller, alone 0 e)

@@ -150,7 +150,7 @@ says_line d book =
       arrived = h.0.0.0.1;
       early = λ l. emptied places (hours (λ w. not-le_of_lt l w.0));
       late = λ l. emptied places (hours (λ w. not-le_of_lt l w.1));
-      one_sided_lem = λ l. (resting (λ m. omega (arith, l, m))).0;
+      one_sided = λ l. (resting (λ m. omega (arith, l, m))).0;
       none_void = λ l. (resting (λ m. omega (arith, l, m))).1;
       sums = h.1;
     })
@@ -162,7 +162,7 @@ says_line d book =
         ),
         λ n.
             let l : 54_300 ≤ d.time = omega (arith, n) in
-            (s.one_sided_lem l, s.none_void l),
+            (s.one_sided l, s.none_void l),
       ),
       s.sums,
     ))

@@ -44,7 +44,7 @@ pub record FixedLine (d : Day) (book : List Order) : Type 0 where
   pub arrived : in_arrival (λ (o : Order). o.number) book ≡ true
   pub early : d.time < 33_300 → Empty book
   pub late : 55_800 ≤ d.time → Empty book
-  pub one_sided_lem : 54_300 ≤ d.time → Each (λ o. stands_on 0 o ≡ false) book ⊎ Each (λ o. stands_on 1 o ≡ false) book
+  pub one_sided : 54_300 ≤ d.time → Each (λ o. stands_on 0 o ≡ false) book ⊎ Each (λ o. stands_on 1 o ≡ false) book
   pub none_void : 54_300 ≤ d.time → Each (λ o. is_void (close_price d) o ≡ false) book
   pub sums : 2 * d.fixed.shares + total (λ (o : Order). o.left) book ≤ 1_000_000 * d.fixed.issued
 
@@ -53,7 +53,7 @@ pub record FixedDay (d : Day) : Type 0 where
   pub issued : d.fixed.issued ≤ 999_999
   pub shares : 2 * d.fixed.shares ≤ 1_000_000 * d.fixed.issued
   pub money : d.fixed.money ≡ close_price d * d.fixed.shares
-  pub none_yet_lem : d.time < 54_300 → d.fixed.shares ≡ 0
+  pub none_yet : d.time < 54_300 → d.fixed.shares ≡ 0
 
 pub record FixedReady (d : Day) (book : List Order) : Type 0 where
   pub sound : unsound_fixed d book ≡ false

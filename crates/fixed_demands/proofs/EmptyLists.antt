@@ -122,7 +122,7 @@ module _ (book : List Order) (e : Empty book) where
         line = free_arrives (λ (o : Order). o.number) free free_number book e;
         early = λ _. e;
         ended = λ _. e;
-        one_sided_lem = λ _. inl (nobody 0);
+        one_sided = λ _. inl (nobody 0);
         none_void = λ _. none_void (close_price d);
         sums = omega (arith, no_shares, f.shares);
       })

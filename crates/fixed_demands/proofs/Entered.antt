@@ -115,5 +115,5 @@ module _ (d : Day) (a : AskedFixed) (main book : List Order) (lent : List Trade)
         shares = sym (ap (λ (x : Entry). x.filled) same);
         adds_up = rw (← same) (omega (arith, rest.0, never_more d a main book (length lent) k));
         none_withdrawn = rw (← same) rest.1;
-        one_price_lem = rw (← same) (one_price_lem d a main book (length lent) k);
+        one_price = rw (← same) (one_price_lem d a main book (length lent) k);
       }

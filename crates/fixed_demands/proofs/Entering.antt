@@ -202,7 +202,7 @@ by_time d a main book room k l =
     ])
   where
     one_sided_lem : (keep (stands_on 0) book ≡ []) ⊎ (keep (stands_on 1) book ≡ [])
-    one_sided_lem = (fixed_day_lem d book k.fixed_sound).one_sided_lem l
+    one_sided_lem = (fixed_day_lem d book k.fixed_sound).one_sided l
 
     limits : Each (WithinLimits (close_price d) (arriving d a book)) (matches (close_price d) (arriving d a book))
     limits = within_limits (close_price d) (arriving d a book) (arriving_stands d a main book room k) (arriving_right d a main book room k l)

@@ -156,11 +156,11 @@ module _ (d : Day) (t : ℕ) (s : Books) where
   unfolding shares_of matching_from
   five_past_lem m f before reached =
       record {
-        one_by_one_lem = k.trades ∙ as_they_came close s.fixed stand;
+        one_by_one = k.trades ∙ as_they_came close s.fixed stand;
         void = k.void;
         void_out = rw k.trades (void_out close s.fixed stand);
         limits = rw k.trades (limits close s.fixed stand);
-        one_sided_lem = ⊎_elim ended matched (passes_or_misses day_end d.time t);
+        one_sided = ⊎_elim ended matched (passes_or_misses day_end d.time t);
       }
     where
       p : Passes matching_from d.time t

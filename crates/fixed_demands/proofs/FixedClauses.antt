@@ -96,7 +96,7 @@ says_fixed d book =
       line = h.0.0.0.1;
       early = λ l. both (Place (of_fixed d)) (λ o. o.number ≡ 0) (λ o. o ≡ free) book (numberless d) places (hours (λ w. not-le_of_lt l w.0));
       ended = λ l. both (Place (of_fixed d)) (λ o. o.number ≡ 0) (λ o. o ≡ free) book (numberless d) places (hours (λ w. not-le_of_lt l w.1));
-      one_sided_lem = λ l. (h.0.1 (λ m. not-le_of_lt m l)).0;
+      one_sided = λ l. (h.0.1 (λ m. not-le_of_lt m l)).0;
       none_void = λ l. (h.0.1 (λ m. not-le_of_lt m l)).1;
       sums = h.1;
     })
@@ -106,7 +106,7 @@ says_fixed d book =
           (f.places, f.line),
           λ n. free_numbers book (outside book d.time f.early f.ended n),
         ),
-        λ n. (f.one_sided_lem (le_of_suc-le-suc (lt_of_not-le n)), f.none_void (le_of_suc-le-suc (lt_of_not-le n))),
+        λ n. (f.one_sided (le_of_suc-le-suc (lt_of_not-le n)), f.none_void (le_of_suc-le-suc (lt_of_not-le n))),
       ),
       f.sums,
     ))

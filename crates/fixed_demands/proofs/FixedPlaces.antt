@@ -137,7 +137,7 @@ lined_day d n os places rises fit from until one_sided_lem right sums =
       line = lined_arrives n os rises;
       early = λ l. absurd (omega arith);
       ended = λ l. absurd (omega arith);
-      one_sided_lem = λ l. ⊎_elim (λ e. inl (lined_side n os fit 0 ∙ e)) (λ e. inr (lined_side n os fit 1 ∙ e)) (one_sided_lem l);
+      one_sided = λ l. ⊎_elim (λ e. inl (lined_side n os fit 0 ∙ e)) (λ e. inr (lined_side n os fit 1 ∙ e)) (one_sided_lem l);
       none_void = λ l. lined_each (λ o. is_void (close_price d) o ≡ false) n os (free_right (close_price d)) (right l);
       sums = omega (arith, lined_total n os fit (λ (o : Order). o.left) free_left (untaken_none d os places));
     }

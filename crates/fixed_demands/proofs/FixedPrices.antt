@@ -4,4 +4,4 @@ use Rattle.fixed_demands.proofs.Entered.{entered}
 use Rattle.fixed_demands.proofs.FivePast.{five_past_lem, ended}
 
 pub fixed_price : FixedPrice
-fixed_price = record { entered = entered; five_past_lem = five_past_lem; end = ended }
+fixed_price = record { entered = entered; five_past = five_past_lem; end = ended }

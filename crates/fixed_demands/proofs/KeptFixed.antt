@@ -240,7 +240,7 @@ thinned_day d book p f from until =
     (omega (arith, length_keep is_live (keep p book), length_keep p book))
     from
     until
-    (λ l. ⊎_elim (λ e. inl (nobody_kept 0 p book e)) (λ e. inr (nobody_kept 1 p book e)) (f.one_sided_lem l))
+    (λ l. ⊎_elim (λ e. inl (nobody_kept 0 p book e)) (λ e. inr (nobody_kept 1 p book e)) (f.one_sided l))
     (λ l. each_keep (λ o. is_void (close_price d) o ≡ false) p book (f.none_void l))
     (omega (arith, f.sums, total_keep (λ (o : Order). o.left) p book))
 

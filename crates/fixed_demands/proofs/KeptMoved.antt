@@ -150,7 +150,7 @@ module _ (d e : Day) (w : Waits d e) where
         line = f.line;
         early = λ l. f.early (omega (arith, w.later));
         ended = λ l. f.ended (passed_before 55_800 end l);
-        one_sided_lem = λ l. f.one_sided_lem (passed_before 54_300 five_past_lem l);
+        one_sided = λ l. f.one_sided (passed_before 54_300 five_past_lem l);
         none_void = λ l. let k : 54_300 ≤ d.time = passed_before 54_300 five_past_lem l in rw (w.at_close k) (f.none_void k);
         sums = omega (arith, same_issued, same_shares, f.sums);
       }

@@ -35,7 +35,7 @@ pub record FixedFigures (d : Day) : Type 0 where
   pub issued : d.fixed.issued ≤ 999_999
   pub shares : 2 * d.fixed.shares ≤ 1_000_000 * d.fixed.issued
   pub money : d.fixed.money ≡ close_price d * d.fixed.shares
-  pub none_yet_lem : d.time < 54_300 → d.fixed.shares ≡ 0
+  pub none_yet : d.time < 54_300 → d.fixed.shares ≡ 0
 
 pub record FixedDay (d : Day) (book : List Order) : Type 0 where
   pub places : Each (Place (of_fixed d)) book
@@ -44,7 +44,7 @@ pub record FixedDay (d : Day) (book : List Order) : Type 0 where
   pub early : d.time < 33_300 → Empty book
   pub ended : 55_800 ≤ d.time → Empty book
   -- from 15:05 on one side has nobody, and nobody has a limit on the wrong side of the close
-  pub one_sided_lem : 54_300 ≤ d.time → (keep (stands_on 0) book ≡ []) ⊎ (keep (stands_on 1) book ≡ [])
+  pub one_sided : 54_300 ≤ d.time → (keep (stands_on 0) book ≡ []) ⊎ (keep (stands_on 1) book ≡ [])
   pub none_void : 54_300 ≤ d.time → Each (λ o. is_void (close_price d) o ≡ false) book
   -- each share traded was bought and sold, out of at most 1,000,000 for each number
   pub sums : 2 * d.fixed.shares + total (λ (o : Order). o.left) book ≤ 1_000_000 * d.fixed.issued

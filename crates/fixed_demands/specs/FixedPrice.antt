@@ -53,7 +53,7 @@ pub record Entered (d : Day) (a : AskedFixed) (main book : List Order) (lent : L
   pub shares : e.filled ≡ filled (fixed_trades d a book)
   pub adds_up : e.filled + resting_of e.remainder ≡ a.quantity
   pub none_withdrawn : withdrawn_of e.remainder ≡ 0
-  pub one_price_lem : e.levels ≤ 1
+  pub one_price : e.levels ≤ 1
 
 -- ---- 15:05
 
@@ -68,18 +68,18 @@ one_by_one close line (o ∷ os) =
 -- a move over 15:05. The orders that are not void trade as if they came in then, one by one, in order of arrival; void are exactly
 -- those that 20 names; afterwards one side is left at most.
 pub record FivePast (close : ℕ) (book : List Order) (h : After) : Type 0 where
-  pub one_by_one_lem : h.fixed ≡ one_by_one close [] (keep (λ o. is_live o && not (is_void close o)) book)
+  pub one_by_one : h.fixed ≡ one_by_one close [] (keep (λ o. is_live o && not (is_void close o)) book)
   pub void : h.void ≡ total (λ (o : Order). o.left) (keep (is_void close) book)
   pub void_out : Each (λ o. is_void close o ≡ true → filled_of o.number h.fixed ≡ 0) book
   pub limits : Each (WithinLimits close book) h.fixed
-  pub one_sided_lem : (keep (stands_on 0) h.books.fixed ≡ []) ⊎ (keep (stands_on 1) h.books.fixed ≡ [])
+  pub one_sided : (keep (stands_on 0) h.books.fixed ≡ []) ⊎ (keep (stands_on 1) h.books.fixed ≡ [])
 
 pub record FixedPrice : Type 0 where
   pub entered :
       (d : Day) (a : AskedFixed) (main book : List Order) (lent : List Trade) (e : Entry)
       → (fixed_call d a main book lent).answer.reply ≡ OrderReply.TheVariants.Accepted e
       → Entered d a main book lent e
-  pub five_past_lem :
+  pub five_past :
       (d : Day) (t : ℕ) (s : Books)
       → Sound d s.main
       → unsound_fixed d s.fixed ≡ false

@@ -92,7 +92,7 @@ pub record SeparateFixed : Type 0 where
       → let o : Outcome OrderAnswer = fixed_call d a main book lent in
       o.answer.reply ≡ OrderReply.TheVariants.Refused n
       → (o.answer.day ≡ d) × (o.answer.made ≡ 0) × (o.book ≡ book) × (o.trades ≡ lent)
-  pub cancel_refused_lem :
+  pub cancel_refused :
       (d : Day) (account number : ℕ) (main book : List Order) (n : ℕ)
       → (fixed_cancel_call d account number main book).reply ≡ CancelReply.TheVariants.Refused n
       → (fixed_cancel_call d account number main book).book ≡ book
