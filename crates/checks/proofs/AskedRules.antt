@@ -53,13 +53,6 @@ module _ (a : Asked) where
 
 -- ---- when it is asked
 
--- a test of two parts, by the first of them or by the second
-pub or_first : {f x : Bool} (y : Bool) → f ≡ x → x ≡ true → f ≡ (x || y)
-or_first y e t = rw (e, t)
-
-pub or_second : {f x y : Bool} → x ≡ false → f ≡ y → f ≡ (x || y)
-or_second t e = rw (t, e)
-
 module _ (d : Day) (a : Asked) {takes : Bool} {phase : ℕ} (r : takes ≡ takes_orders d.time) (p : phase ≡ phase_now d) where
   pub hour_shut : takes ≡ false → 4 ≡ first_of (hour_rules d a)
   unfolding hour_rules first_of ◌when◌
