@@ -1,5 +1,4 @@
 -- Each turn shows the next price; after five the lines are the side's.
-use Prim.Native.Nat.{◌-◌}
 use Rattle.levels.proofs.Nexts.{showing_start, showing_next, showing_end}
 use Rattle.levels.proofs.levels_of.Goals as goal
 

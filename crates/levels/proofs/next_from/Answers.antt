@@ -1,4 +1,5 @@
 -- Behind the last order there is no price; else the first order's, with those right behind it that stand at it.
+use Prim.Native.Nat.{◌+◌}
 use native.Mathlib.Omega.{arith}
 use Rattle.levels.proofs.Nexts.{next_none, run_fits, sum_fits, next_some}
 use Rattle.levels.proofs.next_from.Goals as goal
@@ -8,7 +9,8 @@ returns-then-end-at c = next_none c.args.rows.now c.args.at c.args.end c.if-end-
 
 pub run_from-others-requires : goal.run_from-others-requires
 run_from-others-requires c =
-    run_fits c.args.rows.now _ c.args.end _ c.requires.ranked c.requires.end_in_bounds
+    let fit = run_fits c.args.rows.now (c.args.at + 1) c.args.end c.order_at-first.result.price c.requires.ranked c.requires.end_in_bounds in
+    record { end_in_bounds = fit.0; rows_bound = fit.1 }
 
 pub overflow_add-shares : goal.overflow_add-shares
 overflow_add-shares c =
