@@ -88,5 +88,7 @@ pub returns : goal.returns
 returns c =
     let a = c.args in
     let w = sides (goal.at.returns c).After-free_from-end in
+    let e =
     underway_end a.rows.now c.requires.ranked w a.price a.trades.now
-    c.loop-left.invariant c.loop-left-test.false
+    c.loop-left.invariant c.loop-left-test.false in
+    record { value = e.0; trades_after = e.1 }
