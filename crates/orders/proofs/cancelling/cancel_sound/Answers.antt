@@ -1,7 +1,7 @@
 -- `orders::cancelling::cancel_sound` meets its contract: refused, or the one order is taken out and the screen updated. Assumes nothing.
 use mathlib.Core.Path.{◌≡◌, refl, sym, ap, ◌∙◌}
 use mathlib.Core.Bool.{true}
-use borrow.Author.Tests.{eqb-false, not-true, not-false}
+use borrow.Author.Tests.{eqb-false, not-true}
 use Rattle.model.specs.declared.CancelAnswer.{CancelAnswer}
 use Rattle.model.specs.Clock.{takes_cancels}
 use Rattle.model.specs.Refusals.{first_of}
@@ -28,7 +28,7 @@ returns-then-not-takes_cancels c =
     (eqb-false 4 0 refl)
 
 taken : (f : After-place_of-place) → takes_cancels f.args.d.time ≡ true
-taken f = sym f.takes_cancels.ensures ∙ not-false _ f.if-not-takes_cancels.left
+taken f = sym f.takes_cancels.ensures ∙ f.if-not-takes_cancels.false
 
 pub returns-then-rows-place : goal.returns-then-rows-place
 returns-then-rows-place c =
@@ -42,7 +42,7 @@ returns-then-rows-place c =
 none : (c : Else-rows-place) → 0 ≡ first_of (cancel_rules c.args.d c.args.account c.args.number (book_of c.args.rows.now))
 none c =
     let a = c.args in
-    cancel_none a.d a.account a.number a.rows.now c.requires (taken c.before) c.place_of-place.ensures c.if-rows-place.false
+    cancel_none a.d a.account a.number a.rows.now c.requires (sym c.takes_cancels.ensures ∙ c.if-not-takes_cancels.false) c.place_of-place.ensures c.if-rows-place.false
 
 pub order_at-own-requires : goal.order_at-own-requires
 order_at-own-requires c = c.if-rows-place.false

@@ -2,7 +2,7 @@
 -- withdrawn. Assumes nothing.
 use native.Mathlib.Omega.{arith}
 use Prim.Native.Nat.{◌+◌, ◌<◌, ◌^◌}
-use mathlib.Core.Path.{◌≡◌, ◌∙◌}
+use mathlib.Core.Path.{◌≡◌}
 use Rattle.model.specs.Book.{best, other}
 use Rattle.book.specs.Rows.{book_of}
 use Rattle.matching.specs.Entering.{rest_at}
@@ -47,31 +47,24 @@ pub update_screen-next-requires : goal.update_screen-next-requires
 update_screen-next-requires c =
     let a = c.args in record {
       ranked = left_ranked a.d a.a a.rows.now a.trades.now c.requires.taken.fits c.enter_trades-s.ensures.value c.enter_trades-s.ensures.trades_after c.requires.taken
-          c.settle_entry.last.0 c.settle_entry.ensures.rows_after_2
+          c.settle_entry.new.rows c.settle_entry.ensures.rows_after_2
           c.join_rest.new.rows
-          (rest (priced (goal.at.update_screen-next-requires c).After-join_rest))
+          (rest (goal.at.update_screen-next-requires c).After-price_of_rest-p)
           c.join_rest.ensures;
-      n_in_bounds = count_fits a.d a.a a.rows.now a.trades.now c.requires.taken.fits c.enter_trades-s.ensures.value c.enter_trades-s.ensures.trades_after c.requires.taken c.enter_trades-s.kept.1.1.0;
+      n_in_bounds = count_fits a.d a.a a.rows.now a.trades.now c.requires.taken.fits c.enter_trades-s.ensures.value c.enter_trades-s.ensures.trades_after c.requires.taken c.enter_trades-s.auto.trades;
       publishable = then_publishable a.d a.a a.rows.now a.trades.now c.requires.taken.fits c.enter_trades-s.ensures.value c.enter_trades-s.ensures.trades_after c.requires.taken c.day_after-counted.ensures;
     }
 
 pub overflow_add-entry : goal.overflow_add-entry
-overflow_add-entry c = record { fits = numbers (traded (priced (goal.at.overflow_add-entry c).After-join_rest)) }
-
-pub shape_of-rows : goal.shape_of-rows
-shape_of-rows c =
-    c.join_rest.auto.rows ∙ c.settle_entry.auto.rows
-
-pub shape_of-trades : goal.shape_of-trades
-shape_of-trades c = c.enter_trades-s.kept.1.1.0
+overflow_add-entry c = record { fits = numbers (goal.at.overflow_add-entry c).After-enter_trades-s }
 
 pub returns : goal.returns
 returns c =
     let a = c.args in
     entered_is a.d a.a a.rows.now a.trades.now c.requires.taken.fits c.enter_trades-s.ensures.value c.enter_trades-s.ensures.trades_after c.requires.taken
-    c.settle_entry.last.0 c.settle_entry.ensures.rows_after_2
+    c.settle_entry.new.rows c.settle_entry.ensures.rows_after_2
     c.join_rest.new.rows
-    (rest (priced (goal.at.returns c).After-join_rest))
+    (rest (goal.at.returns c).After-price_of_rest-p)
     c.join_rest.ensures
     c.remainder_of.ensures
     c.day_after-counted.ensures

@@ -3,7 +3,7 @@ use mathlib.Core.Path.{ap, ◌∙◌}
 use mathlib.Core.Logic.{⊎_elim}
 use mathlib.Core.List.{List}
 use native.Mathlib.Omega.{arith}
-use borrow.Author.Tests.{eqb-true, eqb-false}
+use borrow.Author.Tests.{eqb-false}
 use lib.ListN.{length, length-map}
 use Rattle.model.specs.declared.Order.{Order}
 use Rattle.model.specs.Book.{arranged}
@@ -15,12 +15,12 @@ pub returns-then-q-eq0 : goal.returns-then-q-eq0
 returns-then-q-eq0 c =
     let a = c.args in
     ⊎_elim
-    (λ w. join_nothing a.a a.number a.q a.p (book_of a.rows.now) (length-map a.rows.now order_of) c.requires.ranked.ordered w.taken)
+    (λ w. join_nothing a.a a.number a.q a.p (book_of a.rows.now) (length-map a.rows.now order_of) c.requires.ranked.ordered w)
     (λ w.
     join_withdrawn a.a a.number a.q a.p (book_of a.rows.now) (length-map a.rows.now order_of) c.requires.ranked.ordered
-    w.0.left
-    (eqb-true a.p 0 w.1.taken))
-    c.then-q-eq0.branch
+    w.0
+    w.1)
+    c.then-q-eq0.either
 
 pub take_in-requires : goal.take_in-requires
 take_in-requires c =

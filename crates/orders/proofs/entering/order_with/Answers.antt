@@ -63,13 +63,13 @@ returns-then-lacks_places c =
 none : (i : Else-lacks_places) → 0 ≡ first_of (order_rules i.args.d i.args.a (book_of i.args.rows.now) (length i.args.trades.now))
 none i =
     let a = i.args in
-    order_none a.d a.a (book_of a.rows.now) (length a.trades.now) i.requires.rows_value (first (here i)) i.if-refusal-ne0.left
-    (sym i.lacks_places.ensures ∙ i.if-lacks_places.left)
+    order_none a.d a.a (book_of a.rows.now) (length a.trades.now) i.requires.rows_value (earlier_book a.d a.a (book_of a.rows.now) refl i.requires.a_value i.book_refusal-refusal.ensures) i.if-refusal-ne0.false
+    (sym i.lacks_places.ensures ∙ i.if-lacks_places.false)
 
 pub enter-requires : goal.enter-requires
 enter-requires c =
     let a = c.args in
-    record { taken = order_taken a.d a.a a.rows.now a.trades.now (none (goal.at.enter-requires c).Else-lacks_places) refl; phase_value = c.requires.1.1.0; own_value = c.requires.1.1.1.0; other_value = c.requires.1.1.1.1 }
+    record { taken = order_taken a.d a.a a.rows.now a.trades.now (none (goal.at.enter-requires c).Else-lacks_places) refl; phase_value = c.requires.phase_value; own_value = c.requires.own_value; other_value = c.requires.other_value }
 
 pub returns : goal.returns
 returns c =
