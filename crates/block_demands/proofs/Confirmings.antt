@@ -27,7 +27,6 @@ use Rattle.model.specs.BlockCalls.{declaring, block_trades, block_rules, block_e
 use Rattle.model.specs.AfterClose.{After, confirm_all, match_all, end_all}
 use Rattle.model.specs.AllCalls.{start_after, moved_on}
 use Rattle.model.specs.Words.{Each, Some}
-use Rattle.model.proofs.Evening.{due}
 use Rattle.model.proofs.Bools.{not_both}
 use Rattle.book.proofs.Lists.{each, keep_all}
 use Rattle.arrivals.proofs.Lines.{taken}
