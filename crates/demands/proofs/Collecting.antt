@@ -59,7 +59,7 @@ module _ (d : Day) (now : phase_now d ≡ 7) where
   collects =
       record {
         takes = continuous_takes d.time (now_halted d now);
-        no_trade_lem = no_trade_lem;
+        no_trade = no_trade_lem;
         limit_alone = λ a book lent e.
             order_cases d a book lent (λ o. o.answer.reply ≡ OrderReply.TheVariants.Accepted e → a.kind ≡ 0)
             (λ z _. limit_alone a book lent z)

@@ -157,7 +157,7 @@ module _ (d : Day) (a : Asked) (book : List Order) where
               rests = λ n. rest_limit d a book (rests_somewhere n);
               book_after = ap (arranged (length book)) (joined_rests (next_number d) (settle ts book));
             };
-        in_priority_lem = in_priority_lem;
+        in_priority = in_priority_lem;
       }
 
 -- what holds of every entry that no rule refuses holds of every accepted order

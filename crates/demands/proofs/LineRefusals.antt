@@ -230,7 +230,7 @@ pub line_refusals : LineRefusals
 line_refusals =
     record {
       malformed = λ l desk. (told_16 (line_command l) desk, λ h. (when_16 (line_command l) desk h).0);
-      no_day_lem = λ l desk. (told_17 (line_command l) desk, λ h. (when_17 (line_command l) desk h).0);
+      no_day = λ l desk. (told_17 (line_command l) desk, λ h. (when_17 (line_command l) desk h).0);
       stays = λ l desk.
           ⊎_elim (λ h. (when_16 (line_command l) desk (told_16 (line_command l) desk h)).1)
           (λ h. (when_17 (line_command l) desk (told_17 (line_command l) desk h)).1);

@@ -100,6 +100,7 @@ found :
     → Each (λ (s : Share). Allowed side x os s.number) ss
     → Among ss n
     → Allowed side x os n
+found side x os n [] e a = elim a [ ]
 found side x os n (s ∷ ss) e (inl a) = some_map (λ o h. (h.0 ∙ a, h.1)) os e.0
 found side x os n (s ∷ ss) e (inr a) = found side x os n ss e.1 a
 

@@ -55,7 +55,7 @@ pub record Accepted (d : Day) (a : Asked) (book : List Order) (lent : List Trade
   pub trades : o.trades ≡ written (entry_trades d a book) lent
   pub adds_up : AddsUp a e (entry_trades d a book)
   pub within_limit : WithinLimit a e (entry_trades d a book) book o.book
-  pub in_priority_lem : InPriority a book (entry_trades d a book)
+  pub in_priority : InPriority a book (entry_trades d a book)
 
 pub record Entering : Type 0 where
   pub accepted :

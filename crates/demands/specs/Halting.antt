@@ -156,7 +156,7 @@ pub record NoHalt (d : Day) : Type 0 where
 -- orders and cancels are taken, of orders those with a limit alone and without a range, and no order trades on entry
 pub record Collects (d : Day) : Type 0 where
   pub takes : (takes_orders d.time ≡ true) × (takes_cancels d.time ≡ true)
-  pub no_trade_lem : (a : Asked) (book : List Order) (lent : List Trade) → (order_call d a book lent).answer.made ≡ 0
+  pub no_trade : (a : Asked) (book : List Order) (lent : List Trade) → (order_call d a book lent).answer.made ≡ 0
   pub limit_alone :
       (a : Asked) (book : List Order) (lent : List Trade) (e : Entry)
       → (order_call d a book lent).answer.reply ≡ OrderReply.TheVariants.Accepted e

@@ -36,7 +36,7 @@ pub record LineRefusals : Type 0 where
   pub malformed :
       (l : Line) (desk : Option Desk) → ((answer_line l desk).text ≡ refusal_line 16) ↔ (line_command l ≡ Malformed)
   -- 17 exactly when the line asks for an event other than an opening and no day is open
-  pub no_day_lem :
+  pub no_day :
       (l : Line) (desk : Option Desk)
       → ((answer_line l desk).text ≡ refusal_line 17) ↔ (NeedsDay (line_command l) × (desk ≡ none))
   -- either leaves the desk as it is
