@@ -1,5 +1,5 @@
 -- What a chunk asks for fits what is lent; then the chunk's tail is carried over. Assumes nothing.
-use Rattle.std.proofs.Common.{arith, length-take, length-take-le}
+use Rattle.std.proofs.Common.{arith, sym, length-take, length-take-le}
 use Rattle.pack.proofs.LineByLine.{chunk_within}
 use Rattle.pack_script.proofs.Turns.{steps}
 use Rattle.pack_script.proofs.serving.serve.Goals as goal
@@ -18,6 +18,9 @@ slice_bounds-written-end g c =
     let w = chunk_within _ _ _ _ _ _ _ p.ensures (omega (arith, s, l)) (omega (arith, s, l)) in
     omega (arith, w.0, p.auto.out)
 
+pub slice_bounds-written-end-2 : goal.slice_bounds-written-end-2
+slice_bounds-written-end-2 g c = sym (length-take-le _ _ (slice_bounds-written-end g c))
+
 pub slice_bounds-written-end-3 : goal.slice_bounds-written-end-3
 slice_bounds-written-end-3 g c =
     let s = c.requires in
@@ -25,6 +28,9 @@ slice_bounds-written-end-3 g c =
     let p = c.pack_lines-p in
     let w = chunk_within _ _ _ _ _ _ _ p.ensures (omega (arith, s, l)) (omega (arith, s, l)) in
     omega (arith, w.1, p.auto.said)
+
+pub slice_bounds-written-end-4 : goal.slice_bounds-written-end-4
+slice_bounds-written-end-4 g c = sym (length-take-le _ _ (slice_bounds-written-end-3 g c))
 
 pub carry_over-c-requires : goal.carry_over-c-requires
 carry_over-c-requires g c =
