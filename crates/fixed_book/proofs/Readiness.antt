@@ -16,7 +16,7 @@ use Rattle.model.specs.Clock.{matching_from}
 use Rattle.model.specs.Book.{free, stands_on}
 use Rattle.model.specs.Arrival.{in_arrival}
 use Rattle.model.specs.Figures.{reference, close_price}
-use Rattle.model.specs.Sound.{has_places, may_stand, is_free, is_order_of, is_order, is_empty, between, fixed_fits, sound}
+use Rattle.model.specs.Sound.{has_places, may_stand, is_free, is_order_of, is_order, is_empty, between, fixed_fits}
 use Rattle.model.specs.FixedBook.{is_void}
 use Rattle.model.specs.SoundFixed.{one_sided, fixed_sums, sound_fixed}
 use Rattle.model.specs.Refusals.{unsound, unsound_fixed}

@@ -15,7 +15,7 @@ use Rattle.model.specs.Pairing.{pair}
 use Rattle.model.specs.FixedBook.{is_void, arrivals, matches}
 use Rattle.model.specs.Words.{Each}
 use Rattle.book.specs.Standing.{Fair}
-use Rattle.book.proofs.Lists.{both, each, each_keep, kept, keep_true, keep_false, keep_keep, keep_same, length_keep, total_keep, every}
+use Rattle.book.proofs.Lists.{both, each_keep, kept, keep_true, keep_false, keep_keep, keep_same, length_keep, total_keep, every}
 use Rattle.book.proofs.Sorting.{Distinct}
 use Rattle.book.proofs.Kept.{free_number}
 use Rattle.book.proofs.Queues.{on_live, queue_length}
@@ -23,7 +23,7 @@ use Rattle.book.proofs.Counting.{queues_fit}
 use Rattle.book.proofs.Parts.{not_here}
 use Rattle.soundness.proofs.Totals.{shares_within}
 use Rattle.pairing.proofs.Turns.{pairs, fewer_trades}
-use Rattle.arrivals.proofs.Lines.{taken, InLine, in_line, rising_distinct}
+use Rattle.arrivals.proofs.Lines.{InLine, in_line, rising_distinct}
 use Rattle.arrivals.proofs.Places.{kept_line}
 use Rattle.fixed_book.specs.Ready.{Lined}
 use Rattle.fixed_book.specs.Heads.{may_trade, brings, shares_from}

@@ -77,4 +77,5 @@ shape_of-trades c = c.loop-quantity.invariant.long
 pub returns : goal.returns
 returns c =
     let a = c.args in
-    underway_end a.close (book_of a.rows.now) a.trades.now c.loop-quantity.invariant c.loop-quantity-test.false
+    let end = underway_end a.close (book_of a.rows.now) a.trades.now c.loop-quantity.invariant c.loop-quantity-test.false in
+    record { value = end.0; trades_after = end.1 }

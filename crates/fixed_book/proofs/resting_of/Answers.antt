@@ -1,5 +1,4 @@
 -- Place by place: what is summed and what is left to sum make the whole, which is small enough.
-use Prim.Native.Nat.{◌-◌}
 use native.Mathlib.Omega.{arith}
 use Rattle.book.specs.Rows.{book_of}
 use Rattle.soundness.proofs.Totals.{sum_none, sum_small, sum_more, sum_all, shares_within}

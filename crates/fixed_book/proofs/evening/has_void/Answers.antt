@@ -1,5 +1,4 @@
 -- Whether one passes is told by those still to come.
-use Prim.Native.Nat.{◌-◌}
 use mathlib.Core.Path.{sym, ◌∙◌}
 use Rattle.model.specs.FixedBook.{is_void}
 use Rattle.fixed_book.proofs.Searching.{any_found, any_next, none_found}

@@ -1,5 +1,4 @@
 -- What is left of those passed, and what is still to come off those behind (`Taken`).
-use Prim.Native.Nat.{◌-◌}
 use native.Mathlib.Omega.{arith}
 use Rattle.fixed_book.proofs.Taking.{taken_start, void_small, taken_next, taken_end}
 use Rattle.fixed_book.proofs.leaving.take_off.Goals as goal
@@ -33,4 +32,5 @@ shape_of-rows c = c.loop-i.invariant.long
 
 pub returns : goal.returns
 returns c =
-    taken_end c.args.close c.args.shares c.args.rows.now c.loop-i.invariant c.loop-i-test.false
+    let end = taken_end c.args.close c.args.shares c.args.rows.now c.loop-i.invariant c.loop-i-test.false in
+    record { value = end.0; rows_after = end.1 }

@@ -1,5 +1,4 @@
 -- Those looked at so far stand first, with free places behind them (`Closing`).
-use Prim.Native.Nat.{◌-◌}
 use mathlib.Core.Path.{◌≡◌, sym, ap, ◌∙◌}
 use native.Mathlib.Omega.{arith}
 use lib.ListN.{length, length-map}

@@ -1,5 +1,4 @@
 -- All places passed so far have an order.
-use Prim.Native.Nat.{◌-◌}
 use mathlib.Core.Path.{sym, ◌∙◌}
 use borrow.Author.Tests.{not-true, not-false}
 use Rattle.fixed_book.proofs.Counting.{counted_next, counted_free, counted_all}

@@ -1,5 +1,4 @@
 -- Those passed so far are in order of arrival; the rest is still to be told. Assumes nothing.
-use Prim.Native.Nat.{◌-◌}
 use native.Mathlib.Omega.{arith}
 use borrow.Author.Tests.{not-true, not-false}
 use Rattle.fixed_book.proofs.Searching.{arrived_start, arrived_not, arrived_next, arrived_all}

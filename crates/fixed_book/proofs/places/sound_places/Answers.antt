@@ -1,5 +1,4 @@
 -- Whether all are sound is told by those still to come.
-use Prim.Native.Nat.{◌-◌}
 use mathlib.Core.Path.{sym, ◌∙◌}
 use mathlib.Core.Bool.{◌||◌}
 use borrow.Author.Tests.{not-true, not-false}

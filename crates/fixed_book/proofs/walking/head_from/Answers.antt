@@ -1,5 +1,4 @@
 -- Nobody passed so far may trade.
-use Prim.Native.Nat.{◌-◌}
 use mathlib.Core.Path.{sym, ◌∙◌}
 use Rattle.fixed_book.proofs.Heads.{sought_none, sought_next, sought_found, sought_all}
 use Rattle.fixed_book.proofs.walking.head_from.Goals as goal
