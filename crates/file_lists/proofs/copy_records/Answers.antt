@@ -1,5 +1,4 @@
 -- `file_lists::copy_records` meets its contract: the invariant is `Copying`. Assumes nothing.
-use Prim.Native.Nat.{◌-◌}
 use mathlib.Core.Path.{refl}
 use Rattle.file_lists.proofs.Copying.{copying_start, copying_next, copying_end}
 use Rattle.file_lists.proofs.copy_records.Goals as goal

@@ -5,9 +5,9 @@ use Rattle.file_lists.proofs.list_records.Goals as goal
 pub copy_records-requires : goal.copy_records-requires
 copy_records-requires c =
     let a = c.args in
-    written_inside a.file.now a.list.now (λ i. (c.shared_slice_known-1.given i).fits) c.count_records-found.ensures c.fitting_records-count.ensures
+    written_inside a.file.now a.list.now (λ i. (c.type_inv.file i).fits) c.count_records-found.ensures c.fitting_records-count.ensures
 
 pub returns : goal.returns
 returns c =
     let a = c.args in
-    (c.count_records-found.ensures, list_written a.file.now a.list.now (λ i. (c.shared_slice_known-1.given i).fits) c.count_records-found.ensures c.fitting_records-count.ensures c.copy_records.ensures)
+    (c.count_records-found.ensures, list_written a.file.now a.list.now (λ i. (c.type_inv.file i).fits) c.count_records-found.ensures c.fitting_records-count.ensures c.copy_records.ensures)
