@@ -108,6 +108,7 @@ digits_bare k n h = go (leb 1 n) refl
 pub digits_few : (m k n : ℕ) → 1 ≤ k → n < 10 ^ k → length (digits m n) ≤ k
 unfolding digits
 digits_few zero k n l h = omega arith
+digits_few (suc m) zero n l h = absurd (omega arith)
 digits_few (suc m) (suc zero) n l h = rw (lt-ltb n 10 h) (omega arith)
 digits_few (suc m) (suc (suc k)) n l h = go (ltb n 10) (digits_few m (suc k) (n / 10) (omega arith) (tenth (suc k) n h))
   where
