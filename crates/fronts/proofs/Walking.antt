@@ -174,9 +174,9 @@ rules_passed whole (suc blocks) place rest e =
         → first_of (rules_from whole (suc blocks) place rest)
         ≡ first_of (rules_from whole 0 (place + suc blocks) (drop (512 * suc blocks) rest))
     go true s more =
-        let f = eqb-true _ 0 s in
         let p : place + suc blocks ≡ suc place + blocks = omega arith in
         let d : 512 * suc blocks ≡ 512 + 512 * blocks = omega arith in
+        let f = eqb-true _ 0 s in
         rw (p, d, ← drop-drop (512 * blocks) 512 rest) (block_passed whole blocks place rest f ∙ more f)
     go false s more =
         let f = eqb-false _ 0 s in absurd (f (sym (refusal_stop whole blocks place rest f) ∙ e))

@@ -1,5 +1,4 @@
 -- `fronts::look` meets its contract. Assumes nothing.
-use Prim.Native.Nat.{◌-◌}
 use mathlib.Core.Path.{refl, sym, ◌∙◌}
 use native.Mathlib.Omega.{arith}
 use Rattle.fronts.proofs.Looks.{looking_start, looking_end, looking_count, looking_pass, looking_refused}
