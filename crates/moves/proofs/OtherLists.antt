@@ -1,6 +1,6 @@
 -- The main book's move leaves the figures of the other lists, so what is published after it are numbers of 64 bits. Assumes nothing.
 use Prim.Native.Nat.{ℕ, ◌+◌, ◌*◌, ◌^◌, ◌≤◌, ◌<◌}
-use mathlib.Core.Path.{◌≡◌, refl, ◌∙◌}
+use mathlib.Core.Path.{◌≡◌, refl}
 use mathlib.Core.List.{List}
 use native.Mathlib.Omega.{arith}
 use Rattle.model.specs.declared.Order.{Order}
@@ -8,7 +8,7 @@ use Rattle.model.specs.declared.Day.{Day}
 use Rattle.model.specs.Clock.{passed}
 use Rattle.model.specs.Figures.{at, tally}
 use Rattle.model.specs.Halts.{halting, resumed}
-use Rattle.model.specs.ClockCall.{auction_trades, Held, auction, resume, lapse, pass, start, moved}
+use Rattle.model.specs.ClockCall.{Held, auction, resume, lapse, pass, start, moved}
 use Rattle.model.proofs.Seconds.{pass_cases, through_keeps}
 use Rattle.figures.specs.Figures.{Publishable}
 use Rattle.halts.proofs.Kept.{resume_cases}

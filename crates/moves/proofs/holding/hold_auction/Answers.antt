@@ -21,7 +21,7 @@ pub auction_trades-dealt-requires : goal.auction_trades-dealt-requires
 auction_trades-dealt-requires c = in_order (goal.at.auction_trades-dealt-requires c).Start
 
 pub settle_auction-requires : goal.settle_auction-requires
-settle_auction-requires c = in_order (began (goal.at.settle_auction-requires c).After-auction_trades-dealt)
+settle_auction-requires c = in_order (goal.at.settle_auction-requires c).Start
 
 pub tally_trades-requires : goal.tally_trades-requires
 tally_trades-requires c = let rest = held_fits c.args.d c.args.rows.now c.args.trades.now c.requires.rows_in_bounds (made (goal.at.tally_trades-requires c).After-auction_trades-dealt) c.auction_trades-dealt.ensures.trades_after c.auction_trades-dealt.auto.trades

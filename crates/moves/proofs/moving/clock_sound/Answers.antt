@@ -9,7 +9,7 @@ use Rattle.book.specs.Rows.{book_of}
 use Rattle.book.specs.Promises.{call_left}
 use Rattle.soundness.proofs.Readiness.{ready_if}
 use Rattle.moves.proofs.ClockLaws.{clock_late, clock_back, clock_list, clock_none, move_fits, clock_refused_lem, row_then, left_ranked, left_publishable, clock_accepted}
-use borrow.Author.Tests.{eqb-false, ltb-false}
+use borrow.Author.Tests.{eqb-false, ltb-false, lt-ltb}
 use Rattle.moves.proofs.moving.clock_sound.Goals as goal
 use Rattle.moves.proofs.moving.clock_sound.Goals.{Else-lacks_places, Joined-then-time-gt-LAST_SECOND}
 
@@ -17,9 +17,9 @@ use Rattle.moves.proofs.moving.clock_sound.Goals.{Else-lacks_places, Joined-then
 untimely : (c : Joined-then-time-gt-LAST_SECOND) → 1 ≡ first_of (clock_rules c.args.d c.args.time (book_of c.args.rows.now) (length c.args.trades.now))
 untimely c =
     let a = c.args in
-    ⊎_elim (λ w. clock_late a.d a.time (book_of a.rows.now) (length a.trades.now) c.requires w.taken)
-    (λ w. clock_back a.d a.time (book_of a.rows.now) (length a.trades.now) c.requires w.0.left w.2.taken)
-    c.then-time-gt-LAST_SECOND.branch
+    ⊎_elim (λ w. clock_late a.d a.time (book_of a.rows.now) (length a.trades.now) c.requires w)
+    (λ w. clock_back a.d a.time (book_of a.rows.now) (length a.trades.now) c.requires w.0 (lt-ltb a.time a.d.time w.1))
+    c.then-time-gt-LAST_SECOND.either
 
 pub returns-then-time-gt-LAST_SECOND : goal.returns-then-time-gt-LAST_SECOND
 returns-then-time-gt-LAST_SECOND c =

@@ -1,6 +1,6 @@
 -- `moves::moving::pass_stops` meets its contract: at each turn memory holds the state that the definitions reach at the second `from`, and
 -- nothing is due up to the next stop. Assumes nothing.
-use Prim.Native.Nat.{◌-◌, ◌≤◌, ◌<◌}
+use Prim.Native.Nat.{◌≤◌, ◌<◌}
 use mathlib.Core.Path.{◌≡◌, refl, ◌∙◌}
 use mathlib.Core.Bool.{true}
 use native.Mathlib.Omega.{arith}
@@ -22,7 +22,7 @@ found :
     × (is_stop i.loop-stop.p.day.halt i.loop-stop.stop ≡ true)
 found i =
     let v = i.loop-stop.invariant in
-    stop_ahead i.args.d i.args.rows.now i.args.trades.now i.loop-stop.from v.1.1.1.1.1 i.args.time v.0 v.1.1.1.1.0 i.loop-stop-test.taken
+    stop_ahead i.args.d i.args.rows.now i.args.trades.now i.loop-stop.from v.1.1.1.1.1 i.args.time v.0 v.1.1.1.1.0 i.loop-stop-test.true
 
 pub pass_next-p-requires : goal.pass_next-p-requires
 pass_next-p-requires c =

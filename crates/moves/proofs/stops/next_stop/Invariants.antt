@@ -1,6 +1,6 @@
 -- `moves::stops::next_stop` meets its contract: at each turn the next stop so far is the first of those from `at` on, and the end of a halt
 -- comes to them last. That the code's table is the definition's is seen by computation. Assumes nothing.
-use Prim.Native.Nat.{◌-◌, ◌≤◌}
+use Prim.Native.Nat.{◌≤◌}
 use mathlib.Core.Path.{◌≡◌}
 use lib.ListN.{drop}
 use Rattle.moves.specs.Stops.{first_passed}
