@@ -1,5 +1,5 @@
 -- What is told fits its room. Assumes nothing.
-use Rattle.std.proofs.Common.{arith, ◌+◌}
+use Rattle.std.proofs.Common.{arith, sym, ◌+◌, length-take-le}
 use Rattle.printing.proofs.Printed.{put_long}
 use Rattle.unpack.proofs.Put.{refused_short}
 use Rattle.unpack_file.proofs.serving.show.Goals as goal
@@ -9,3 +9,13 @@ slice_bounds-said-end g c =
     let a = c.args in
     let w = c.put_refused-told.ensures in
     omega (arith, w.place, put_long w, refused_short a.done.refusal (a.passed + a.done.good + 1), c.note-said.ensures, c.requires)
+
+pub slice_bounds-written-end-2 : goal.slice_bounds-written-end-2
+slice_bounds-written-end-2 g c =
+    let a = c.args in
+    let t = c.put_refused-told in
+    let w = t.ensures in
+    sym
+    (length-take-le t.result t.new.said
+    (omega
+    (arith, w.place, put_long w, refused_short a.done.refusal (a.passed + a.done.good + 1), c.note-said.ensures, c.requires)))
