@@ -6,7 +6,7 @@ use mathlib.Core.Logic.{⊎_elim}
 use mathlib.Core.Bool.{Bool, true, false}
 use mathlib.Core.List.{List, [], ◌∷◌, ◌++◌}
 use native.Mathlib.Omega.{arith}
-use lib.ListN.{length, get_or}
+use lib.ListN.{get_or}
 use lib.Dec.{eqb}
 use borrow.Author.Tests.{ne_eqb, eqb-true, eqb-false}
 use Rattle.model.specs.declared.Order.{Order}
@@ -22,10 +22,9 @@ use Rattle.model.specs.ClockCall.{auction_trades, Held, auction, resume, lapse, 
 use Rattle.model.proofs.Seconds.{pass_cases, through_keeps}
 use Rattle.book.specs.declared.Dealt.{Dealt}
 use Rattle.book.specs.Deals.{dealt}
-use Rattle.book.specs.Standing.{Standing, Ranked}
+use Rattle.book.specs.Standing.{Ranked}
 use Rattle.halts.proofs.Kept.{resume_cases}
 use Rattle.pairing.proofs.Auctions.{Traded, auction_cases}
-use Rattle.soundness.specs.Ready.{Ready}
 use Rattle.moves.specs.Stops.{next_stop}
 use Rattle.moves.proofs.AuctionHeld.{price_found}
 use Rattle.moves.proofs.Stopping.{moved_none, moved_trades}
