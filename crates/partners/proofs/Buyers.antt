@@ -13,7 +13,7 @@ use Rattle.model.specs.Lists.{keep, any}
 use Rattle.model.specs.Book.{other}
 use Rattle.model.specs.Arrival.{is_taken}
 use Rattle.model.specs.Matching.{is_in}
-use Rattle.model.specs.Blocks.{undeclared, is_held, fits, confirmation, unnamed, in_turn, confirmations}
+use Rattle.model.specs.Blocks.{undeclared, is_held, fits, confirmation, unnamed, in_turn}
 use Rattle.model.specs.Words.{Each}
 use Rattle.model.proofs.Bools.{and_left, and_right, and_both, not_both}
 use Rattle.book.proofs.Lists.{each, both, each_keep, kept}

@@ -9,12 +9,12 @@ use Rattle.partners.proofs.find_with.Goals as goal
 pub slice_bounds-pair_up-end-2 : goal.slice_bounds-pair_up-end-2
 slice_bounds-pair_up-end-2 c =
     let g = c.gather_sorted-buying in
-    sym (length-take-le _ g.new.1.1.0 (omega (arith, g.ensures.0, g.auto.1.1.0)))
+    sym (length-take-le _ g.new.places (omega (arith, g.ensures.upper_bound, g.auto.places)))
 
 pub slice_bounds-pair_up-end-4 : goal.slice_bounds-pair_up-end-4
 slice_bounds-pair_up-end-4 c =
     let g = c.gather_sorted-selling in
-    sym (length-take-le _ g.new.1.1.0 (omega (arith, g.ensures.0, g.auto.1.1.0)))
+    sym (length-take-le _ g.new.places (omega (arith, g.ensures.upper_bound, g.auto.places)))
 
 pub pair_up-requires : goal.pair_up-requires
 pair_up-requires c =

@@ -1,12 +1,12 @@
 -- `partners::gather` meets its contract: place by place, what is gathered and what is left stay the whole. Assumes nothing.
-use Prim.Native.Nat.{◌-◌, ◌<◌}
-use mathlib.Core.Logic.{⊎_elim}
+use Prim.Native.Nat.{◌<◌}
 use native.Mathlib.Omega.{arith}
 use lib.ListN.{length, length-map}
 use Rattle.book.specs.Rows.{declaration_of}
 use Rattle.partners.proofs.Gathering.{gathering_start, gathering_on, gathering_off, gathering_end}
 use borrow.Author.Rules.{rules}
 use Rattle.partners.proofs.gather.Goals as goal
+use Rattle.partners.proofs.gather.Goals.{then-is_on, else-is_on}
 
 pub loop-i-init : goal.loop-i-init
 loop-i-init c = gathering_start _ c.args.rows.now _
@@ -30,10 +30,12 @@ pub loop-i-preserved : goal.loop-i-preserved
 loop-i-preserved c =
     let l = c.loop-i in
     let h = c.loop-i-test.true in
-    ⊎_elim
-    (λ w. gathering_on _ c.args.rows.now _ _ _ _ l.invariant h c.declaration_at-x.ensures c.is_on.ensures c.requires w.0.taken w.1 w.2)
-    (λ w. gathering_off _ c.args.rows.now _ _ _ _ l.invariant h c.declaration_at-x.ensures c.is_on.ensures w.0.left w.1 w.2)
-    c.if-is_on.branch
+    elim c.if-is_on.branch [
+      | then-is_on w ↦
+          gathering_on _ c.args.rows.now _ _ _ _ l.invariant h c.declaration_at-x.ensures c.is_on.ensures c.requires w.if-is_on.true w.places-is w.count-is
+      | else-is_on w ↦
+          gathering_off _ c.args.rows.now _ _ _ _ l.invariant h c.declaration_at-x.ensures c.is_on.ensures w.if-is_on.false w.places-is w.count-is
+    ]
 
 pub shape_of-places : goal.shape_of-places
 shape_of-places c = c.loop-i.invariant.long

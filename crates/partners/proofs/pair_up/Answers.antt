@@ -1,5 +1,5 @@
 -- `partners::pair_up` meets its contract: head by head the trades so far and those of the rest stay the whole. Assumes nothing.
-use Prim.Native.Nat.{◌-◌, ◌<◌}
+use Prim.Native.Nat.{◌<◌}
 use lib.ListN.{length, get_or}
 use Rattle.partners.proofs.Meeting.{met_buyers, met_sellers, met_early_buyer, met_early_seller, met_two, walk_start, walk_long, walk_length, walk_places}
 use borrow.Author.Rules.{rules}
