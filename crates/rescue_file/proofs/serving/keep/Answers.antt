@@ -1,5 +1,5 @@
 -- No more blocks are good than were looked at; then what is behind them goes to the buffer's front. Assumes nothing.
-use Rattle.std.proofs.Common.{arith, length-take-le}
+use Rattle.std.proofs.Common.{arith, sym, length-take-le}
 use Rattle.rescue_file.proofs.Turns.{seen_few, keeps}
 use Rattle.rescue_file.proofs.serving.keep.Goals as goal
 
@@ -22,6 +22,9 @@ slice_bounds-written-end g c =
     let k = c.look-seen in
     let few = seen_few c.args.buf.now c.args.buf.now c.args.n _ _ c.args.h k.result s.0 s.2 k.ensures in
     omega (arith, s, few)
+
+pub slice_bounds-written-end-2 : goal.slice_bounds-written-end-2
+slice_bounds-written-end-2 g c = sym (length-take-le _ _ (slice_bounds-written-end g c))
 
 pub to_front-requires : goal.to_front-requires
 to_front-requires g c =
