@@ -1,7 +1,7 @@
 -- What is promised of the judge, all of it (judging); a yes fixes every order's fills, and stays within what the orders have. Assumes nothing.
 use Prim.Native.Nat.{ℕ, ◌≤◌}
 use mathlib.Core.Path.{◌≡◌, refl, sym, ◌∙◌}
-use mathlib.Core.Logic.{inl, inr, ⊎_elim}
+use mathlib.Core.Logic.{⊎_elim}
 use mathlib.Core.Bool.{true}
 use mathlib.Core.List.{List}
 use native.Mathlib.Omega.{arith}
@@ -13,7 +13,7 @@ use Rattle.model.specs.Pairing.{cut}
 use Rattle.model.specs.Words.{Each, granted}
 use Rattle.book.specs.Rows.{book_of}
 use Rattle.book.specs.Standing.{Fair, Standing}
-use Rattle.book.proofs.Lists.{each, both}
+use Rattle.book.proofs.Lists.{both}
 use Rattle.book.proofs.Queues.{live_number, on_side, place_of}
 use Rattle.book.proofs.Best.{each_on}
 use Rattle.book.proofs.Numbers.{queue_own}
