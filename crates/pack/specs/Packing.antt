@@ -1,6 +1,6 @@
 -- A script packed: the day file of what is stored, and what is told. And a file that grows event by event: the blocks that are
 -- full, and the events that wait for theirs to fill.
-use Rattle.std.specs.Prelude.{ℕ, suc, ◌+◌, ◌*◌, ◌/◌, ◌%◌, List, [], ◌∷◌, ◌++◌, length, drop, eqb, if◌then◌else◌}
+use Rattle.std.specs.Prelude.{ℕ, suc, ◌*◌, ◌/◌, ◌%◌, List, [], ◌∷◌, ◌++◌, length, drop, eqb, if◌then◌else◌}
 use Prim.Native.Char.{code}
 use Rattle.model.specs.declared.Event.{Event}
 use Rattle.model.specs.Lines.{reply}

@@ -1,6 +1,5 @@
 -- `pack::lines::pack_lines` meets its contract. Assumes nothing.
 -- ---- the way back: from a line to its turn
-use Prim.Native.Nat.{◌-◌}
 use mathlib.Core.Path.{◌≡◌, refl, sym, ◌∙◌}
 use Rattle.text.specs.declared.NextCommand as NextCommand
 use Rattle.text.specs.Chunks.{next_command}
