@@ -1,5 +1,4 @@
 -- `unpack::put_records` meets its contract. Assumes nothing.
-use Prim.Native.Nat.{◌-◌}
 use native.Mathlib.Omega.{arith}
 use Rattle.unpack.proofs.Put.{listing_start, listing_next, listing_end}
 use Rattle.unpack.proofs.put_records.Goals as goal

@@ -1,5 +1,4 @@
 -- `unpack::unpack_blocks` meets its contract. Assumes nothing.
-use Prim.Native.Nat.{◌-◌}
 use mathlib.Core.Path.{refl, sym, ◌∙◌}
 use native.Mathlib.Omega.{arith}
 use Rattle.unpack.proofs.Put.{going_start, going_end, going_refused, going_count, going_long, going_pass}
