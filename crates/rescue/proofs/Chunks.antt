@@ -61,7 +61,7 @@ module _ (behind records : ℕ) (b more : List ℕ) where
 
 listed_file : (behind records : ℕ) (rest : List ℕ) → (listed behind records rest).file ≡ []
 unfolding listed
-listed_file behind records rest = refl
+listed_file passed records rest = refl
 
 pub listed_are :
     (bs : List (List ℕ)) (behind records : ℕ) (kept : List ℕ) → listed_chunks behind records kept bs ≡ listed behind records (kept ++ flatten bs)

@@ -1,5 +1,4 @@
 -- `rescue::list_blocks` meets its contract. Assumes nothing.
-use Prim.Native.Nat.{◌-◌}
 use mathlib.Core.Path.{refl}
 use native.Mathlib.Omega.{arith}
 use Rattle.rescue.proofs.Listing.{going_start, going_next, going_end, part_long}
