@@ -1,5 +1,4 @@
 -- The prices put so far are the run's front. Assumes nothing.
-use Prim.Native.Nat.{◌-◌}
 use mathlib.Core.Path.{◌≡◌}
 use native.Mathlib.Omega.{arith}
 use Rattle.printing.proofs.Printed.{put_long}

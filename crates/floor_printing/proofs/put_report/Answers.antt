@@ -1,4 +1,5 @@
 -- A refusal, or the auction's figures. Assumes nothing.
+use borrow.Author.Rules.{rules}
 use mir.Syntax.{w64}
 use mir.ValLaws.{to_z-of_z}
 use Rattle.printing.proofs.Printed.{put_as}
@@ -10,4 +11,4 @@ returns-in-Refused c = put_as (refused_report c.in-Refused.is) c.put_refusal.ens
 
 pub returns-in-Priced : goal.returns-in-Priced
 returns-in-Priced c =
-    put_as (priced_report c.in-Priced.is (to_z-of_z w64 _ (record { sfits = c.known_told-in-Priced-1.given.1.1.0.1 }))) c.put_priced.ensures
+    put_as (priced_report c.in-Priced.is (to_z-of_z w64 _ (search rules))) c.put_priced.ensures
