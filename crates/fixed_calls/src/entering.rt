@@ -78,7 +78,7 @@ fn rest_of(left: u64) -> Remainder
 fn entry_of(d: Day, a: AskedFixed, made: usize, shares: u64) -> Entry
     requires issued_bound { d.fixed.issued + 1 < 2 ^ 64 }
     requires shares_le_quantity { shares ≤ a.quantity }
-    requires fact { a.price ≡ 0 → ⊥ }
+    requires priced { a.price ≡ 0 → ⊥ }
     ensures { result ≡ entry_of d a made shares }
 {
     let fixed = d.fixed;

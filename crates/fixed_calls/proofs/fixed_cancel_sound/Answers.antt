@@ -1,7 +1,7 @@
 -- Refused, or the one order is taken out and those behind it move up.
 use mathlib.Core.Path.{◌≡◌, refl, sym, ◌∙◌}
 use mathlib.Core.Bool.{true}
-use borrow.Author.Tests.{eqb-false, not-true, not-false}
+use borrow.Author.Tests.{eqb-false}
 use Rattle.model.specs.Clock.{long_hours}
 use Rattle.book.specs.Rows.{book_of}
 use Rattle.fixed_calls.proofs.Cancels.{shut, unknown, cancel_refused_lem, cancelled, leaves_tidy}
@@ -12,12 +12,12 @@ pub returns-then-not-long_hours : goal.returns-then-not-long_hours
 returns-then-not-long_hours c main u =
     let a = c.args in
     cancel_refused_lem a.d a.account a.number main a.rows.now
-    (shut a.d a.account a.number main a.rows.now u c.requires.sound (sym c.long_hours.ensures ∙ not-true _ c.if-not-long_hours.true-raw))
+    (shut a.d a.account a.number main a.rows.now u c.requires.sound (sym c.long_hours.ensures ∙ c.if-not-long_hours.true))
     (eqb-false 19 0 refl)
 
 -- past the first test the hours are open
 open-hours : (c : Else-not-long_hours) → long_hours c.args.d.time ≡ true
-open-hours c = sym c.long_hours.ensures ∙ not-false _ c.if-not-long_hours.false-raw
+open-hours c = sym c.long_hours.ensures ∙ c.if-not-long_hours.false
 
 pub returns-then-rows-place : goal.returns-then-rows-place
 returns-then-rows-place c main u =

@@ -2,7 +2,6 @@
 -- past a test, what it tested has passed
 use mathlib.Core.Path.{◌≡◌, sym, ◌∙◌}
 use mathlib.Core.Bool.{true}
-use borrow.Author.Tests.{not-true, not-false}
 use Rattle.model.specs.Clock.{long_hours}
 use Rattle.model.specs.Limits.{is_price, is_quantity}
 use Rattle.fixed_calls.proofs.AskedRules.{no_side, no_account, shut, no_quantity, no_price, outside_band, misses, none_asked}
@@ -18,29 +17,29 @@ returns-then-a-eq0 c =
 
 pub returns-then-not-long_hours : goal.returns-then-not-long_hours
 returns-then-not-long_hours c =
-    shut c.args.d c.args.a c.if-a-gt1.false c.if-a-eq0.false (sym c.long_hours.ensures ∙ not-true _ c.if-not-long_hours.true-raw)
+    shut c.args.d c.args.a c.if-a-gt1.false c.if-a-eq0.false (sym c.long_hours.ensures ∙ c.if-not-long_hours.true)
 
 open-hours : (c : Else-not-long_hours) → long_hours c.args.d.time ≡ true
-open-hours c = sym c.long_hours.ensures ∙ not-false _ c.if-not-long_hours.false-raw
+open-hours c = sym c.long_hours.ensures ∙ c.if-not-long_hours.false
 
 quantity :
     (c : Else-not-is_quantity)
     → let a = c.args.a in
     is_quantity a.side a.quantity a.balance ≡ true
-quantity c = sym c.is_quantity.ensures ∙ not-false _ c.if-not-is_quantity.false-raw
+quantity c = sym c.is_quantity.ensures ∙ c.if-not-is_quantity.false
 
 price : (c : Else-not-is_price) → is_price c.args.a.price ≡ true
-price c = sym c.is_price.ensures ∙ not-false _ c.if-not-is_price.false-raw
+price c = sym c.is_price.ensures ∙ c.if-not-is_price.false
 
 pub returns-then-not-is_quantity : goal.returns-then-not-is_quantity
 returns-then-not-is_quantity c =
     no_quantity c.args.d c.args.a c.if-a-gt1.false c.if-a-eq0.false (open-hours (goal.at.returns-then-not-is_quantity c).Else-not-long_hours)
-    (sym c.is_quantity.ensures ∙ not-true _ c.if-not-is_quantity.true-raw)
+    (sym c.is_quantity.ensures ∙ c.if-not-is_quantity.true)
 
 pub returns-then-not-is_price : goal.returns-then-not-is_price
 returns-then-not-is_price c =
     no_price c.args.d c.args.a c.if-a-gt1.false c.if-a-eq0.false (open-hours (goal.at.returns-then-not-is_price c).Else-not-long_hours) (quantity (goal.at.returns-then-not-is_price c).Else-not-is_quantity)
-    (sym c.is_price.ensures ∙ not-true _ c.if-not-is_price.true-raw)
+    (sym c.is_price.ensures ∙ c.if-not-is_price.true)
 
 pub out_of_band-requires : goal.out_of_band-requires
 out_of_band-requires c =

@@ -9,7 +9,7 @@ put_order-requires c =
 
 pub entry_of-entry-requires : goal.entry_of-entry-requires
 entry_of-entry-requires c =
-    let a = c.args in record { issued_bound = number_fits a.d a.a a.rows.now a.place c.requires.welcome; shares_le_quantity = omega arith; fact = priced a.d a.a a.rows.now a.place c.requires.welcome }
+    let a = c.args in record { issued_bound = number_fits a.d a.a a.rows.now a.place c.requires.welcome; shares_le_quantity = omega arith; priced = priced a.d a.a a.rows.now a.place c.requires.welcome }
 
 pub returns : goal.returns
 returns c =

@@ -1,5 +1,4 @@
 -- The line with the order behind it matches at the close; or its trades outnumber the list, and it leaves again.
-use mathlib.Core.Path.{◌∙◌}
 use native.Mathlib.Omega.{arith}
 use Rattle.fixed_calls.proofs.Entered.{inside, number_fits, priced, put_long, lined_then, fills, figures_fit_lem, leaves_again, matched_entry}
 use Rattle.fixed_calls.proofs.Entries.{shares_dealt}
@@ -49,7 +48,7 @@ entry_of-entry-requires c =
       issued_bound = number_fits a.d a.a a.rows.now a.place c.requires.welcome;
       shares_le_quantity = fills a.d a.a a.rows.now a.place c.requires.welcome c.incoming_order.ensures c.put_order.ensures
           c.requires.le_time c.reference_of-close.ensures c.deal_at_close-dealt.ensures.value;
-      fact = priced a.d a.a a.rows.now a.place c.requires.welcome;
+      priced = priced a.d a.a a.rows.now a.place c.requires.welcome;
     }
 
 pub issued_fixed-requires : goal.issued_fixed-requires
@@ -59,12 +58,9 @@ issued_fixed-requires c =
 pub tally_fixed-next-requires : goal.tally_fixed-next-requires
 tally_fixed-next-requires c =
     let a = c.args in
-    figures_fit_lem a.d a.a a.rows.now a.place c.requires.welcome c.incoming_order.ensures c.put_order.ensures
-    c.requires.le_time c.reference_of-close.ensures c.deal_at_close-dealt.ensures.value c.issued_fixed.ensures
-
-pub shape_of-rows : goal.shape_of-rows
-shape_of-rows c =
-    c.settle_at_close.auto.rows ∙ c.put_order.auto.rows
+    let f = figures_fit_lem a.d a.a a.rows.now a.place c.requires.welcome c.incoming_order.ensures c.put_order.ensures
+    c.requires.le_time c.reference_of-close.ensures c.deal_at_close-dealt.ensures.value c.issued_fixed.ensures in
+    record { shares_bound = f.0; shares_bound_2 = f.1 }
 
 pub returns : goal.returns
 returns c =
