@@ -4,8 +4,10 @@ use Rattle.evenings.proofs.counting.confirmed_ahead.Goals as goal
 
 pub returns-then-not-passes : goal.returns-then-not-passes
 returns-then-not-passes c =
-    none_ahead c.args.old c.args.new _ c.requires c.passes.ensures c.if-not-passes.true-raw
+    let none = none_ahead c.args.old c.args.new _ c.requires c.passes.ensures c.if-not-passes.true-raw in
+    record { value = none.0; upper_bound = none.1 }
 
 pub returns : goal.returns
 returns c =
-    some_ahead c.args.old c.args.new _ c.requires c.passes.ensures c.if-not-passes.false-raw c.count_confirmed.ensures
+    let some = some_ahead c.args.old c.args.new _ c.requires c.passes.ensures c.if-not-passes.false-raw c.count_confirmed.ensures in
+    record { value = some.0; upper_bound = some.1 }

@@ -3,7 +3,7 @@ use mathlib.Core.Path.{◌≡◌, refl, sym, ap, ◌∙◌}
 use mathlib.Core.Logic.{⊎_elim}
 use mathlib.Core.Bool.{false}
 use lib.ListN.{length}
-use borrow.Author.Tests.{eqb-false, ltb-false}
+use borrow.Author.Tests.{eqb-false, lt-ltb, ltb-false}
 use Rattle.model.specs.declared.MoveAnswer.{MoveAnswer}
 use Rattle.model.specs.Refusals.{first_of, unsound_books}
 use Rattle.model.specs.AllCalls.{clock_all_rules}
@@ -27,9 +27,10 @@ untimely : (c : Joined-then-time-gt-LAST_SECOND) → 1 ≡ first_of (clock_all_r
 untimely c =
     let a = c.args in
     let lists = books_of a.main.now a.fixed.now a.blocks.now in
-    ⊎_elim (λ w. move_late a.d a.time lists (length a.trades.now) (sound c.before) w.taken)
-    (λ w. move_back a.d a.time lists (length a.trades.now) (sound c.before) w.0.left w.2.taken)
-    c.then-time-gt-LAST_SECOND.branch
+    let sound = books_sound a.d a.time lists 0 c.requires.main_value c.requires.fixed_value c.requires.blocks_value in
+    ⊎_elim (λ w. move_late a.d a.time lists (length a.trades.now) sound w)
+    (λ w. move_back a.d a.time lists (length a.trades.now) sound w.0 (lt-ltb _ _ w.1))
+    c.then-time-gt-LAST_SECOND.either
 
 movable : (timely : Else-time-d) → Movable timely.args.d (book_of timely.args.main.now) (book_of timely.args.fixed.now) (held_of timely.args.blocks.now) timely.args.time
 movable timely =
@@ -38,8 +39,8 @@ movable timely =
       ready = ready_if a.d (book_of a.main.now) timely.requires.main_value;
       lined = (fixed_ready a.d (book_of a.main.now) (book_of a.fixed.now) timely.requires.main_value timely.requires.fixed_value).lined;
       declared = (blocks_ready a.d (book_of a.main.now) (held_of a.blocks.now) timely.requires.main_value timely.requires.blocks_value).declared;
-      onward = ltb-false a.time a.d.time timely.if-time-d.left;
-      time = timely.if-time-gt-LAST_SECOND.left;
+      onward = timely.if-time-d.false;
+      time = timely.if-time-gt-LAST_SECOND.false;
     }
 
 pub returns-then-time-gt-LAST_SECOND : goal.returns-then-time-gt-LAST_SECOND

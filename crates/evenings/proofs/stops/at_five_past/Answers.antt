@@ -20,7 +20,8 @@ settle_at_close-void-requires c =
 
 pub tally_fixed-then-requires : goal.tally_fixed-then-requires
 tally_fixed-then-requires c =
-    fixed_room c.args.e.day c.reference_of-close.ensures _ c.requires.lined c.requires.spacious c.deal_at_close-dealt.ensures.value
+    let room = fixed_room c.args.e.day c.reference_of-close.ensures _ c.requires.lined c.requires.spacious c.deal_at_close-dealt.ensures.value in
+    record { shares_bound = room.0; shares_bound_2 = room.1 }
 
 pub overflow_add-then : goal.overflow_add-then
 overflow_add-then c =
