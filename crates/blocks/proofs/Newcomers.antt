@@ -10,7 +10,7 @@ use borrow.Author.Tests.{le-leb, lt-leb, leb-true}
 use Rattle.model.specs.declared.Declaration.{Declaration}
 use Rattle.model.specs.declared.AskedBlock.{AskedBlock}
 use Rattle.model.specs.declared.Day.{Day}
-use Rattle.model.specs.Lists.{keep, all}
+use Rattle.model.specs.Lists.{keep}
 use Rattle.model.specs.Clock.{confirming_from, long_hours}
 use Rattle.model.specs.Limits.{is_price, in_band}
 use Rattle.model.specs.Figures.{next_block}

@@ -1,5 +1,4 @@
 -- Place by place, and then the free places.
-use Prim.Native.Nat.{◌-◌}
 use mathlib.Core.Path.{refl, ◌∙◌}
 use native.Mathlib.Omega.{arith}
 use Rattle.blocks.proofs.Staying.{staying_start, staying_next, staying_end}
