@@ -2,7 +2,7 @@
 use Rattle.std.specs.Prelude.{if◌then◌else◌}
 use Prim.Native.Nat.{ℕ, ◌+◌, ◌-◌, ◌≤◌, ◌<◌, min}
 use mathlib.Core.Path.{◌≡◌, refl, sym, ap, ◌∙◌}
-use mathlib.Core.Bool.{Bool, true, false, cond, ◌&&◌, and-false}
+use mathlib.Core.Bool.{Bool, true, false, and-false}
 use mathlib.Core.List.{List, [], ◌∷◌, ◌++◌, map, append-nil}
 use native.Mathlib.Decide.{ℕ_discrete}
 use native.Mathlib.Numerals.{add-one}
@@ -19,7 +19,7 @@ use Rattle.model.specs.Pairing.{cut}
 use Rattle.model.specs.Words.{Each, Apart, granted}
 use Rattle.book.specs.Rows.{order_of, book_of}
 use Rattle.book.specs.Standing.{Fair, Ranked}
-use Rattle.book.proofs.Lists.{both, each, every, each_keep, keep_true, keep_false, map_same}
+use Rattle.book.proofs.Lists.{both, each, each_keep, keep_true, keep_false, map_same}
 use Rattle.book.proofs.Queues.{live_number}
 use Rattle.book.proofs.Parts.{keep_buys, keep_sells, parts_of}
 use Rattle.soundness.proofs.Onward.{onward}

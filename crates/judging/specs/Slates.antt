@@ -1,6 +1,6 @@
 -- A slate has a number for each place: what is still to be filled of the order there. It starts with the grants, each claim takes its
 -- shares off two of them, and a list of claims is right where it leaves nothing.
-use Rattle.std.specs.Prelude.{ℕ, ◌+◌, ◌-◌, ◌≤◌, ◌<◌, min, ◌≡◌, ◌↔◌, Bool, true, false, not, ◌&&◌, List, [], ◌∷◌, length, get_or, leb, eqb, if◌then◌else◌}
+use Rattle.std.specs.Prelude.{ℕ, ◌-◌, ◌<◌, min, ◌≡◌, ◌↔◌, Bool, true, false, not, ◌&&◌, List, [], ◌∷◌, length, get_or, leb, eqb, if◌then◌else◌}
 use Rattle.model.specs.declared.Order.{Order}
 use Rattle.model.specs.Book.{free, is_live}
 use Rattle.model.specs.Auction.{volume}

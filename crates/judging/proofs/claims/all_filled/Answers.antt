@@ -1,5 +1,4 @@
 -- `judging::claims::all_filled` meets its contract: place by place nothing is left. Assumes nothing.
-use Prim.Native.Nat.{◌-◌}
 use Rattle.judging.proofs.Turns.{looked_none, looked_some, looked_more, looked_all}
 use Rattle.judging.proofs.claims.all_filled.Goals as goal
 

@@ -33,13 +33,17 @@ returns-then-not-may_fill-2 c =
 
 pub take_off-requires : goal.take_off-requires
 take_off-requires c =
+    let fit =
     buyer_fills (book_of c.args.rows.now) c.requires.standing c.args.c c.args.slate.now (long (goal.at.take_off-requires c).Start) c.place_by-buyer.ensures c.place_by-seller.ensures
-    c.may_fill.ensures c.if-not-may_fill.false-raw c.may_fill-2.ensures c.if-not-may_fill-2.false-raw
+    c.may_fill.ensures c.if-not-may_fill.false-raw c.may_fill-2.ensures c.if-not-may_fill-2.false-raw in
+    record { at_nonzero = fit.0; at_in_bounds = fit.1.0; shares_bound = fit.1.1 }
 
 pub take_off-requires-2 : goal.take_off-requires-2
 take_off-requires-2 c =
+    let fit =
     seller_fills (book_of c.args.rows.now) c.requires.standing c.args.c c.args.slate.now (long (goal.at.take_off-requires-2 c).Start) c.place_by-buyer.ensures c.place_by-seller.ensures
-    c.may_fill.ensures c.if-not-may_fill.false-raw c.may_fill-2.ensures c.if-not-may_fill-2.false-raw c.if-c-eq0.false c.take_off.ensures
+    c.may_fill.ensures c.if-not-may_fill.false-raw c.may_fill-2.ensures c.if-not-may_fill-2.false-raw c.if-c-eq0.false c.take_off.ensures in
+    record { at_nonzero = fit.0; at_in_bounds = fit.1.0; shares_bound = fit.1.1 }
 
 pub returns : goal.returns
 returns c =

@@ -1,5 +1,4 @@
 -- `judging::claims::take_claims` meets its contract: claim after claim what is still to be judged stays the same. Assumes nothing.
-use Prim.Native.Nat.{◌-◌}
 use mathlib.Core.Path.{sym, ◌∙◌}
 use native.Mathlib.Omega.{arith}
 use lib.ListN.{length-map}

@@ -1,5 +1,4 @@
 -- `judging::grants::grant_rows` meets its contract: what is written and what is still to come is the whole. Assumes nothing.
-use Prim.Native.Nat.{◌-◌}
 use mathlib.Core.Path.{refl, sym, ◌∙◌}
 use native.Mathlib.Omega.{arith}
 use Rattle.judging.proofs.Granting.{granted_more, granted_all}
