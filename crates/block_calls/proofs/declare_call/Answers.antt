@@ -1,6 +1,6 @@
 -- 15, or what a declaration gives where day and declarations are sound.
 use mathlib.Core.Path.{refl, ap, ◌∙◌}
-use borrow.Author.Tests.{eqb-false, not-true, not-false}
+use borrow.Author.Tests.{eqb-false}
 use Rattle.model.specs.declared.BlockAnswer.{BlockAnswer}
 use Rattle.book.specs.Rows.{book_of, held_of}
 use Rattle.book.specs.Promises.{block_left}
@@ -13,7 +13,7 @@ use Rattle.block_calls.proofs.declare_call.Goals as goal
 pub returns-then-not-is_sound : goal.returns-then-not-is_sound
 returns-then-not-is_sound c =
     let a = c.args in
-    let u = is_unsound _ _ c.is_sound.ensures (not-true _ c.if-not-is_sound.true-raw) in
+    let u = is_unsound _ _ c.is_sound.ensures c.if-not-is_sound.true in
     ap (λ (r : BlockAnswer). block_left r a.rows.now a.trades.now) c.block_refused.ensures
     ∙ block_refused_lem a.d a.a (book_of a.main.now) a.rows.now a.trades.now
     (block_unsound a.d a.a (book_of a.main.now) (held_of a.rows.now) _ (rw u))
@@ -22,14 +22,14 @@ returns-then-not-is_sound c =
 pub blocks_sound-requires : goal.blocks_sound-requires
 blocks_sound-requires c =
     let a = c.args in
-    let s = sound_day a.d (book_of a.main.now) (not_unsound _ _ c.is_sound.ensures (not-false _ c.if-not-is_sound.false-raw)) in
+    let s = sound_day a.d (book_of a.main.now) (not_unsound _ _ c.is_sound.ensures c.if-not-is_sound.false) in
     record { close_value = sound_close a.d (book_of a.main.now) s; d_value = sound_blocks_lem a.d (book_of a.main.now) s }
 
 pub returns-then-not-blocks_sound : goal.returns-then-not-blocks_sound
 returns-then-not-blocks_sound c =
     let a = c.args in
-    let u = not_unsound _ _ c.is_sound.ensures (not-false _ c.if-not-is_sound.false-raw) in
-    let v = is_unsound_blocks _ _ c.blocks_sound.ensures (not-true _ c.if-not-blocks_sound.true-raw) in
+    let u = not_unsound _ _ c.is_sound.ensures c.if-not-is_sound.false in
+    let v = is_unsound_blocks _ _ c.blocks_sound.ensures c.if-not-blocks_sound.true in
     ap (λ (r : BlockAnswer). block_left r a.rows.now a.trades.now) c.block_refused-then-not-blocks_sound.ensures
     ∙ block_refused_lem a.d a.a (book_of a.main.now) a.rows.now a.trades.now
     (block_unsound a.d a.a (book_of a.main.now) (held_of a.rows.now) _ (rw (u, v)))
@@ -37,9 +37,9 @@ returns-then-not-blocks_sound c =
 
 pub declare_sound-requires : goal.declare_sound-requires
 declare_sound-requires c =
-    blocks_ready _ _ _ (not_unsound _ _ c.is_sound.ensures (not-false _ c.if-not-is_sound.false-raw))
-    (not_unsound_blocks _ _ c.blocks_sound.ensures (not-false _ c.if-not-blocks_sound.false-raw))
+    blocks_ready _ _ _ (not_unsound _ _ c.is_sound.ensures c.if-not-is_sound.false)
+    (not_unsound_blocks _ _ c.blocks_sound.ensures c.if-not-blocks_sound.false)
 
 pub returns : goal.returns
 returns c =
-    c.declare_sound.ensures _ (not_unsound _ _ c.is_sound.ensures (not-false _ c.if-not-is_sound.false-raw))
+    c.declare_sound.ensures _ (not_unsound _ _ c.is_sound.ensures c.if-not-is_sound.false)
