@@ -1,26 +1,14 @@
 -- The replies put so far answer the chunk up to the place that is reached; one more line is one more reply. Assumes nothing.
--- ---- the way back: from a line to its turn, and from a turn to the start
-use Prim.Native.Nat.{◌-◌}
 use mathlib.Core.Path.{refl, sym, ap, ◌∙◌}
 use native.Mathlib.Omega.{arith}
 use Rattle.chunks.specs.declared.Progress.{Progress}
 use Rattle.chunks.specs.Points.{point_of}
 use Rattle.chunks.specs.SoundDesk.{SoundDesk}
 use Rattle.text.specs.Answers.{rehearsal}
-use Rattle.text.proofs.Chunks.{Taken, taken, all_taken}
+use Rattle.text.proofs.Chunks.{taken, all_taken}
 use Rattle.text.proofs.LineByLine.{going_start, going_on, going_through, going_full, onward_kept}
 use Rattle.chunks.proofs.SoundDesks.{stays_sound, never_15}
 use Rattle.chunks.proofs.answer_lines.Goals as goal
-use Rattle.chunks.proofs.answer_lines.Goals.{In-Found}
-
--- the line that was taken
-read :
-    (k : In-Found)
-    → Taken k.args.chunk.now k.loop-p.p.at rehearsal.reader k.loop-p.p.long
-    k.in-Found.command k.in-Found.place
-read k =
-    taken k.args.chunk.now k.loop-p.p.at k.loop-p.p.long _ _
-    (sym k.next_command.ensures ∙ k.in-Found.is)
 
 pub loop-p-init : goal.loop-p-init
 loop-p-init c =
@@ -39,7 +27,7 @@ pub returns-in_default : goal.returns-in_default
 returns-in_default c =
     let s = c.args in
     going_through rehearsal s.chunk.now _ s.out.now c.loop-p.invariant.3
-    (all_taken s.chunk.now _ _ (sym c.next_command.ensures ∙ c.in_default.is))
+    (all_taken s.chunk.now _ _ (sym c.in_default.ensures))
 
 pub answer_command-a-requires : goal.answer_command-a-requires
 answer_command-a-requires c =
@@ -53,18 +41,20 @@ answer_command-a-requires c =
 
 pub loop-p-smaller : goal.loop-p-smaller
 loop-p-smaller c =
-    let n = read (goal.at.loop-p-smaller c).In-Found in
+    -- the line that was taken
+    let n = taken c.args.chunk.now c.loop-p.p.at c.loop-p.p.long _ _ (sym c.in-Found.ensures) in
     omega (arith, n.onward, n.inside, ap (λ (p : Progress). p.at) c.past_line-p.ensures)
 
 pub loop-p-preserved : goal.loop-p-preserved
 loop-p-preserved c =
     let s = c.args in
     let i = c.loop-p.invariant in
-    let a = c.answer_command-a in (
-      a.auto.1.0 ∙ i.0,
-      a.auto.1.1.0 ∙ i.1,
-      a.auto.1.1.1.1.0 ∙ i.2,
-      rw c.past_line-p.ensures (going_on rehearsal s.chunk.now _ s.out.now i.3 _ _ (read (goal.at.loop-p-preserved c).In-Found) a.ensures.leaves.text a.ensures.leaves.fits _ a.ensures.leaves.desk),
+    let a = c.answer_command-a in
+    let n = taken s.chunk.now c.loop-p.p.at c.loop-p.p.long _ _ (sym c.in-Found.ensures) in (
+      a.auto.rows ∙ i.0,
+      a.auto.trades ∙ i.1,
+      a.auto.out ∙ i.2,
+      rw c.past_line-p.ensures (going_on rehearsal s.chunk.now _ s.out.now i.3 _ _ n a.ensures.leaves.text a.ensures.leaves.fits _ a.ensures.leaves.desk),
     )
 
 pub shape_of-rows : goal.shape_of-rows

@@ -1,5 +1,4 @@
 -- The replies put so far answer the chunk up to the place that is reached; one more line is one more reply. Assumes nothing.
--- ---- the way back: from a line to its turn, and from a turn to the start
 use Prim.Native.Nat.{◌-◌}
 use mathlib.Core.Path.{◌≡◌}
 use lib.ListN.{length}
