@@ -136,3 +136,29 @@ module _ (book : List Order) (rows : List (List ℕ)) (len : length rows ≡ 4_0
         ∙ ap (λ (j : ℕ). question_call question (book_of (lent j)) prices) h.1
         ∙ sym (question_too_many book h.0 question prices)
   ]
+
+  -- the same, as the code has it: so many places are copied, and the call is made on the rows that they became
+  module _ (n : ℕ) (loaded : List (List ℕ)) (e : n ≡ k) (l : loaded ≡ copied row_of n book rows) where
+    pub question_asked :
+        (prices prices' : List ℕ) (question : Question.Question) (told : Told)
+        → question_left told prices' ≡ question_call question (book_of (take n loaded)) prices
+        → question_left told prices' ≡ question_call question book prices
+    question_asked prices prices' question told p =
+        question_said prices prices' question told
+        (p
+        ∙ ap (λ (rs : List (List ℕ)). question_call question (book_of (take n rs)) prices) l
+        ∙ ap (λ (j : ℕ). question_call question (book_of (lent j)) prices) e)
+
+    pub event_taken :
+        (front rest trades trades' : List (List ℕ)) (stored : List Order) (asked : OnDay) (answer : Answer)
+        → length front ≡ n
+        → call_left answer front trades' ≡ event_call asked (book_of (take n loaded)) (trades_of trades)
+        → stored ≡ copied order_of n (front ++ rest) book
+        → event_left answer stored trades' ≡ event_call asked book (trades_of trades)
+    event_taken front rest trades trades' stored asked answer f p s =
+        ap (λ (os : List Order). event_left answer os trades') s
+        ∙ ap (λ (j : ℕ). event_left answer (copied order_of j (front ++ rest) book) trades') e
+        ∙ event_said front rest trades trades' asked answer (f ∙ e)
+        (p
+        ∙ ap (λ (rs : List (List ℕ)). event_call asked (book_of (take n rs)) (trades_of trades)) l
+        ∙ ap (λ (j : ℕ). event_call asked (book_of (lent j)) (trades_of trades)) e)
