@@ -10,6 +10,7 @@ use limits::{in_band, is_price, is_quantity};
 use model::{Asked, CONTINUOUS, Day};
 
 // 2: no such side or kind. 3: account 0.
+#[tactic(auto, using(crate::proofs::AskedRules::form_side, crate::proofs::AskedRules::form_kind, crate::proofs::AskedRules::form_account, crate::proofs::AskedRules::form_none))]
 fn form_refusal(a: Asked) -> u64
     ensures { result ≡ first_of (form_rules a) }
 {
