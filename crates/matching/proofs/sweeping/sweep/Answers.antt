@@ -4,7 +4,6 @@ use Prim.Native.Nat.{ℕ, ◌+◌}
 use mathlib.Core.Path.{◌≡◌, refl, sym, ap, ◌∙◌}
 use mathlib.Core.List.{List, [], ◌∷◌}
 use native.Mathlib.Omega.{arith}
-use borrow.Author.Tests.{not-true, not-false}
 use Rattle.model.specs.Book.{queue}
 use Rattle.model.specs.declared.Order.{Order}
 use Rattle.book.specs.Rows.{book_of, trade_rows}
@@ -51,7 +50,7 @@ so_far :
     o.orders.s o.orders.left (line o.orders.at o.places_of-line.result.to o.args.rows.now) o.orders.trades
 so_far o =
     let a = o.args in
-    let wanted = sym o.wants.ensures ∙ not-false _ o.if-not-wants.false-raw in
+    let wanted = sym o.wants.ensures ∙ o.if-not-wants.false in
     let first = line_cons _ _ _ o.prices-test.true o.places_of-line.ensures.within o.order_at-best.ensures in
     then a.t a.most o.prices.invariant.0
     (then a.t a.most
@@ -159,7 +158,7 @@ orders-preserved c =
     let a = c.args in
     let at_price = c.if-order-price.false in
     let kept = trade_last _ _ _ c.with_trade-s.ensures in
-    let wanted = ap (wants _ _) at_price ∙ sym c.wants-in-orders.ensures ∙ not-false _ c.if-not-wants-2.false-raw in (
+    let wanted = ap (wants _ _) at_price ∙ sym c.wants-in-orders.ensures ∙ c.if-not-wants-2.false in (
       then a.t a.most c.orders.invariant.0
           (trade_made a.t a.most _ _ _ (next_of (goal.at.orders-preserved c).After-order_at-order)
           (at_price ∙ sym c.orders.invariant.2)
@@ -206,7 +205,7 @@ returns-then-not-wants c =
     ended (goal.at.returns-then-not-wants c).At-prices c.prices.invariant.0
     (spent_new a.t a.most c.prices.s c.prices.left a.trades.now
     (first_of_lem (goal.at.returns-then-not-wants c).After-order_at-best) c.prices.invariant.1 c.if-most-s.false
-    (sym c.wants.ensures ∙ not-true _ c.if-not-wants.true-raw)) in
+    (sym c.wants.ensures ∙ c.if-not-wants.true)) in
     record { value = all.0; trades_after = all.1 }
 
 pub shape_of-trades-then-not-wants-2 : goal.shape_of-trades-then-not-wants-2
@@ -217,7 +216,7 @@ pub returns-then-not-wants-2 : goal.returns-then-not-wants-2
 returns-then-not-wants-2 c =
     let a = c.args in
     let at_price = c.if-order-price.false in
-    let spent = ap (wants _ _) at_price ∙ sym c.wants-in-orders.ensures ∙ not-true _ c.if-not-wants-2.true-raw in
+    let spent = ap (wants _ _) at_price ∙ sym c.wants-in-orders.ensures ∙ c.if-not-wants-2.true in
     let all =
     ended (goal.at.returns-then-not-wants-2 c).At-prices (so_far (goal.at.returns-then-not-wants-2 c).At-orders)
     (spent_same a.t a.most c.orders.s c.orders.left a.trades.now
