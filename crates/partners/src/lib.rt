@@ -112,8 +112,8 @@ fn find_with(
 )
     requires declared { Declared (held_of rows.now) }
     requires partner_len { length partner.old ≡ length rows.now }
-    requires rows_in_bounds { length rows.now ≤ length buyers.old }
-    requires rows_in_bounds_2 { length rows.now ≤ length sellers.old }
+    requires rows_in_buyers { length rows.now ≤ length buyers.old }
+    requires rows_in_sellers { length rows.now ≤ length sellers.old }
     requires buyers_in_bounds { length buyers.old ≤ length room.old }
     requires sellers_in_bounds { length sellers.old ≤ length room.old }
     ensures { partner.new ≡ partners (held_of rows.now) }

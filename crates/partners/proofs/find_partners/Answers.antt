@@ -8,4 +8,4 @@ use Rattle.partners.proofs.find_partners.Goals as goal
 pub find_with-requires : goal.find_with-requires
 find_with-requires c =
     let few : length c.args.rows.now ≤ 4_096 = omega (arith, c.requires.declared.few, length-map c.args.rows.now declaration_of) in
-    record { declared = c.requires.declared; partner_len = c.requires.partner_len; rows_in_bounds = omega (arith, few); rows_in_bounds_2 = omega (arith, few); buyers_in_bounds = omega arith; sellers_in_bounds = omega arith }
+    record { declared = c.requires.declared; partner_len = c.requires.partner_len; rows_in_buyers = omega (arith, few); rows_in_sellers = omega (arith, few); buyers_in_bounds = omega arith; sellers_in_bounds = omega arith }
