@@ -3,7 +3,6 @@ use mathlib.Core.Path.{◌≡◌, refl, sym, ◌∙◌}
 use mathlib.Core.Bool.{true}
 use native.Mathlib.Omega.{arith}
 use lib.ListN.{length}
-use borrow.Author.Tests.{not-true, not-false}
 use Rattle.model.proofs.Bools.{not_both}
 use Rattle.lines.specs.OneLine.{fits}
 use Rattle.desk.proofs.Answers.{as_asked}
@@ -13,12 +12,12 @@ use Rattle.lines.proofs.answer_line.Goals.{Else-not-serves}
 
 pub returns-then-not-serves : goal.returns-then-not-serves
 returns-then-not-serves c =
-    let u = sym c.serves.ensures ∙ not-true _ c.if-not-serves.true-raw in
+    let u = sym c.serves.ensures ∙ c.if-not-serves.true in
     record { given = λ g. absurd (not_both g u); unfit = λ n. (refl, refl, refl, refl) }
 
 -- past the first test the memory fits
 served : (c : Else-not-serves) → let a = c.args in fits (length a.rows.now) (length a.trades.now) (length a.out.now) ≡ true
-served c = sym c.serves.ensures ∙ not-false _ c.if-not-serves.false-raw
+served c = sym c.serves.ensures ∙ c.if-not-serves.false
 
 pub refuse-a-requires : goal.refuse-a-requires
 refuse-a-requires c =
