@@ -2,7 +2,6 @@
 -- past a test, what it tested has passed
 use mathlib.Core.Path.{◌≡◌, sym, ◌∙◌}
 use mathlib.Core.Bool.{true, ◌||◌}
-use borrow.Author.Tests.{not-true, not-false}
 use Rattle.model.specs.Lists.{all}
 use Rattle.model.specs.Arrival.{in_arrival}
 use Rattle.model.specs.Sound.{has_places, is_free, is_order_of}
@@ -12,28 +11,28 @@ use Rattle.fixed_book.proofs.fixed_sound.Goals as goal
 use Rattle.fixed_book.proofs.fixed_sound.Goals.{Else-not-has_places, Else-not-is_in_arrival, Else-not-sound_places}
 
 places-pass : (c : Else-not-has_places) → has_places (book_of c.args.rows.now) ≡ true
-places-pass c = sym c.has_places.ensures ∙ not-false _ c.if-not-has_places.false-raw
+places-pass c = sym c.has_places.ensures ∙ c.if-not-has_places.false
 
 orders_pass :
     (c : Else-not-sound_places)
     → let a = c.args in
     all (λ o. is_free o || is_order_of a.d a.d.fixed.issued o) (book_of a.rows.now) ≡ true
-orders_pass c = sym c.sound_places.ensures ∙ not-false _ c.if-not-sound_places.false-raw
+orders_pass c = sym c.sound_places.ensures ∙ c.if-not-sound_places.false
 
 arrival_passes :
     (c : Else-not-is_in_arrival) → in_arrival (λ o. o.number) (book_of c.args.rows.now) ≡ true
-arrival_passes c = sym c.is_in_arrival.ensures ∙ not-false _ c.if-not-is_in_arrival.false-raw
+arrival_passes c = sym c.is_in_arrival.ensures ∙ c.if-not-is_in_arrival.false
 
 pub returns-then-not-has_places : goal.returns-then-not-has_places
-returns-then-not-has_places c = no_places _ _ (sym c.has_places.ensures ∙ not-true _ c.if-not-has_places.true-raw)
+returns-then-not-has_places c = no_places _ _ (sym c.has_places.ensures ∙ c.if-not-has_places.true)
 
 pub returns-then-not-sound_places : goal.returns-then-not-sound_places
 returns-then-not-sound_places c =
-    place_wrong _ _ (places-pass (goal.at.returns-then-not-sound_places c).Else-not-has_places) (sym c.sound_places.ensures ∙ not-true _ c.if-not-sound_places.true-raw)
+    place_wrong _ _ (places-pass (goal.at.returns-then-not-sound_places c).Else-not-has_places) (sym c.sound_places.ensures ∙ c.if-not-sound_places.true)
 
 pub returns-then-not-is_in_arrival : goal.returns-then-not-is_in_arrival
 returns-then-not-is_in_arrival c =
-    not_arrived _ _ (places-pass (goal.at.returns-then-not-is_in_arrival c).Else-not-has_places) (orders_pass (goal.at.returns-then-not-is_in_arrival c).Else-not-sound_places) (sym c.is_in_arrival.ensures ∙ not-true _ c.if-not-is_in_arrival.true-raw)
+    not_arrived _ _ (places-pass (goal.at.returns-then-not-is_in_arrival c).Else-not-has_places) (orders_pass (goal.at.returns-then-not-is_in_arrival c).Else-not-sound_places) (sym c.is_in_arrival.ensures ∙ c.if-not-is_in_arrival.true)
 
 pub resting_of-resting-requires : goal.resting_of-resting-requires
 resting_of-resting-requires c =
@@ -42,12 +41,12 @@ resting_of-resting-requires c =
 pub returns-then-not-fits_hours : goal.returns-then-not-fits_hours
 returns-then-not-fits_hours c =
     out_of_hours c.args.d _ (places-pass (goal.at.returns-then-not-fits_hours c).Else-not-has_places) (orders_pass (goal.at.returns-then-not-fits_hours c).Else-not-sound_places) (arrival_passes (goal.at.returns-then-not-fits_hours c).Else-not-is_in_arrival) c.requires.d_value c.resting_of-resting.ensures
-    c.fits_hours.ensures (not-true _ c.if-not-fits_hours.true-raw)
+    c.fits_hours.ensures c.if-not-fits_hours.true
 
 pub returns-then-not-rests_after_matching : goal.returns-then-not-rests_after_matching
 returns-then-not-rests_after_matching c =
     rests_wrong c.args.d _ (places-pass (goal.at.returns-then-not-rests_after_matching c).Else-not-has_places) (orders_pass (goal.at.returns-then-not-rests_after_matching c).Else-not-sound_places) (arrival_passes (goal.at.returns-then-not-rests_after_matching c).Else-not-is_in_arrival) c.requires.d_value c.resting_of-resting.ensures
-    c.fits_hours.ensures (not-false _ c.if-not-fits_hours.false-raw) (sym c.rests_after_matching.ensures ∙ not-true _ c.if-not-rests_after_matching.true-raw)
+    c.fits_hours.ensures c.if-not-fits_hours.false (sym c.rests_after_matching.ensures ∙ c.if-not-rests_after_matching.true)
 
 pub sums_fit-requires : goal.sums_fit-requires
 sums_fit-requires c =
@@ -56,5 +55,5 @@ sums_fit-requires c =
 pub returns : goal.returns
 returns c =
     sums_tell c.args.d _ (places-pass (goal.at.returns c).Else-not-has_places) (orders_pass (goal.at.returns c).Else-not-sound_places) (arrival_passes (goal.at.returns c).Else-not-is_in_arrival) c.requires.d_value c.resting_of-resting.ensures
-    c.fits_hours.ensures (not-false _ c.if-not-fits_hours.false-raw) (sym c.rests_after_matching.ensures ∙ not-false _ c.if-not-rests_after_matching.false-raw)
+    c.fits_hours.ensures c.if-not-fits_hours.false (sym c.rests_after_matching.ensures ∙ c.if-not-rests_after_matching.false)
     c.sums_fit.ensures

@@ -1,7 +1,6 @@
 -- A test that fails refutes what an order is; the last one decides what is left.
 use mathlib.Core.Path.{sym, ◌∙◌}
 use native.Mathlib.Nat.{not-le_of_lt}
-use borrow.Author.Tests.{not-true, not-false}
 use Rattle.model.proofs.Bools.{not_both}
 use Rattle.soundness.proofs.Says.{fails, says_same}
 use Rattle.soundness.proofs.Clauses.{says_between, says_stand}
@@ -18,19 +17,19 @@ pub returns-then-not-is_between : goal.returns-then-not-is_between
 returns-then-not-is_between c =
     fails
     (says_fixed_order _ _)
-    (λ r. not_both (c.is_between.ensures ∙ (says_between 1 1_000_000 _).1 (r.some, r.left)) (not-true _ c.if-not-is_between.true-raw))
+    (λ r. not_both (c.is_between.ensures ∙ (says_between 1 1_000_000 _).1 (r.some, r.left)) c.if-not-is_between.true)
 
 pub returns-then-not-may_stand : goal.returns-then-not-may_stand
 returns-then-not-may_stand c =
     fails
     (says_fixed_order _ _)
-    (λ r. not_both (c.may_stand.ensures ∙ (says_stand _ _).1 (r.price, r.band)) (not-true _ c.if-not-may_stand.true-raw))
+    (λ r. not_both (c.may_stand.ensures ∙ (says_stand _ _).1 (r.price, r.band)) c.if-not-may_stand.true)
 
 pub returns : goal.returns
 returns c =
     let a = c.args in
-    let shares = (says_between 1 1_000_000 _).0 (sym c.is_between.ensures ∙ not-false _ c.if-not-is_between.false-raw) in
-    let stand = (says_stand _ _).0 (sym c.may_stand.ensures ∙ not-false _ c.if-not-may_stand.false-raw) in
+    let shares = (says_between 1 1_000_000 _).0 (sym c.is_between.ensures ∙ c.if-not-is_between.false) in
+    let stand = (says_stand _ _).0 (sym c.may_stand.ensures ∙ c.if-not-may_stand.false) in
     c.is_between-2.ensures
     ∙ says_same
     (λ n.
