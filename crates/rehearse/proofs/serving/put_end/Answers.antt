@@ -1,8 +1,7 @@
 -- Nothing is due, or one refusal. Assumes nothing.
-use mathlib.Core.Path.{sym, ◌∙◌}
-use borrow.Author.Tests.{not-true, not-false}
+use Rattle.std.proofs.Common.{sym, ◌∙◌}
 use Rattle.printing.proofs.Printed.{nothing_put, put_as}
-use mathlib.Core.Option.{none}
+use Rattle.std.proofs.Math.Option.{none}
 use Rattle.text.specs.Answers.{rehearsal}
 use Rattle.text.proofs.Turns.{end_left, end_none}
 use Rattle.rehearse.proofs.Malformed.{refused_16}
@@ -10,8 +9,8 @@ use Rattle.rehearse.proofs.serving.put_end.Goals as goal
 
 pub returns-then-not-is_left : goal.returns-then-not-is_left
 returns-then-not-is_left c =
-    put_as (end_none rehearsal none refused_16 _ (sym c.is_left.ensures ∙ not-true _ c.if-not-is_left.true-raw)) nothing_put
+    put_as (end_none rehearsal none refused_16 _ (sym c.is_left.ensures ∙ c.if-not-is_left.true)) nothing_put
 
 pub returns : goal.returns
 returns c =
-    put_as (end_left rehearsal none refused_16 _ (sym c.is_left.ensures ∙ not-false _ c.if-not-is_left.false-raw)) c.put_refusal.ensures
+    put_as (end_left rehearsal none refused_16 _ (sym c.is_left.ensures ∙ c.if-not-is_left.false)) c.put_refusal.ensures
