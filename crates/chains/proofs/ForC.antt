@@ -306,11 +306,11 @@ for_c =
       open_refused = λ day book reply day' book' reply' close mark r.
           untouched.open_refused day book reply.bytes day'.bytes book'.bytes reply'.bytes close mark r;
       clock_refused = λ day book trades reply day' book' trades' reply' time r.
-          untouched.clock_refused day book trades reply.bytes day'.bytes book'.bytes trades'.bytes reply'.bytes r time;
+          untouched.clock_refused_lem day book trades reply.bytes day'.bytes book'.bytes trades'.bytes reply'.bytes r time;
       order_refused = λ day book trades reply day' book' trades' reply' a r.
-          untouched.order_refused day book trades reply.bytes day'.bytes book'.bytes trades'.bytes reply'.bytes r a;
+          untouched.order_refused_lem day book trades reply.bytes day'.bytes book'.bytes trades'.bytes reply'.bytes r a;
       cancel_refused = λ day book reply day' book' reply' account number r.
-          untouched.cancel_refused day book reply.bytes day'.bytes book'.bytes reply'.bytes account number r;
+          untouched.cancel_refused_lem day book reply.bytes day'.bytes book'.bytes reply'.bytes account number r;
       list_refused = λ day book prices reply prices' reply' asked r.
           untouched.list_refused day book prices reply.bytes prices'.bytes reply'.bytes asked r;
     }

@@ -85,10 +85,10 @@ loop-p-preserved c =
     let s = c.args in
     let i = c.loop-p.invariant in
     let a = c.answer_wish-a in (
-      a.auto.1.0 ∙ i.0,
-      a.auto.1.1.0 ∙ i.1,
-      a.auto.1.1.1.0 ∙ i.2,
-      a.auto.1.1.1.1.1.1.0 ∙ i.3,
+      a.auto.rows ∙ i.0,
+      a.auto.trades ∙ i.1,
+      a.auto.claims ∙ i.2,
+      a.auto.out ∙ i.3,
       rw c.past_line-p.ensures a.ensures.few,
       rw c.past_line-p.ensures (going_on floor s.chunk.now _ s.out.now i.5 _ _ (read (goal.at.loop-p-preserved c).After-wish_after-w) a.ensures.text a.ensures.fits _ a.ensures.floor),
     )
