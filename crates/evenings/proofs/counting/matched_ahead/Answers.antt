@@ -10,6 +10,6 @@ returns-then-not-passes c =
 pub returns : goal.returns
 returns c =
     let some =
-        some_matched c.args.close c.args.old c.args.new _ c.requires c.passes.ensures c.if-not-passes.false-raw
-        c.deal_at_close-counted.ensures.value in
+    some_matched c.args.close c.args.old c.args.new _ c.requires c.passes.ensures c.if-not-passes.false-raw
+    c.deal_at_close-counted.ensures.value in
     record { value = some.0; upper_bound = some.1 }

@@ -29,8 +29,7 @@ front_long c =
 
 pub store-requires : goal.store-requires
 store-requires c =
-    let rest = drop c.places-k.result c.load.new.rows in
-    (
+    let rest = drop c.places-k.result c.load.new.rows in (
       omega (arith, front_long (goal.at.store-requires c).After-answer_event-answer, length-append c.answer_event-answer.new.rows rest),
       rw c.places-k.ensures (places_fit (length c.args.book.now)).0,
     )
