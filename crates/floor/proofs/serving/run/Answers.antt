@@ -6,7 +6,7 @@ use Rattle.floor.proofs.Outset.{at_first}
 use Rattle.floor.proofs.serving.run.Goals as goal
 
 pub loop-init : goal.loop-init
-loop-init g c = (omega arith, at_first _ _ _)
+loop-init g c = (omega arith, at_first c.places-rows.result c.claim_list-claims.result _)
 
 pub loop-preserved : goal.loop-preserved
 loop-preserved g c =
