@@ -1,5 +1,5 @@
-// Chunks read from standard input, and their replies written to standard output. No promise can say what is read or
-// written; what lies between is the definitions' step from chunk to chunk.
+// Chunks read from standard input, and their replies written to standard output. What is read and written is said of streams over memory
+// (`Reads`, `Appends`), as nothing can say it of real ones; what lies between is the definitions' step from chunk to chunk.
 ghost use Rattle.std.specs.Prelude.{◌≡◌, true, false, ◌≤◌, [], length, take};
 ghost use Rattle.std.specs.Io.KnownBytes.{Appends};
 ghost use Rattle.printing.specs.Printing.{Wrote};

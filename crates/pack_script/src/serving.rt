@@ -1,5 +1,6 @@
-// Chunks read from standard input, their full blocks written to standard output, and what is not stored told on standard
-// error. No promise can say what is read or written; what lies between is the definitions' step from chunk to chunk.
+// Chunks read from standard input, their full blocks written to standard output, and what is not stored told on standard error. What is
+// read and written is said of streams over memory (`Reads`, `Appends`), as nothing can say it of real ones; what lies between is the
+// definitions' step from chunk to chunk.
 ghost use Rattle.std.specs.Prelude.{◌≡◌, true, false, ◌≤◌, length, take};
 ghost use Rattle.std.specs.Io.KnownBytes.{Appends};
 ghost use Rattle.pack_script.specs.Serving.{Waits, Steps, Reached, Turned};

@@ -1,5 +1,6 @@
-// Chunks read from standard input, their good blocks written to standard output, and the others listed on standard error. No
-// promise can say what is read or written; what lies between is the definitions' step from chunk to chunk.
+// Chunks read from standard input, their good blocks written to standard output, and the others listed on standard error. What is read and
+// written is said of streams over memory (`Reads`, `Appends`), as nothing can say it of real ones; what lies between is the definitions'
+// step from chunk to chunk.
 ghost use Rattle.std.specs.Prelude.{◌≡◌, true, false, ◌*◌, ◌≤◌, length, take};
 ghost use Rattle.std.specs.Io.KnownBytes.{Appends};
 ghost use Rattle.rescue_file.specs.Serving.{with_bytes, Keeps, Lists, Steps, Reached, Turned};
