@@ -1,5 +1,5 @@
 -- A round that is not done passed a line, and a point that goes onward keeps the floor sound. Assumes nothing.
-use Rattle.std.proofs.Common.{arith, ◌≡◌, ◌∙◌}
+use Rattle.std.proofs.Common.{arith, ◌∙◌}
 use Rattle.text.proofs.LineByLine.{onward_none, onward_more, onward_kept}
 use Rattle.text.proofs.Turns.{put_within}
 use Rattle.wishes.specs.Wishes.{floor}
