@@ -1,5 +1,5 @@
 -- A declaration's rules, in the groups in which the code goes through them: what is asked and when, the places, and the lent list.
--- Law `block-groups` says that these are the rules of #108, in its order.
+-- Law `block_groups` says that these are the rules of #108, in its order.
 use Rattle.std.specs.Prelude.{ℕ, not, ◌||◌, List, [], ◌∷◌, length, leb, ltb, eqb}
 use Rattle.model.specs.declared.Declaration.{Declaration}
 use Rattle.model.specs.declared.AskedBlock.{AskedBlock}

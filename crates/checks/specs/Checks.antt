@@ -1,5 +1,5 @@
 -- An order's rules, in the groups in which the code goes through them: what is asked by itself, when it is asked, its numbers,
--- the book, and the lent list. Law `order-groups` says that these are document 01's rules, in its order.
+-- the book, and the lent list. Law `order_groups` says that these are document 01's rules, in its order.
 use Rattle.std.specs.Prelude.{ℕ, Bool, not, ◌&&◌, ◌||◌, List, [], ◌∷◌, ◌++◌, length, leb, ltb, eqb, if◌then◌else◌}
 use Rattle.model.specs.declared.Order.{Order}
 use Rattle.model.specs.declared.Asked.{Asked}

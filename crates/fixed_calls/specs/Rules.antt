@@ -1,5 +1,5 @@
 -- A fixed-price order's rules but 15, in the groups in which the code goes through them: what is asked, and the book with the lent list.
--- Law `fixed-groups` says that with 15 before them these are the rules of the definition, in its order.
+-- Law `fixed_groups` says that with 15 before them these are the rules of the definition, in its order.
 use Rattle.std.specs.Prelude.{ℕ, ◌<◌, ◌≡◌, not, ◌&&◌, List, [], ◌∷◌, length, leb, ltb, eqb, if◌then◌else◌}
 use Rattle.model.specs.declared.Order.{Order}
 use Rattle.model.specs.declared.AskedFixed.{AskedFixed}

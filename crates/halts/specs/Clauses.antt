@@ -1,4 +1,4 @@
--- The clauses of `halt_fits`, in the groups in which the code goes through them. Law `fits-groups` says that they are the same.
+-- The clauses of `halt_fits`, in the groups in which the code goes through them. Law `fits_groups` says that they are the same.
 use Rattle.std.specs.Prelude.{Bool, not, ◌&&◌, ◌||◌, leb, eqb}
 use Rattle.model.specs.declared.Day.{Day}
 use Rattle.model.specs.Halts.{runs}

@@ -136,6 +136,8 @@ fn places_with(used: &mut [u64], day: Day, rows: &[[u64; 5]]) -> bool
 }
 
 // A map is set to zero at each call, so a short one serves while few numbers are issued.
+// Never inlined: in a caller that returns early, clang sets up so large a frame over a register that is still needed.
+#[inline(never)]
 pub fn sound_places(day: Day, rows: &[[u64; 5]]) -> bool
     requires { sound_figures day ≡ true }
     ensures { result ≡ (all (λ o. is_free o || is_order day o) (book_of rows.now) && own_numbers (book_of rows.now)) }
