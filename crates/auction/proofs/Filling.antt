@@ -16,7 +16,6 @@ use Rattle.model.specs.declared.ReportReply.TheVariants.{Priced}
 use Rattle.model.specs.Book.{queue}
 use Rattle.model.specs.Auction.{demand, supply, surplus, left_by}
 use Rattle.model.specs.AuctionCalls.{report_at}
-use Rattle.book.specs.Rows.{book_of}
 use Rattle.book.specs.Standing.{Ranked}
 use Rattle.book.specs.Lines.{line}
 use Rattle.auction.specs.declared.Stop.{Stop}
@@ -60,13 +59,13 @@ pub fixing_none :
 fixing_none os ref e z = fixing_zero os (sym e ∙ z)
 
 module _
-    (rows : List (List ℕ)) (ranked : Ranked (book_of rows)) {middle end : ℕ}
-    (em : middle ≡ length (queue 0 (book_of rows))) (en : end ≡ length (queue 0 (book_of rows)) + length (queue 1 (book_of rows)))
+    (rows : List Order) (ranked : Ranked rows) {middle end : ℕ}
+    (em : middle ≡ length (queue 0 rows)) (en : end ≡ length (queue 0 rows) + length (queue 1 rows))
     {stop : Stop} (k : StopOf rows middle end stop) (ref : ℕ) {p : ℕ}
-    (e : p ≡ get_or (left_by (book_of rows) ref) 0 0) (n : p ≡ 0 → ⊥)
+    (e : p ≡ get_or (left_by rows ref) 0 0) (n : p ≡ 0 → ⊥)
   where
     abbrev book : List Order
-    book = book_of rows
+    book = rows
 
     w : Stretches rows middle end
     w = stretches_of rows ranked em en

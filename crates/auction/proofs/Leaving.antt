@@ -10,11 +10,10 @@ use lib.ListN.{length, get_or}
 use lib.Dec.{leb, eqb}
 use borrow.Author.Tests.{leb-true, le-leb, eq-eqb, ne_eqb}
 use Rattle.model.specs.declared.Order.{Order}
-use Rattle.model.specs.Book.{queue}
+use Rattle.model.specs.Book.{queue, free}
 use Rattle.model.specs.Matching.{meets}
 use Rattle.model.proofs.Bools.{not_true_false}
 use Rattle.book.specs.declared.Head.{Head}
-use Rattle.book.specs.Rows.{order_of}
 use Rattle.model.specs.Words.{Each}
 use Rattle.book.specs.Lines.{line}
 use Rattle.book.specs.Heads.{as_order, waiting}
@@ -91,7 +90,7 @@ run_reach side p (o ∷ os) n f = elim (ℕ_discrete o.price p) [
 -- ---- the loop that adds them up
 
 -- what is added up so far, with the rest of them, is the whole
-pub record Adds (rows : List (List ℕ)) (from end p sum at : ℕ) : Type 0 where
+pub record Adds (rows : List Order) (from end p sum at : ℕ) : Type 0 where
   pub whole : sum + run_of p (line at end rows) ≡ run_of p (line from end rows)
   pub places : at + alike p (line at end rows) ≡ from + alike p (line from end rows)
 
@@ -103,8 +102,8 @@ tier_is :
 unfolding tier_from
 tier_is from p os e f = rw (e, f)
 
-module _ (rows : List (List ℕ)) (from end p : ℕ) (short : end ≤ length rows) where
-  module _ {sum at : ℕ} {o : Order} (k : Adds rows from end p sum at) (l : at < end) (e : o ≡ order_of (get_or rows at [])) where
+module _ (rows : List Order) (from end p : ℕ) (short : end ≤ length rows) where
+  module _ {sum at : ℕ} {o : Order} (k : Adds rows from end p sum at) (l : at < end) (e : o ≡ get_or rows at free) where
     begins : line at end rows ≡ o ∷ line (at + 1) end rows
     begins = line_cons at end rows l short e
 
@@ -151,7 +150,7 @@ module _ (p : ℕ) (h : Head) (os : List Order) where
 
 -- ---- where a walk has ended
 
-module _ (side : ℕ) (book : List Order) (end : ℕ) (rows : List (List ℕ)) {shares m : ℕ} {h : Head} (t : Taken side (queue side book) end rows shares m h) (placed : ((0 < h.left) × (h.at < end)) ⊎ ((h.left ≡ 0) × (end ≤ h.at))) where
+module _ (side : ℕ) (book : List Order) (end : ℕ) (rows : List Order) {shares m : ℕ} {h : Head} (t : Taken side (queue side book) end rows shares m h) (placed : ((0 < h.left) × (h.at < end)) ⊎ ((h.left ≡ 0) × (end ≤ h.at))) where
   abbrev os : List Order
   os = line (h.at + 1) end rows
 

@@ -15,7 +15,6 @@ use Rattle.model.specs.Matching.{meets}
 use Rattle.model.specs.Auction.{distance, demand, supply, volume, qualifying}
 use Rattle.model.proofs.Bools.{and_left, and_right}
 use Rattle.book.specs.declared.Head.{Head}
-use Rattle.book.specs.Rows.{book_of}
 use Rattle.model.specs.Words.{Each, Price}
 use Rattle.book.specs.Standing.{Ranked}
 use Rattle.book.specs.Lines.{line}
@@ -51,9 +50,9 @@ past_priced q h os p e = elim (dec_lt q h.left) [
   | no l ↦ rw (sym (past_next q h os (omega arith) refl)) (first_priced (h.at + 1) os e)
 ]
 
-pub record Walked (rows : List (List ℕ)) (middle end : ℕ) (c : Crossed) (buy sell : Head) : Type 0 where
-  pub buys : Taken 0 (queue 0 (book_of rows)) middle rows c.shares c.buy buy
-  pub sells : Taken 1 (queue 1 (book_of rows)) end rows c.shares c.sell sell
+pub record Walked (rows : List Order) (middle end : ℕ) (c : Crossed) (buy sell : Head) : Type 0 where
+  pub buys : Taken 0 (queue 0 rows) middle rows c.shares c.buy buy
+  pub sells : Taken 1 (queue 1 rows) end rows c.shares c.sell sell
   pub buying : ((0 < buy.left) × (buy.at < middle)) ⊎ ((buy.left ≡ 0) × (middle ≤ buy.at))
   pub selling : ((0 < sell.left) × (sell.at < end)) ⊎ ((sell.left ≡ 0) × (end ≤ sell.at))
   pub buy_priced : Priced buy
@@ -94,9 +93,9 @@ module _ (buy sell : Head) where
   crossing_false e b s =
       leb-false sell.price buy.price (rw (lt-ltb 0 buy.left b, lt-ltb 0 sell.left s) at e)
 
-module _ (rows : List (List ℕ)) (ranked : Ranked (book_of rows)) {middle end : ℕ} (w : Stretches rows middle end) where
+module _ (rows : List Order) (ranked : Ranked rows) {middle end : ℕ} (w : Stretches rows middle end) where
   abbrev book : List Order
-  book = book_of rows
+  book = rows
 
   ranged_buys : (at : ℕ) → Each InRange (line at middle rows)
   unfolding line

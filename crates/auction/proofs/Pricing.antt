@@ -8,7 +8,6 @@ use lib.ListN.{length, get_or}
 use Rattle.model.specs.declared.Order.{Order}
 use Rattle.model.specs.Book.{queue}
 use Rattle.model.specs.Auction.{distance, qualifying, left_by}
-use Rattle.book.specs.Rows.{book_of}
 use Rattle.book.specs.Standing.{Ranked}
 use Rattle.book.specs.Lines.{line}
 use Rattle.auction.specs.declared.Span.{Span}
@@ -25,12 +24,12 @@ unfolding gap distance
 gap_bound os p r = omega (arith, demand_bound os p r, supply_bound os p r)
 
 module _
-    (rows : List (List ℕ)) (ranked : Ranked (book_of rows)) {middle end : ℕ}
-    (em : middle ≡ length (queue 0 (book_of rows))) (en : end ≡ length (queue 0 (book_of rows)) + length (queue 1 (book_of rows)))
+    (rows : List Order) (ranked : Ranked rows) {middle end : ℕ}
+    (em : middle ≡ length (queue 0 rows)) (en : end ≡ length (queue 0 rows) + length (queue 1 rows))
     {stop : Stop} (k : StopOf rows middle end stop) {s : Span} (e : s ≡ span_of stop.crossed stop.buy stop.sell)
   where
     abbrev book : List Order
-    book = book_of rows
+    book = rows
 
     span_is : s ≡ ends (qualifying book)
     span_is = e ∙ k.span

@@ -14,10 +14,9 @@ use lib.ListN.{length, get_or, drop, drop_of_length-le}
 use lib.Seq.{drop-cons}
 use lib.Dec.{leb, ltb, eqb, leb-suc-suc}
 use Rattle.model.specs.declared.Order.{Order}
-use Rattle.model.specs.Book.{stands_on}
+use Rattle.model.specs.Book.{stands_on, free}
 use Rattle.model.specs.Matching.{meets}
 use Rattle.model.specs.Auction.{demand, supply, volume, buys_above, sells_below, buys_at, sells_at}
-use Rattle.book.specs.Rows.{order_of, book_of}
 use Rattle.book.specs.Standing.{Fair, Standing, Ranked}
 use Rattle.book.proofs.Queues.{on_live}
 use Rattle.auction.specs.declared.Interest.{Interest}
@@ -159,27 +158,27 @@ supply_bottom os s = shares_none (λ o. stands_on 1 o && leb o.price 0) none os 
         (true_or_false (stands_on 1 o && leb o.price 0))
 
 -- ---- the pass: what is added up so far, with what the rest of the book brings, is the whole
-pub record Passed (rows : List (List ℕ)) (least most demand supply i : ℕ) : Type 0 where
+pub record Passed (rows : List Order) (least most demand supply i : ℕ) : Type 0 where
   pub within : i ≤ length rows
-  pub buys : demand + interest (book_of (drop i rows)) 0 least ≡ interest (book_of rows) 0 least
-  pub sells : supply + interest (book_of (drop i rows)) 1 most ≡ interest (book_of rows) 1 most
+  pub buys : demand + interest (drop i rows) 0 least ≡ interest rows 0 least
+  pub sells : supply + interest (drop i rows) 1 most ≡ interest rows 1 most
 
-module _ (rows : List (List ℕ)) (least most : ℕ) where
+module _ (rows : List Order) (least most : ℕ) where
   pub passed_start : Passed rows least most 0 0 0
   passed_start = record { within = omega arith; buys = omega arith; sells = omega arith }
 
   next_row :
       (i side p : ℕ)
       → i < length rows
-      → interest (book_of (drop i rows)) side p ≡ brings side p (order_of (get_or rows i [])) + interest (book_of (drop (i + 1) rows)) side p
+      → interest (drop i rows) side p ≡ brings side p (get_or rows i free) + interest (drop (i + 1) rows) side p
   next_row i side p h =
-      rw (add-one, drop-cons rows i []) (interest_next (order_of (get_or rows i [])) (book_of (drop (suc i) rows)) side p)
+      rw (add-one, drop-cons rows i free) (interest_next (get_or rows i free) (drop (suc i) rows) side p)
 
-  module _ {d s i : ℕ} {o : Order} (k : Passed rows least most d s i) (h : i < length rows) (ho : o ≡ order_of (get_or rows i [])) where
+  module _ {d s i : ℕ} {o : Order} (k : Passed rows least most d s i) (h : i < length rows) (ho : o ≡ get_or rows i free) where
     pub passed_next : {x y : ℕ} → x ≡ brings 0 least o → y ≡ brings 1 most o → Passed rows least most (d + x) (s + y) (i + 1)
     passed_next {x} {y} hx hy =
-        let x' : x ≡ brings 0 least (order_of (get_or rows i [])) = hx ∙ ap (brings 0 least) ho in
-        let y' : y ≡ brings 1 most (order_of (get_or rows i [])) = hy ∙ ap (brings 1 most) ho in
+        let x' : x ≡ brings 0 least (get_or rows i free) = hx ∙ ap (brings 0 least) ho in
+        let y' : y ≡ brings 1 most (get_or rows i free) = hy ∙ ap (brings 1 most) ho in
         record {
           within = omega arith;
           buys = omega (arith, next_row i 0 least h, k.buys);
@@ -187,28 +186,28 @@ module _ (rows : List (List ℕ)) (least most : ℕ) where
         }
 
     -- neither sum wraps
-    pub buys_fit : {x : ℕ} → Ranked (book_of rows) → x ≡ brings 0 least o → d + x ≤ 4_096_000_000
+    pub buys_fit : {x : ℕ} → Ranked rows → x ≡ brings 0 least o → d + x ≤ 4_096_000_000
     buys_fit {x} b hx =
-        let x' : x ≡ brings 0 least (order_of (get_or rows i [])) = hx ∙ ap (brings 0 least) ho in
-        omega (arith, next_row i 0 least h, k.buys, interest_bound (book_of rows) 0 least b)
+        let x' : x ≡ brings 0 least (get_or rows i free) = hx ∙ ap (brings 0 least) ho in
+        omega (arith, next_row i 0 least h, k.buys, interest_bound rows 0 least b)
 
-    pub sells_fit : {y : ℕ} → Ranked (book_of rows) → y ≡ brings 1 most o → s + y ≤ 4_096_000_000
+    pub sells_fit : {y : ℕ} → Ranked rows → y ≡ brings 1 most o → s + y ≤ 4_096_000_000
     sells_fit {y} b hy =
-        let y' : y ≡ brings 1 most (order_of (get_or rows i [])) = hy ∙ ap (brings 1 most) ho in
-        omega (arith, next_row i 1 most h, k.sells, interest_bound (book_of rows) 1 most b)
+        let y' : y ≡ brings 1 most (get_or rows i free) = hy ∙ ap (brings 1 most) ho in
+        omega (arith, next_row i 1 most h, k.sells, interest_bound rows 1 most b)
 
   pub passed_end :
       {d s i : ℕ}
       → Passed rows least most d s i
       → length rows ≤ i
-      → record { demand = d; supply = s } ≡ interest_at (book_of rows) least most
+      → record { demand = d; supply = s } ≡ interest_at rows least most
   unfolding interest_at
   passed_end {d} {s} {i} k h =
-      let none : book_of (drop i rows) ≡ [] = ap book_of (drop_of_length-le rows h) in
-      let b : interest (book_of (drop i rows)) 0 least ≡ 0 = ap (λ l. interest l 0 least) none ∙ interest_end 0 least in
-      let c : interest (book_of (drop i rows)) 1 most ≡ 0 = ap (λ l. interest l 1 most) none ∙ interest_end 1 most in
-      let e : d ≡ demand (book_of rows) least = omega (arith, k.buys, interest_buys (book_of rows) least) in
-      let f : s ≡ supply (book_of rows) most = omega (arith, k.sells, interest_sells (book_of rows) most) in
+      let none : (drop i rows) ≡ [] = drop_of_length-le rows h in
+      let b : interest (drop i rows) 0 least ≡ 0 = ap (λ l. interest l 0 least) none ∙ interest_end 0 least in
+      let c : interest (drop i rows) 1 most ≡ 0 = ap (λ l. interest l 1 most) none ∙ interest_end 1 most in
+      let e : d ≡ demand rows least = omega (arith, k.buys, interest_buys rows least) in
+      let f : s ≡ supply rows most = omega (arith, k.sells, interest_sells rows most) in
       λ j. record { demand = e j; supply = f j }
 
 -- what a pass gives, by its two parts

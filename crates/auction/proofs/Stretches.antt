@@ -6,7 +6,6 @@ use native.Mathlib.Omega.{arith}
 use lib.ListN.{length, take}
 use Rattle.model.specs.declared.Order.{Order}
 use Rattle.model.specs.Book.{queue}
-use Rattle.book.specs.Rows.{book_of}
 use Rattle.model.specs.Words.{Each, Price}
 use Rattle.book.specs.Standing.{Ranked}
 use Rattle.book.specs.Lines.{line}
@@ -16,19 +15,19 @@ use Rattle.book.proofs.Parts.{RankedParts, parts_of, parts_orders}
 use Rattle.book.proofs.Lines.{first_line, second_line, rows_length}
 
 -- the buys stand before `middle`, the sells from there up to `end`
-pub record Stretches (rows : List (List ℕ)) (middle end : ℕ) : Type 0 where
-  pub buys : line 0 middle rows ≡ queue 0 (book_of rows)
-  pub sells : line middle end rows ≡ queue 1 (book_of rows)
-  pub full_buys : Each (λ o. 1 ≤ o.left) (take middle (book_of rows))
-  pub full_sells : Each (λ o. 1 ≤ o.left) (take end (book_of rows))
-  pub priced_buys : Each (λ o. Price o.price) (take middle (book_of rows))
-  pub priced_sells : Each (λ o. Price o.price) (take end (book_of rows))
+pub record Stretches (rows : List Order) (middle end : ℕ) : Type 0 where
+  pub buys : line 0 middle rows ≡ queue 0 rows
+  pub sells : line middle end rows ≡ queue 1 rows
+  pub full_buys : Each (λ o. 1 ≤ o.left) (take middle rows)
+  pub full_sells : Each (λ o. 1 ≤ o.left) (take end rows)
+  pub priced_buys : Each (λ o. Price o.price) (take middle rows)
+  pub priced_sells : Each (λ o. Price o.price) (take end rows)
   pub short_buys : middle ≤ length rows
   pub short_sells : end ≤ length rows
 
-module _ (rows : List (List ℕ)) (ranked : Ranked (book_of rows)) where
+module _ (rows : List Order) (ranked : Ranked rows) where
   abbrev book : List Order
-  book = book_of rows
+  book = rows
 
   parts : RankedParts book
   parts = parts_of book ranked

@@ -10,12 +10,11 @@ use lib.ListN.{length, get_or, take}
 use borrow.Author.Tests.{le-leb}
 use Rattle.model.specs.declared.Order.{Order}
 use Rattle.model.specs.Lists.{keep, total}
-use Rattle.model.specs.Book.{stands_on, ahead, queue}
+use Rattle.model.specs.Book.{stands_on, ahead, queue, free}
 use Rattle.model.specs.Matching.{meets}
 use Rattle.model.specs.Auction.{shares_of}
 use Rattle.model.proofs.Bools.{not_both}
 use Rattle.book.specs.declared.Head.{Head}
-use Rattle.book.specs.Rows.{order_of, book_of}
 use Rattle.model.specs.Words.{Each}
 use Rattle.book.specs.Standing.{Standing, Ranked}
 use Rattle.book.specs.Lines.{line}
@@ -97,7 +96,7 @@ nobody_waits : (at : ℕ) (behind : List Order) → waiting (head_of at []) behi
 unfolding head_of
 nobody_waits at behind = waiting_none (head_of at []) behind (omega arith)
 
-module _ (end : ℕ) (rows : List (List ℕ)) (short : end ≤ length rows) (full : Each (λ o. 1 ≤ o.left) (take end (book_of rows))) where
+module _ (end : ℕ) (rows : List Order) (short : end ≤ length rows) (full : Each (λ o. 1 ≤ o.left) (take end rows)) where
   -- a line goes on with its first order, or has ended
   abbrev pub Goes : ℕ → Type 0
   Goes at =
@@ -110,7 +109,7 @@ module _ (end : ℕ) (rows : List (List ℕ)) (short : end ≤ length rows) (ful
   pub goes : (at : ℕ) → Goes at
   goes at = elim (dec_lt at end) [
     | yes l ↦
-        let o : Order = order_of (get_or rows at []) in
+        let o : Order = get_or rows at free in
         let e : line at end rows ≡ o ∷ line (at + 1) end rows = line_cons at end rows l short refl in
         let f : Each (λ o. 1 ≤ o.left) (o ∷ line (at + 1) end rows) = rw e at (some_left end rows short full at) in
         inr (o, e, first o e f.0)
@@ -174,7 +173,7 @@ module _ (end : ℕ) (rows : List (List ℕ)) (short : end ≤ length rows) (ful
 -- ---- what the walk has taken of a side
 
 -- so many shares are taken, the last of them at the price m; h is the head
-pub record Taken (side : ℕ) (queue : List Order) (end : ℕ) (rows : List (List ℕ)) (shares m : ℕ) (h : Head) : Type 0 where
+pub record Taken (side : ℕ) (queue : List Order) (end : ℕ) (rows : List Order) (shares m : ℕ) (h : Head) : Type 0 where
   pub taken : ℕ → ℕ
   pub adds : (p : ℕ) → reach side p queue ≡ taken p + reach side p (waiting h (line (h.at + 1) end rows))
   pub all : (p : ℕ) → p ≤ 1_000_000 → meets side m p ≡ true → taken p ≡ shares
@@ -182,7 +181,7 @@ pub record Taken (side : ℕ) (queue : List Order) (end : ℕ) (rows : List (Lis
   pub worse : Each (λ x. NoBetter side m x.price) (waiting h (line (h.at + 1) end rows))
   pub falls : Falls side (waiting h (line (h.at + 1) end rows))
 
-module _ (side end : ℕ) (queue : List Order) (rows : List (List ℕ)) (short : end ≤ length rows) (full : Each (λ o. 1 ≤ o.left) (take end (book_of rows))) where
+module _ (side end : ℕ) (queue : List Order) (rows : List Order) (short : end ≤ length rows) (full : Each (λ o. 1 ≤ o.left) (take end rows)) where
   pub taken_start :
       (at m : ℕ) {h : Head}
       → line at end rows ≡ queue
@@ -274,7 +273,7 @@ pub record Stops (side : ℕ) (book : List Order) (shares m : ℕ) (h : Head) : 
   pub at_most : (p : ℕ) → p ≤ 1_000_000 → (0 < h.left → meets side h.price p ≡ false) → interest book side p ≤ shares
   pub above : (p : ℕ) → p ≤ 1_000_000 → 0 < h.left → meets side h.price p ≡ true → shares < interest book side p
 
-module _ (side : ℕ) (book : List Order) (end : ℕ) (rows : List (List ℕ)) {shares m : ℕ} {h : Head} (t : Taken side (queue side book) end rows shares m h) (placed : ((0 < h.left) × (h.at < end)) ⊎ ((h.left ≡ 0) × (end ≤ h.at))) where
+module _ (side : ℕ) (book : List Order) (end : ℕ) (rows : List Order) {shares m : ℕ} {h : Head} (t : Taken side (queue side book) end rows shares m h) (placed : ((0 < h.left) × (h.at < end)) ⊎ ((h.left ≡ 0) × (end ≤ h.at))) where
   abbrev rest : List Order
   rest = waiting h (line (h.at + 1) end rows)
 
@@ -325,7 +324,7 @@ module _ (side : ℕ) (book : List Order) (end : ℕ) (rows : List (List ℕ)) {
 
 -- the shares in all are those of the side
 pub taken_fits :
-    (book : List Order) (end : ℕ) (rows : List (List ℕ)) {shares m : ℕ} {h : Head}
+    (book : List Order) (end : ℕ) (rows : List Order) {shares m : ℕ} {h : Head}
     → Ranked book
     → Taken 0 (queue 0 book) end rows shares m h
     → shares + reach 0 0 (waiting h (line (h.at + 1) end rows)) ≤ 4_096_000_000
@@ -334,7 +333,7 @@ taken_fits book end rows {shares} {m} {h} r t =
     omega (arith, interest_reach book 0 0, t.adds 0, t.all 0 (omega arith) e, interest_bound book 0 0 r)
 
 pub head_reach :
-    (end : ℕ) (rows : List (List ℕ)) (h : Head)
+    (end : ℕ) (rows : List Order) (h : Head)
     → 0 < h.left
     → h.left ≤ reach 0 0 (waiting h (line (h.at + 1) end rows))
 head_reach end rows h l =
@@ -346,7 +345,7 @@ head_reach end rows h l =
 
 -- a turn takes its shares from what is still to come
 pub reach_falls :
-    (end : ℕ) (rows : List (List ℕ)) (short : end ≤ length rows) (full : Each (λ o. 1 ≤ o.left) (take end (book_of rows)))
+    (end : ℕ) (rows : List Order) (short : end ≤ length rows) (full : Each (λ o. 1 ≤ o.left) (take end rows))
     {queue : List Order} {shares m : ℕ} {h h' : Head} {q : ℕ}
     → Taken 0 queue end rows shares m h
     → 0 < h.left

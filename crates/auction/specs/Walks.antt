@@ -5,7 +5,6 @@ use Rattle.model.specs.Lists.{total}
 use Rattle.model.specs.Matching.{meets}
 use Rattle.model.specs.Auction.{demand, supply, volume, qualifying}
 use Rattle.book.specs.declared.Head.{Head}
-use Rattle.book.specs.Rows.{book_of}
 use Rattle.book.specs.Lines.{line}
 use Rattle.auction.specs.declared.Crossed.{Crossed}
 use Rattle.auction.specs.declared.Span.{Span}
@@ -43,22 +42,22 @@ unfoldable pub left_at : ℕ → Head → List Order → ℕ
 left_at p h os = if eqb h.left 0 then 0 else if eqb h.price p then h.left + run_of p os else 0
 
 -- where the walk has ended, at a price: what has traded is the volume, and with what is left there of a side it is all of that side
-pub record FillsAt (rows : List (List ℕ)) (middle end : ℕ) (s : Stop) (p : ℕ) : Type 0 where
-  pub trades : s.crossed.shares ≡ volume (book_of rows) p
-  pub buys : s.crossed.shares + left_at p s.buy (line (s.buy.at + 1) middle rows) ≡ demand (book_of rows) p
-  pub sells : s.crossed.shares + left_at p s.sell (line (s.sell.at + 1) end rows) ≡ supply (book_of rows) p
+pub record FillsAt (rows : List Order) (middle end : ℕ) (s : Stop) (p : ℕ) : Type 0 where
+  pub trades : s.crossed.shares ≡ volume rows p
+  pub buys : s.crossed.shares + left_at p s.buy (line (s.buy.at + 1) middle rows) ≡ demand rows p
+  pub sells : s.crossed.shares + left_at p s.sell (line (s.sell.at + 1) end rows) ≡ supply rows p
 
 -- the walk's end: the span of the qualifying prices, and what is left at its ends is the difference there
-pub record StopOf (rows : List (List ℕ)) (middle end : ℕ) (s : Stop) : Type 0 where
-  pub span : span_of s.crossed s.buy s.sell ≡ ends (qualifying (book_of rows))
+pub record StopOf (rows : List Order) (middle end : ℕ) (s : Stop) : Type 0 where
+  pub span : span_of s.crossed s.buy s.sell ≡ ends (qualifying rows)
   pub low :
       (span_of s.crossed s.buy s.sell).lo < (span_of s.crossed s.buy s.sell).hi
       → left_at (span_of s.crossed s.buy s.sell).lo s.buy (line (s.buy.at + 1) middle rows)
-      ≡ gap (book_of rows) (span_of s.crossed s.buy s.sell).lo
+      ≡ gap rows (span_of s.crossed s.buy s.sell).lo
   pub high :
       (span_of s.crossed s.buy s.sell).lo < (span_of s.crossed s.buy s.sell).hi
       → left_at (span_of s.crossed s.buy s.sell).hi s.sell (line (s.sell.at + 1) end rows)
-      ≡ gap (book_of rows) (span_of s.crossed s.buy s.sell).hi
+      ≡ gap rows (span_of s.crossed s.buy s.sell).hi
   pub fills :
       (p : ℕ)
       → 1 ≤ p

@@ -1,7 +1,6 @@
 // Demand and supply at a price: one pass over the book.
 ghost use Rattle.std.specs.Prelude.{◌≡◌};
 ghost use Rattle.model.specs.Auction.{volume};
-ghost use Rattle.book.specs.Rows.{book_of};
 ghost use Rattle.book.specs.Standing.{Ranked};
 ghost use Rattle.auction.specs.Interest.{brings, interest_at};
 
@@ -32,9 +31,9 @@ fn shares_at(o: Order, side: u64, p: u64) -> u64
 }
 
 // All buys at `least` or above, and all sells at `most` or below.
-pub fn interest_at(rows: &[[u64; 5]], least: u64, most: u64) -> Interest
-    requires { Ranked (book_of rows.now) }
-    ensures { result ≡ interest_at (book_of rows.now) least most }
+pub fn interest_at(rows: &[Order], least: u64, most: u64) -> Interest
+    requires { Ranked rows.now }
+    ensures { result ≡ interest_at rows.now least most }
 {
     let mut demand: u64 = 0;
     let mut supply: u64 = 0;
@@ -49,9 +48,9 @@ pub fn interest_at(rows: &[[u64; 5]], least: u64, most: u64) -> Interest
 }
 
 // What can trade at p: the smaller of the two.
-pub fn volume_at(rows: &[[u64; 5]], p: u64) -> u64
-    requires { Ranked (book_of rows.now) }
-    ensures { result ≡ volume (book_of rows.now) p }
+pub fn volume_at(rows: &[Order], p: u64) -> u64
+    requires { Ranked rows.now }
+    ensures { result ≡ volume rows.now p }
 {
     let both = interest_at(rows, p, p);
     smaller(both.demand, both.supply)

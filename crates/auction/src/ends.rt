@@ -1,7 +1,6 @@
 // The prices that qualify, by the two ends of their span, where the walk along both sides has ended.
 ghost use Rattle.std.specs.Prelude.{◌≡◌};
 ghost use Rattle.model.specs.Auction.{qualifying};
-ghost use Rattle.book.specs.Rows.{book_of};
 ghost use Rattle.book.specs.Standing.{Ranked};
 ghost use Rattle.auction.specs.Spans.{ends};
 ghost use Rattle.auction.specs.Walks as walks;
@@ -11,6 +10,7 @@ use crate::walk::walk;
 use crate::{Crossed, Span};
 use book::Head;
 use book::seats::{free_from, sells_from};
+use model::Order;
 
 // The price or, where it is higher, that of the head.
 fn higher(p: u64, h: Head) -> u64
@@ -46,9 +46,9 @@ pub fn span_at(c: Crossed, buy: Head, sell: Head) -> Span
 }
 
 // The first and the last price that qualifies, 0 and 0 where none does: those between them qualify too.
-pub fn span_of(rows: &[[u64; 5]]) -> Span
-    requires { Ranked (book_of rows.now) }
-    ensures { result ≡ ends (qualifying (book_of rows.now)) }
+pub fn span_of(rows: &[Order]) -> Span
+    requires { Ranked rows.now }
+    ensures { result ≡ ends (qualifying rows.now) }
 {
     let middle = sells_from(rows);
     let end = free_from(rows);

@@ -1,7 +1,6 @@
 // What the auction would come to: price, volume and signed surplus, from one walk along both sides.
 ghost use Rattle.std.specs.Prelude.{◌≡◌, get_or};
 ghost use Rattle.model.specs.Auction.{left_by};
-ghost use Rattle.book.specs.Rows.{book_of};
 ghost use Rattle.book.specs.Standing.{Ranked};
 ghost use Rattle.auction.specs.Fixings.{fixing_at};
 
@@ -10,11 +9,12 @@ use crate::price::{left_at, price_at};
 use crate::report::surplus_of;
 use crate::walk::walk;
 use book::seats::{free_from, sells_from};
+use model::Order;
 
 // Zeros where no price qualifies.
-pub fn fixing_of(rows: &[[u64; 5]], reference: u64) -> Fixing
-    requires { Ranked (book_of rows.now) }
-    ensures { result ≡ fixing_at (get_or (left_by (book_of rows.now) reference) 0 0) (book_of rows.now) }
+pub fn fixing_of(rows: &[Order], reference: u64) -> Fixing
+    requires { Ranked rows.now }
+    ensures { result ≡ fixing_at (get_or (left_by rows.now reference) 0 0) rows.now }
 {
     let middle = sells_from(rows);
     let end = free_from(rows);

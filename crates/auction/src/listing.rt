@@ -2,12 +2,12 @@
 ghost use Rattle.std.specs.Prelude.{◌≡◌, ◌++◌, ◌+◌, ◌-◌, ◌≤◌, length, drop};
 ghost use Rattle.model.specs.Lists.{from};
 ghost use Rattle.model.specs.AuctionCalls.{due};
-ghost use Rattle.book.specs.Rows.{book_of};
 ghost use Rattle.book.specs.Standing.{Ranked};
 ghost use Rattle.auction.specs.Fitting.{run_within};
 
 use crate::Run;
 use crate::ends::span_of;
+use model::Order;
 
 // The prices from the first to hi, as many as there are places for.
 fn run_between(first: u64, hi: u64, places: usize) -> Run
@@ -30,9 +30,9 @@ fn run_between(first: u64, hi: u64, places: usize) -> Run
 }
 
 // Which prices a list of so many places is given.
-pub fn run_of(rows: &[[u64; 5]], places: usize, asked: u64) -> Run
-    requires { Ranked (book_of rows.now) }
-    ensures { result ≡ run_within places (due asked (book_of rows.now)) }
+pub fn run_of(rows: &[Order], places: usize, asked: u64) -> Run
+    requires { Ranked rows.now }
+    ensures { result ≡ run_within places (due asked rows.now) }
 {
     let span = span_of(rows);
     let lo = span.lo;

@@ -2,7 +2,6 @@
 ghost use Rattle.std.specs.Prelude.{◌≡◌, ◌+◌, ◌≤◌, ◌<◌, length, get_or};
 ghost use Rattle.model.specs.Auction.{left_by};
 ghost use Rattle.model.specs.Book.{queue};
-ghost use Rattle.book.specs.Rows.{book_of};
 ghost use Rattle.book.specs.Standing.{Ranked};
 ghost use Rattle.book.specs.Lines.{line};
 ghost use Rattle.auction.specs.Spans.{flatter_by, beside_of, nearest_in};
@@ -14,9 +13,10 @@ use crate::tiers::run_from;
 use crate::walk::walk;
 use book::Head;
 use book::seats::{free_from, sells_from};
+use model::Order;
 
 // What is left at price p of a side of which nobody is left at a better price: the head and those right behind it.
-pub fn left_at(rows: &[[u64; 5]], end: usize, h: Head, p: u64) -> u64
+pub fn left_at(rows: &[Order], end: usize, h: Head, p: u64) -> u64
     requires end_in_bounds { end ≤ length rows.now }
     requires at_lt_end { 0 < h.left → h.at < end }
     requires rows_bound { left_at p h (line (h.at + 1) end rows.now) ≤ 4_096_000_000 }
@@ -61,12 +61,12 @@ fn nearest(reference: u64, a: u64, b: u64) -> u64
 }
 
 // Where the walk has ended, the price that the two tie rules leave, 0 where none qualifies: a look at who is left at an end.
-pub fn price_at(rows: &[[u64; 5]], middle: usize, end: usize, stop: Stop, reference: u64) -> u64
-    requires ranked { Ranked (book_of rows.now) }
-    requires middle_value { middle ≡ length (queue 0 (book_of rows.now)) }
-    requires end_value { end ≡ length (queue 0 (book_of rows.now)) + length (queue 1 (book_of rows.now)) }
+pub fn price_at(rows: &[Order], middle: usize, end: usize, stop: Stop, reference: u64) -> u64
+    requires ranked { Ranked rows.now }
+    requires middle_value { middle ≡ length (queue 0 rows.now) }
+    requires end_value { end ≡ length (queue 0 rows.now) + length (queue 1 rows.now) }
     requires stop_of { StopOf rows.now middle end stop }
-    ensures { result ≡ get_or (left_by (book_of rows.now) reference) 0 0 }
+    ensures { result ≡ get_or (left_by rows.now reference) 0 0 }
 {
     let c = stop.crossed;
     let buy = stop.buy;
@@ -87,9 +87,9 @@ pub fn price_at(rows: &[[u64; 5]], middle: usize, end: usize, stop: Stop, refere
 }
 
 // The auction's price, 0 where none qualifies: one walk along both sides.
-pub fn auction_price(rows: &[[u64; 5]], reference: u64) -> u64
-    requires { Ranked (book_of rows.now) }
-    ensures { result ≡ get_or (left_by (book_of rows.now) reference) 0 0 }
+pub fn auction_price(rows: &[Order], reference: u64) -> u64
+    requires { Ranked rows.now }
+    ensures { result ≡ get_or (left_by rows.now reference) 0 0 }
 {
     let middle = sells_from(rows);
     let end = free_from(rows);

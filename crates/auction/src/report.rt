@@ -2,12 +2,11 @@
 ghost use Rattle.std.specs.Prelude.{◌≡◌, ◌≤◌};
 ghost use Rattle.std.proofs.Math.IntN.{sub_ℕ};
 ghost use Rattle.model.specs.AuctionCalls.{report_at};
-ghost use Rattle.book.specs.Rows.{book_of};
 ghost use Rattle.book.specs.Standing.{Ranked};
 
 use crate::depth::interest_at;
 use book::smaller;
-use model::ReportReply;
+use model::{Order, ReportReply};
 
 // Demand minus supply.
 pub fn surplus_of(demand: u64, supply: u64) -> i64
@@ -18,9 +17,9 @@ pub fn surplus_of(demand: u64, supply: u64) -> i64
 }
 
 // The report at the price that the auction would have; all zero at 0, where nothing qualifies.
-pub fn report_at(rows: &[[u64; 5]], price: u64) -> ReportReply
-    requires { Ranked (book_of rows.now) }
-    ensures { result ≡ report_at price (book_of rows.now) }
+pub fn report_at(rows: &[Order], price: u64) -> ReportReply
+    requires { Ranked rows.now }
+    ensures { result ≡ report_at price rows.now }
 {
     if price == 0 {
         return ReportReply::Priced {

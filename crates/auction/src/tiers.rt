@@ -5,9 +5,10 @@ ghost use Rattle.auction.specs.Tiers.{run_of, tier_from};
 
 use crate::Tier;
 use book::order_at;
+use model::Order;
 
 // The orders from a place on, up to the end of their side, for as long as they stand at price p.
-pub fn run_from(rows: &[[u64; 5]], from: usize, end: usize, p: u64) -> Tier
+pub fn run_from(rows: &[Order], from: usize, end: usize, p: u64) -> Tier
     requires end_in_bounds { end ≤ length rows.now }
     requires rows_bound { run_of p (line from end rows.now) ≤ 4_096_000_000 }
     ensures { result ≡ tier_from from p (line from end rows.now) }

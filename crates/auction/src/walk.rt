@@ -1,7 +1,6 @@
 // One walk along both sides of the book, from the best of each on: the heads trade with each other while the buy reaches the sell.
 ghost use Rattle.std.specs.Prelude.{◌≡◌, ◌+◌, ◌<◌, ◌^◌, length};
 ghost use Rattle.model.specs.Book.{queue};
-ghost use Rattle.book.specs.Rows.{book_of};
 ghost use Rattle.book.specs.Standing.{Ranked};
 ghost use Rattle.auction.specs.Walks as walks;
 ghost use Rattle.auction.specs.Walks.{crossed_by, StopOf};
@@ -9,6 +8,7 @@ ghost use Rattle.auction.specs.Walks.{crossed_by, StopOf};
 use crate::{Crossed, Stop};
 use book::heads::{head_at, head_past};
 use book::{Head, smaller};
+use model::Order;
 
 // Do the heads trade with each other?
 fn crossing(buy: Head, sell: Head) -> bool
@@ -38,10 +38,10 @@ fn crossed_by(c: Crossed, q: u64, buy: u64, sell: u64) -> Crossed
 const ABOVE_ALL: u64 = 1_000_000;
 
 // The sells start at `middle` and end at `end`.
-pub fn walk(rows: &[[u64; 5]], middle: usize, end: usize) -> Stop
-    requires ranked { Ranked (book_of rows.now) }
-    requires middle_value { middle ≡ length (queue 0 (book_of rows.now)) }
-    requires end_value { end ≡ length (queue 0 (book_of rows.now)) + length (queue 1 (book_of rows.now)) }
+pub fn walk(rows: &[Order], middle: usize, end: usize) -> Stop
+    requires ranked { Ranked rows.now }
+    requires middle_value { middle ≡ length (queue 0 rows.now) }
+    requires end_value { end ≡ length (queue 0 rows.now) + length (queue 1 rows.now) }
     ensures { StopOf rows.now middle end result }
 {
     let mut buy = head_at(rows, 0, middle);

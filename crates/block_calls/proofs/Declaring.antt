@@ -20,12 +20,10 @@ use Rattle.model.specs.Refusals.{first_of, unsound}
 use Rattle.model.specs.Calls.{written}
 use Rattle.model.specs.BlockCalls.{block_trades, block_rules, block_entered, block_call}
 use Rattle.model.proofs.Bools.{not_both}
-use Rattle.book.specs.Rows.{declaration_of, declaration_row, held_of, trade_of, trade_row, trades_of}
 use Rattle.book.specs.Promises.{block_left, block_refused}
 use Rattle.book.proofs.Lists.{each_at}
 use Rattle.book.proofs.Written.{sets_fitted, fitted_written}
 use Rattle.declarations.specs.Declared.{WellFormed}
-use Rattle.declarations.proofs.Memory.{held_at, held_set}
 use Rattle.blocks.specs.Ready.{BlocksReady}
 use Rattle.held.specs.Meeting.{asking, earliest, joining, meeting}
 use Rattle.held.proofs.Holding.{not_full}
@@ -35,6 +33,7 @@ use Rattle.blocks.proofs.Entered.{stands_behind, two_leave}
 use Rattle.block_entries.specs.Entries.{held_answer, confirmed_answer, Taken}
 use Rattle.block_calls.proofs.Refusing.{asked_well, block_lacks, block_none}
 use Rattle.blocks.proofs.Newcomers.{new_number, new_formed, declaring_it, new_later, early_trades, late_trades}
+use Rattle.model.specs.Book.{free}
 
 -- no trades leave the figures
 tally_none : (d : Day) → tally_blocks [] d ≡ d
@@ -44,23 +43,22 @@ tally_none d = rw (add-zero d.blocks.shares)
 -- ---- the partner
 
 pub fits_there :
-    (x : Declaration) (rows : List (List ℕ)) {place : ℕ}
-    → place ≡ earliest x (held_of rows)
+    (x : Declaration) (rows : List Declaration) {place : ℕ}
+    → place ≡ earliest x rows
     → place < length rows
-    → fits x (declaration_of (get_or rows place [])) ≡ true
+    → fits x (get_or rows place undeclared) ≡ true
 fits_there x rows {place} p h =
-    ap (fits x) (held_at rows place)
-    ∙ ap (λ n. fits x (get_or (held_of rows) n undeclared)) p
-    ∙ earliest_fits x (held_of rows) (omega (arith, length-map rows declaration_of))
+    ap (λ n. fits x (get_or rows n undeclared)) p
+    ∙ earliest_fits x rows (omega arith)
 
 -- ---- the outcomes
 
-module _ (d : Day) (a : AskedBlock) (main : List Order) (rows trades : List (List ℕ)) where
+module _ (d : Day) (a : AskedBlock) (main : List Order) (rows : List Declaration) (trades : List Trade) where
   abbrev held : List Declaration
-  held = held_of rows
+  held = rows
 
   abbrev lent : List Trade
-  lent = trades_of trades
+  lent = trades
 
   abbrev refusal : ℕ
   refusal = first_of (block_rules d a main held (length lent))
@@ -76,9 +74,9 @@ module _ (d : Day) (a : AskedBlock) (main : List Order) (rows trades : List (Lis
   -- ---- held
 
   held_entered :
-      (rows' : List (List ℕ))
+      (rows' : List Declaration)
       → block_trades d a held ≡ []
-      → held_of rows' ≡ held_in (length held) (unnamed [] (keep is_held held ++ (asking d a ∷ [])))
+      → rows' ≡ held_in (length held) (unnamed [] (keep is_held held ++ (asking d a ∷ [])))
       → block_left (held_answer d) rows' trades ≡ block_entered d a held lent
   unfolding block_entered held_answer written
   held_entered rows' t g = rw (t, tally_none (issue_block d), g, declaring_it d a held)
@@ -86,42 +84,38 @@ module _ (d : Day) (a : AskedBlock) (main : List Order) (rows trades : List (Lis
   -- ---- confirmed
 
   confirmed_entered :
-      (rows' trades' : List (List ℕ)) (y : Declaration)
+      (rows' : List Declaration) (trades' : List Trade) (y : Declaration)
       → block_trades d a held ≡ joining (asking d a) y ∷ []
-      → held_of rows' ≡ held_in (length held) (unnamed (joining (asking d a) y ∷ []) (keep is_held held ++ (asking d a ∷ [])))
-      → trades_of trades' ≡ written (joining (asking d a) y ∷ []) lent
+      → rows' ≡ held_in (length held) (unnamed (joining (asking d a) y ∷ []) (keep is_held held ++ (asking d a ∷ [])))
+      → trades' ≡ written (joining (asking d a) y ∷ []) lent
       → block_left (confirmed_answer d (asking d a) y) rows' trades' ≡ block_entered d a held lent
   unfolding block_entered confirmed_answer
   confirmed_entered rows' trades' y t g w = rw (t, g, w, declaring_it d a held)
 
   module _ (u : unsound d main ≡ false) (r : BlocksReady d held) {free : ℕ} (k : Taken d a held free) where
-    many : length lent ≡ length trades
-    many = length-map trades trade_of
-
     some_left : d.blocks.issued ≡ 999_999 → ⊥
     some_left e = omega (arith, k.number)
 
     -- it is put at the first free place
-    put_behind : {rows' : List (List ℕ)} → rows' ≡ set rows free (declaration_row (asking d a)) → held_of rows' ≡ held_in (length held) (unnamed [] (keep is_held held ++ (asking d a ∷ [])))
+    put_behind : {rows' : List Declaration} → rows' ≡ set rows free (asking d a) → rows' ≡ held_in (length held) (unnamed [] (keep is_held held ++ (asking d a ∷ [])))
     put_behind g =
-        ap held_of g
-        ∙ held_set rows free (asking d a)
+        g
         ∙ ap (λ n. set held n (asking d a)) k.place
         ∙ sym (stands_behind held r.declared (asking d a) (new_number d a) (new_later d a held r) (omega (arith, k.place, k.room)))
 
     held_outcome :
-        (rows' : List (List ℕ))
+        (rows' : List Declaration)
         → block_trades d a held ≡ []
-        → rows' ≡ set rows free (declaration_row (asking d a))
+        → rows' ≡ set rows free (asking d a)
         → block_left (held_answer d) rows' trades ≡ block_call d a main held lent
     held_outcome rows' t g =
         held_entered rows' t (put_behind g)
         ∙ entered (block_none d a main held (length lent) u r.sound k.asked (not_full held k.place k.room) some_left (omega (arith, ap length t)))
 
     pub held_early :
-        (rows' : List (List ℕ))
+        (rows' : List Declaration)
         → d.time < 54_000
-        → rows' ≡ set rows free (declaration_row (asking d a))
+        → rows' ≡ set rows free (asking d a)
         → block_left (held_answer d) rows' trades ≡ block_call d a main held lent
     held_early rows' h g = held_outcome rows' (early_trades d a held r h) g
 
@@ -130,55 +124,53 @@ module _ (d : Day) (a : AskedBlock) (main : List Order) (rows trades : List (Lis
       met = late_trades d a held r (asked_well d a k.asked) k.number late
 
       pub held_late :
-          (rows' : List (List ℕ))
+          (rows' : List Declaration)
           → length rows ≤ place
-          → rows' ≡ set rows free (declaration_row (asking d a))
+          → rows' ≡ set rows free (asking d a)
           → block_left (held_answer d) rows' trades ≡ block_call d a main held lent
       held_late rows' h g =
           held_outcome rows'
-          (met ∙ meets_none (asking d a) held (fits_none (asking d a) held (omega (arith, length-map rows declaration_of))))
+          (met ∙ meets_none (asking d a) held (fits_none (asking d a) held (omega arith)))
           g
 
       module _ (h : place < length rows) where
         inside : earliest (asking d a) held < length held
-        inside = omega (arith, length-map rows declaration_of)
+        inside = omega arith
 
-        one : block_trades d a held ≡ joining (asking d a) (declaration_of (get_or rows place [])) ∷ []
+        one : block_trades d a held ≡ joining (asking d a) (get_or rows place undeclared) ∷ []
         one =
             met
             ∙ meets_one (asking d a) held inside
             ∙ ap (λ n. joining (asking d a) (get_or held n undeclared) ∷ []) (sym p)
-            ∙ ap (λ (y : Declaration). joining (asking d a) y ∷ []) (sym (held_at rows place))
 
         pub lacks_room : length trades ≡ 0 → 13 ≡ refusal
         lacks_room z =
-            block_lacks d a main held (length lent) u r.sound k.asked (not_full held k.place k.room) some_left (omega (arith, ap length one, many))
+            block_lacks d a main held (length lent) u r.sound k.asked (not_full held k.place k.room) some_left (omega (arith, ap length one))
 
         -- the partner is held: a free place has no price
         partner_held : (get_or held place undeclared).number ≡ 0 → ⊥
         partner_held z =
             let w = new_formed d a (asked_well d a k.asked) k.number in
-            let f = each_at WellFormed held undeclared r.declared.formed place (omega (arith, length-map rows declaration_of)) in
-            not_both (ap (fits (asking d a)) (sym (held_at rows place)) ∙ fits_there (asking d a) rows p h)
+            let f = each_at WellFormed held undeclared r.declared.formed place (omega arith) in
+            not_both (fits_there (asking d a) rows p h)
             (unfit_free (asking d a) (get_or held place undeclared) (w.priced (new_number d a)) f z)
 
         pub confirmed_outcome :
-            (rows' trades' : List (List ℕ))
+            (rows' : List Declaration) (trades' : List Trade)
             → (length trades ≡ 0 → ⊥)
-            → trades' ≡ set trades 0 (trade_row (joining (asking d a) (declaration_of (get_or rows place []))))
-            → held_of rows' ≡ take place held ++ (drop (place + 1) held ++ (undeclared ∷ []))
-            → block_left (confirmed_answer d (asking d a) (declaration_of (get_or rows place []))) rows' trades'
+            → trades' ≡ set trades 0 (joining (asking d a) (get_or rows place undeclared))
+            → rows' ≡ take place held ++ (drop (place + 1) held ++ (undeclared ∷ []))
+            → block_left (confirmed_answer d (asking d a) (get_or rows place undeclared)) rows' trades'
             ≡ block_call d a main held lent
         confirmed_outcome rows' trades' n w g =
-            let t : Trade = joining (asking d a) (declaration_of (get_or rows place [])) in
+            let t : Trade = joining (asking d a) (get_or rows place undeclared) in
             let some : 1 ≤ length trades = omega (arith, n) in
-            let left : held_of rows' ≡ held_in (length held) (unnamed (t ∷ []) (keep is_held held ++ (asking d a ∷ []))) =
+            let left : rows' ≡ held_in (length held) (unnamed (t ∷ []) (keep is_held held ++ (asking d a ∷ []))) =
             g
             ∙ sym
-            (ap (λ (y : Declaration). held_in (length held) (unnamed (joining (asking d a) y ∷ []) (keep is_held held ++ (asking d a ∷ [])))) (held_at rows place)
-            ∙ two_leave held r.declared (asking d a) (new_number d a) (new_later d a held r) place (omega (arith, length-map rows declaration_of)) partner_held) in
-            confirmed_entered rows' trades' (declaration_of (get_or rows place [])) one left
-            (ap trades_of (w ∙ sets_fitted (trade_row t ∷ []) trades) ∙ fitted_written (t ∷ []) trades some)
+            (two_leave held r.declared (asking d a) (new_number d a) (new_later d a held r) place (omega arith) partner_held) in
+            confirmed_entered rows' trades' (get_or rows place undeclared) one left
+            ((w ∙ sets_fitted (t ∷ []) trades) ∙ fitted_written (t ∷ []) trades some)
             ∙ entered
             (block_none d a main held (length lent) u r.sound k.asked (not_full held k.place k.room) some_left
-            (omega (arith, ap length one, many)))
+            (omega (arith, ap length one)))

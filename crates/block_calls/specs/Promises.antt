@@ -5,13 +5,11 @@ use Rattle.model.specs.declared.AskedBlock.{AskedBlock}
 use Rattle.model.specs.declared.Day.{Day}
 use Rattle.model.specs.declared.BlockAnswer.{BlockAnswer}
 use Rattle.model.specs.BlockCalls.{block_call}
-use Rattle.book.specs.Rows.{book_of, held_of, trades_of}
 use Rattle.book.specs.Promises.{block_left}
+use Rattle.model.specs.declared.Order.{Order}
+use Rattle.model.specs.declared.Trade.{Trade}
+use Rattle.model.specs.declared.Declaration.{Declaration}
 
--- the rows of a book, of declarations or of a trade list
-abbrev pub Rows : Type 0
-Rows = List (List ℕ)
-
-abbrev pub BlockPromise : Day → Rows → Rows → Rows → AskedBlock → BlockAnswer → Rows → Rows → Type 0
+abbrev pub BlockPromise : Day → List Order → List Declaration → List Trade → AskedBlock → BlockAnswer → List Declaration → List Trade → Type 0
 BlockPromise d main rows trades a answer rows' trades' =
-    block_left answer rows' trades' ≡ block_call d a (book_of main) (held_of rows) (trades_of trades)
+    block_left answer rows' trades' ≡ block_call d a main rows trades

@@ -6,31 +6,33 @@ ghost use Rattle.std.specs.Prelude.{◌≡◌, false, List};
 ghost use Rattle.model.specs.declared.Order.{Order};
 ghost use Rattle.model.specs.Refusals.{unsound};
 ghost use Rattle.model.specs.BlockCalls.{block_call};
-ghost use Rattle.book.specs.Rows.{held_of, trades_of};
 ghost use Rattle.book.specs.Promises.{block_left};
 ghost use Rattle.blocks.specs.Ready.{BlocksReady};
 ghost use Rattle.block_entries.specs.Entries.{Taken};
 ghost use Rattle.block_calls.specs.Promises.{BlockPromise};
+ghost use Rattle.model.specs.Book.{free};
 
 use block_entries::checks::asked_refusal;
 use block_entries::entries::{block_refused, confirm, declaration_of, hold};
 use blocks::blocks_sound;
 use held::entering::{count_held, earliest_fit};
-use model::{AskedBlock, BlockAnswer, CONFIRMING_FROM, Day, LAST_NUMBER};
+use model::{
+    AskedBlock, BlockAnswer, CONFIRMING_FROM, Day, Declaration, LAST_NUMBER, Order, Trade,
+};
 use soundness::is_sound;
 
 // A declaration that no rule refuses before the lent list is looked at: until 15:00 it is only held, and from then on where it fits
 // nobody.
 fn enter(
     d: Day,
-    rows: &mut [[u64; 7]],
-    trades: &mut [[u64; 6]],
+    rows: &mut [Declaration],
+    trades: &mut [Trade],
     a: AskedBlock,
     free: usize,
 ) -> BlockAnswer
-    requires blocks_ready { BlocksReady d (held_of rows.old) }
-    requires taken { Taken d a (held_of rows.old) free }
-    ensures { (main : List Order) → unsound d main ≡ false → block_left result rows.new trades.new ≡ block_call d a main (held_of rows.old) (trades_of trades.old) }
+    requires blocks_ready { BlocksReady d rows.old }
+    requires taken { Taken d a rows.old free }
+    ensures { (main : List Order) → unsound d main ≡ false → block_left result rows.new trades.new ≡ block_call d a main rows.old trades.old }
 {
     let x = declaration_of(d, a);
     if d.time < CONFIRMING_FROM {
@@ -50,12 +52,12 @@ fn enter(
 // On a day and with declarations that its caller has shown to be sound: they are not tested again.
 pub fn declare_sound(
     d: Day,
-    rows: &mut [[u64; 7]],
-    trades: &mut [[u64; 6]],
+    rows: &mut [Declaration],
+    trades: &mut [Trade],
     a: AskedBlock,
 ) -> BlockAnswer
-    requires { BlocksReady d (held_of rows.old) }
-    ensures { (main : List Order) → unsound d main ≡ false → block_left result rows.new trades.new ≡ block_call d a main (held_of rows.old) (trades_of trades.old) }
+    requires { BlocksReady d rows.old }
+    ensures { (main : List Order) → unsound d main ≡ false → block_left result rows.new trades.new ≡ block_call d a main rows.old trades.old }
 {
     let refusal = asked_refusal(d, a);
     if refusal != 0 {
@@ -75,9 +77,9 @@ pub fn declare_sound(
 
 pub fn declare_call(
     d: Day,
-    main: &[[u64; 5]],
-    rows: &mut [[u64; 7]],
-    trades: &mut [[u64; 6]],
+    main: &[Order],
+    rows: &mut [Declaration],
+    trades: &mut [Trade],
     a: AskedBlock,
 ) -> BlockAnswer
     ensures { BlockPromise d main.now rows.old trades.old a result rows.new trades.new }

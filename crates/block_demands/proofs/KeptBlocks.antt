@@ -39,6 +39,7 @@ use Rattle.block_demands.proofs.Lining.{held_line, lined_held, coming, declaring
 use Rattle.block_demands.proofs.Allowed.{Allowed, coming_declares}
 use Rattle.block_demands.proofs.Members.{total_behind}
 use Rattle.block_demands.proofs.Settling.{same_places, after_length, after_each, after_arrived, after_none_held, after_none_fit, after_shares, after_held, lapsed_length, lapsed_none, none_arrived, none_places, none_fit, none_shares}
+use Rattle.model.specs.Book.{free}
 
 -- ---- the bound on the field follows from what covers it
 

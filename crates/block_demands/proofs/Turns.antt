@@ -24,6 +24,7 @@ use Rattle.block_demands.proofs.Fitting.{says_fits, fits_turned, buyer_fits, sel
 use Rattle.block_demands.proofs.Members.{In, each_in, in_some, in_behind, in_either, each_of, Later, InTurn, turn_behind, only_one}
 use Rattle.block_demands.proofs.Partners.{Partner}
 use Rattle.block_demands.proofs.Naming.{number_of, shares_of, named, unnamed_more, each_unnamed, in_unnamed, unnamed_in, still_unnamed, unnamed_turn, unnamed_each, named_more, names, buyer_of, seller_of, quantity_of, two_out}
+use Rattle.model.specs.Book.{free}
 
 -- ---- a list in which all of this goes through
 

@@ -2,10 +2,10 @@
 ghost use Rattle.std.specs.Prelude.{◌≡◌, [], ◌∷◌, ◌++◌, ◌+◌, ◌≤◌, ◌<◌, length, get_or, take, drop, set, true};
 ghost use Rattle.model.specs.Figures.{issue_block};
 ghost use Rattle.model.specs.Blocks.{undeclared, fits, confirmation};
-ghost use Rattle.book.specs.Rows.{declaration_of, declaration_row, trade_row, held_of};
 ghost use Rattle.book.specs.Promises.{block_refused};
 ghost use Rattle.held.specs.Meeting.{asking, joining};
 ghost use Rattle.block_entries.specs.Entries.{Confirmable, held_answer, confirmed_answer};
+ghost use Rattle.model.specs.Book.{free};
 
 use blocks::tally_blocks;
 use book::put_trade;
@@ -54,11 +54,11 @@ fn issued_one(d: Day) -> Day
 }
 
 // It stands at the first free place.
-pub fn hold(d: Day, rows: &mut [[u64; 7]], free: usize, x: Declaration) -> BlockAnswer
+pub fn hold(d: Day, rows: &mut [Declaration], free: usize, x: Declaration) -> BlockAnswer
     requires issued_bound { d.blocks.issued ≤ 999_999 }
     requires free_in_bounds { free < length rows.old }
     ensures value { result ≡ held_answer d }
-    ensures rows_after { rows.new ≡ set rows.old free (declaration_row x) }
+    ensures rows_after { rows.new ≡ set rows.old free x }
 {
     put_declaration(&mut *rows, free, x);
     let next = issued_one(d);
@@ -97,17 +97,17 @@ fn join(x: Declaration, y: Declaration) -> Trade
 // With the one at a place, which leaves at once.
 pub fn confirm(
     d: Day,
-    rows: &mut [[u64; 7]],
-    trades: &mut [[u64; 6]],
+    rows: &mut [Declaration],
+    trades: &mut [Trade],
     place: usize,
     x: Declaration,
 ) -> BlockAnswer
     requires confirmable { Confirmable d x }
     requires place_in_bounds { place < length rows.old }
-    requires place_value { fits x (declaration_of (get_or rows.old place [])) ≡ true }
-    ensures value { result ≡ confirmed_answer d x (declaration_of (get_or rows.old place [])) }
-    ensures trades_after { trades.new ≡ set trades.old 0 (trade_row (joining x (declaration_of (get_or rows.old place [])))) }
-    ensures rows_after { held_of rows.new ≡ take place (held_of rows.old) ++ (drop (place + 1) (held_of rows.old) ++ (undeclared ∷ [])) }
+    requires place_value { fits x (get_or rows.old place undeclared) ≡ true }
+    ensures value { result ≡ confirmed_answer d x (get_or rows.old place undeclared) }
+    ensures trades_after { trades.new ≡ set trades.old 0 (joining x (get_or rows.old place undeclared)) }
+    ensures rows_after { rows.new ≡ take place rows.old ++ (drop (place + 1) rows.old ++ (undeclared ∷ [])) }
 {
     let trade = join(x, declaration_at(rows, place));
     put_trade(&mut *trades, 0, trade);

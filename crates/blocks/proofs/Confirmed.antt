@@ -13,7 +13,6 @@ use Rattle.model.specs.Lists.{keep, any}
 use Rattle.model.specs.Matching.{is_in}
 use Rattle.model.specs.Arrival.{in_places}
 use Rattle.model.specs.Blocks.{undeclared, fits, confirmations, unnamed, held_in}
-use Rattle.book.specs.Rows.{declaration_of, held_of}
 use Rattle.book.proofs.Lists.{each, each_keep, length_keep}
 use Rattle.declarations.specs.Declared.{WellFormed, Declared}
 use Rattle.arrivals.proofs.Lines.{InLine, in_line}
@@ -55,19 +54,18 @@ module _ (held : List Declaration) (d : Declared held) where
 
 -- ---- by the partner of each place
 
-module _ (rows : List (List ℕ)) (d : Declared (held_of rows)) {ps : List ℕ} (e : ps ≡ partners (held_of rows)) where
-  pub by_partners : agreed (held_of rows) ps ≡ confirmations (held_of rows)
-  by_partners = ap (agreed (held_of rows)) e ∙ sym (walked (held_of rows) d)
+module _ (rows : List Declaration) (d : Declared rows) {ps : List ℕ} (e : ps ≡ partners rows) where
+  pub by_partners : agreed rows ps ≡ confirmations rows
+  by_partners = ap (agreed rows) e ∙ sym (walked rows d)
 
   pub left_by_partners :
       {held : List Declaration}
-      → held ≡ followed (length rows) (alone (held_of rows) ps)
-      → held ≡ held_in (length rows) (unnamed (confirmations (held_of rows)) (held_of rows))
+      → held ≡ followed (length rows) (alone rows ps)
+      → held ≡ held_in (length rows) (unnamed (confirmations rows) rows)
   left_by_partners f =
       f
-      ∙ ap (λ (qs : List ℕ). followed (length rows) (alone (held_of rows) qs)) e
-      ∙ ap (followed (length rows)) (sym (left_alone (held_of rows) d))
+      ∙ ap (λ (qs : List ℕ). followed (length rows) (alone rows qs)) e
+      ∙ ap (followed (length rows)) (sym (left_alone rows d))
       ∙ sym
-      (ap (λ n. held_in n (unnamed (confirmations (held_of rows)) (held_of rows))) (sym (length-map rows declaration_of))
-      ∙ unnamed_in_places (held_of rows) d (confirmations (held_of rows))
-      ∙ ap (λ n. followed n (unnamed (confirmations (held_of rows)) (held_of rows))) (length-map rows declaration_of))
+      (ap (λ n. held_in n (unnamed (confirmations rows) rows)) (refl)
+      ∙ unnamed_in_places rows d (confirmations rows))

@@ -17,7 +17,6 @@ use Rattle.model.specs.Matching.{filled}
 use Rattle.model.specs.Arrival.{is_taken}
 use Rattle.model.specs.Blocks.{undeclared, is_held}
 use Rattle.book.specs.declared.Dealt.{Dealt}
-use Rattle.book.specs.Rows.{trade_row, trade_rows}
 use Rattle.book.specs.Writing.{fitted}
 use Rattle.book.specs.Deals.{dealt}
 use Rattle.book.proofs.Lists.{each_at}
@@ -56,11 +55,11 @@ module _ (x : Declaration) (p : ℕ) where
       go true = (omega arith, omega arith)
       go false = (omega arith, omega arith)
 
-added_none : {sofar : Dealt} {ts : List Trade} {rows : List (List ℕ)} → ts ≡ [] → Added sofar ts rows sofar rows
+added_none : {sofar : Dealt} {ts : List Trade} {rows : List Trade} → ts ≡ [] → Added sofar ts rows sofar rows
 unfolding filled total
 added_none {sofar} {ts} {rows} e = rw e (record { made = omega arith; shares = omega arith; written = refl })
 
-module _ (x : Declaration) (p : ℕ) (sofar : Dealt) (rows : List (List ℕ)) where
+module _ (x : Declaration) (p : ℕ) (sofar : Dealt) (rows : List Trade) where
   pub free_adds_none : x.number ≡ 0 → Added sofar (place_trades x p) rows sofar rows
   free_adds_none z = added_none (none_free x p z)
 
@@ -71,11 +70,11 @@ module _ (x : Declaration) (p : ℕ) (sofar : Dealt) (rows : List (List ℕ)) wh
   alone_adds_none z = added_none (none_alone x p z)
 
   pub buyer_adds :
-      {rows' : List (List ℕ)}
+      {rows' : List Trade}
       → (x.number ≡ 0 → ⊥)
       → x.side ≡ 0
       → (p ≡ 0 → ⊥)
-      → rows' ≡ set rows sofar.made (trade_row (confirmed_with x p))
+      → rows' ≡ set rows sofar.made (confirmed_with x p)
       → Added sofar (place_trades x p) rows (record { made = sofar.made + 1; shares = sofar.shares + x.quantity }) rows'
   unfolding filled total confirmed_with
   buyer_adds n z m e =
@@ -88,9 +87,9 @@ module _ {A : Type 0} where
   sets_append l [] ys i = rw add-zero
   sets_append l (x ∷ xs) ys i = rw (add-suc, ← suc-add) (sets_append (set l i x) xs ys (suc i))
 
-rows_append : (ts us : List Trade) → trade_rows (ts ++ us) ≡ trade_rows ts ++ trade_rows us
+rows_append : (ts us : List Trade) → (ts ++ us) ≡ ts ++ us
 rows_append [] us = refl
-rows_append (t ∷ ts) us = ap (λ (l : List (List ℕ)). trade_row t ∷ l) (rows_append ts us)
+rows_append (t ∷ ts) us = ap (λ (l : List Trade). t ∷ l) (rows_append ts us)
 
 filled_append : (ts us : List Trade) → filled (ts ++ us) ≡ filled ts + filled us
 unfolding filled total
@@ -109,15 +108,15 @@ agreed_cons x held p ps = go (is_buyer x && not (eqb p 0))
     go true = refl
     go false = refl
 
-module _ (held : List Declaration) (ps : List ℕ) (trades₀ : List (List ℕ)) where
+module _ (held : List Declaration) (ps : List ℕ) (trades₀ : List Trade) where
   -- the confirmations from place i on
   abbrev pub coming : ℕ → List Trade
   coming i = agreed (drop i held) (drop i ps)
 
-  pub record Dealing (trades : List (List ℕ)) (sofar : Dealt) (i : ℕ) : Type 0 where
+  pub record Dealing (trades : List Trade) (sofar : Dealt) (i : ℕ) : Type 0 where
     pub made : sofar.made + length (coming i) ≡ length (agreed held ps)
     pub shares : sofar.shares + filled (coming i) ≡ filled (agreed held ps)
-    pub written : sets trades sofar.made (trade_rows (coming i)) ≡ sets trades₀ 0 (trade_rows (agreed held ps))
+    pub written : sets trades sofar.made (coming i) ≡ sets trades₀ 0 (agreed held ps)
     pub few : sofar.made ≤ i
     pub bounded : sofar.shares ≤ 100_000_000 * i
     pub long : length trades ≡ length trades₀
@@ -126,9 +125,9 @@ module _ (held : List Declaration) (ps : List ℕ) (trades₀ : List (List ℕ))
   dealing_start =
       record { made = omega arith; shares = omega arith; written = refl; few = omega arith; bounded = omega arith; long = refl }
 
-  module _ {trades : List (List ℕ)} {sofar : Dealt} {i : ℕ} (w : Dealing trades sofar i) where
+  module _ {trades : List Trade} {sofar : Dealt} {i : ℕ} (w : Dealing trades sofar i) where
     pub dealing_next :
-        {x : Declaration} {p : ℕ} {r : Dealt} {trades' : List (List ℕ)}
+        {x : Declaration} {p : ℕ} {r : Dealt} {trades' : List Trade}
         → i < length held
         → i < length ps
         → x ≡ get_or held i undeclared
@@ -151,13 +150,13 @@ module _ (held : List Declaration) (ps : List ℕ) (trades₀ : List (List ℕ))
               omega (arith, a.shares, w.shares, ap filled same, filled_append (place_trades x p) (coming (i + 1)));
           written =
               rw (a.written, a.made)
-              (ap (λ n. sets (sets trades sofar.made (trade_rows (place_trades x p))) (sofar.made + n) (trade_rows (coming (i + 1)))) (sym (length-map (place_trades x p) trade_row))
-              ∙ sym (sets_append trades (trade_rows (place_trades x p)) (trade_rows (coming (i + 1))) sofar.made)
-              ∙ ap (sets trades sofar.made) (sym (rows_append (place_trades x p) (coming (i + 1))) ∙ ap trade_rows (sym same))
+              (ap (λ n. sets (sets trades sofar.made (place_trades x p)) (sofar.made + n) (coming (i + 1))) (refl)
+              ∙ sym (sets_append trades (place_trades x p) (coming (i + 1)) sofar.made)
+              ∙ ap (sets trades sofar.made) (sym (rows_append (place_trades x p) (coming (i + 1))) ∙ (sym same))
               ∙ w.written);
           few = omega (arith, a.made, w.few, (place_few x p).0);
           bounded = omega (arith, a.shares, w.bounded, (place_few x p).1);
-          long = ap length a.written ∙ length-sets trades sofar.made (trade_rows (place_trades x p)) ∙ w.long;
+          long = ap length a.written ∙ length-sets trades sofar.made (place_trades x p) ∙ w.long;
         }
 
     module _ (h : length held ≤ i) where
@@ -172,11 +171,11 @@ module _ (held : List Declaration) (ps : List ℕ) (trades₀ : List (List ℕ))
           let s : sofar.shares ≡ filled (agreed held ps) = omega (arith, w.shares, ap filled none_come) in
           rw (sym m, sym s)
 
-      pub dealing_written : trades ≡ fitted (trade_rows (agreed held ps)) trades₀
+      pub dealing_written : trades ≡ fitted (agreed held ps) trades₀
       dealing_written =
-          ap (λ (l : List Trade). sets trades sofar.made (trade_rows l)) (sym none_come)
+          ap (λ (l : List Trade). sets trades sofar.made l) (sym none_come)
           ∙ w.written
-          ∙ sets_fitted (trade_rows (agreed held ps)) trades₀
+          ∙ sets_fitted (agreed held ps) trades₀
 
 -- the quantity at a place is within its bound
 pub place_bounded :

@@ -1,6 +1,5 @@
 // Who is confirmed at 15:00, once the partner of each place is known: the trades are written, and those confirmed leave at once.
 ghost use Rattle.std.specs.Prelude.{◌≡◌, ◌+◌, ◌^◌, ◌<◌, length};
-ghost use Rattle.book.specs.Rows.{held_of, trade_rows};
 ghost use Rattle.book.specs.Writing.{fitted};
 ghost use Rattle.book.specs.Deals.{dealt};
 ghost use Rattle.declarations.specs.Declared.{Declared};
@@ -12,7 +11,7 @@ use declarations::{declaration_at, free_rest, put_declaration};
 use model::{Declaration, Trade};
 
 // A buyer that has a partner is confirmed with it: the trade stands behind those so far.
-fn confirm_place(trades: &mut [[u64; 6]], sofar: Dealt, x: Declaration, partner: u64) -> Dealt
+fn confirm_place(trades: &mut [Trade], sofar: Dealt, x: Declaration, partner: u64) -> Dealt
     requires made_bound { sofar.made < 4_096 }
     requires quantity_bound { sofar.shares + x.quantity < 2 ^ 64 }
     ensures { Added sofar (place_trades x partner) trades.old result trades.new }
@@ -42,11 +41,11 @@ fn confirm_place(trades: &mut [[u64; 6]], sofar: Dealt, x: Declaration, partner:
 }
 
 // Place by place: all are counted, and as many are written as the list holds.
-pub fn write_confirmed(rows: &[[u64; 7]], trades: &mut [[u64; 6]], partner: &[u64]) -> Dealt
-    requires declared { Declared (held_of rows.now) }
+pub fn write_confirmed(rows: &[Declaration], trades: &mut [Trade], partner: &[u64]) -> Dealt
+    requires declared { Declared rows.now }
     requires partner_len { length partner.now ≡ length rows.now }
-    ensures value { result ≡ dealt (agreed (held_of rows.now) partner.now) }
-    ensures trades_after { trades.new ≡ fitted (trade_rows (agreed (held_of rows.now) partner.now)) trades.old }
+    ensures value { result ≡ dealt (agreed rows.now partner.now) }
+    ensures trades_after { trades.new ≡ fitted (agreed rows.now partner.now) trades.old }
 {
     let mut sofar = Dealt { made: 0, shares: 0 };
     let mut i = 0;
@@ -60,7 +59,7 @@ pub fn write_confirmed(rows: &[[u64; 7]], trades: &mut [[u64; 6]], partner: &[u6
 }
 
 // A declaration without a partner stays: it stands behind those that stay before it.
-fn stay_place(rows: &mut [[u64; 7]], kept: usize, x: Declaration, partner: u64) -> usize
+fn stay_place(rows: &mut [Declaration], kept: usize, x: Declaration, partner: u64) -> usize
     requires { kept < length rows.old }
     ensures { Stayed x partner kept rows.old result rows.new }
 {
@@ -72,9 +71,9 @@ fn stay_place(rows: &mut [[u64; 7]], kept: usize, x: Declaration, partner: u64) 
 }
 
 // Those without a partner close up, and free places follow.
-pub fn close_up(rows: &mut [[u64; 7]], partner: &[u64])
+pub fn close_up(rows: &mut [Declaration], partner: &[u64])
     requires { length partner.now ≡ length rows.old }
-    ensures { held_of rows.new ≡ followed (length rows.old) (alone (held_of rows.old) partner.now) }
+    ensures { rows.new ≡ followed (length rows.old) (alone rows.old partner.now) }
 {
     let mut kept = 0;
     let mut i = 0;

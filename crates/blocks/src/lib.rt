@@ -11,7 +11,6 @@ ghost use Rattle.model.specs.Figures.{tally_blocks};
 ghost use Rattle.model.specs.Sound.{has_places, blocks_fit};
 ghost use Rattle.model.specs.SoundBlocks.{sound_blocks};
 ghost use Rattle.model.specs.Blocks.{confirmations, unnamed, held_in};
-ghost use Rattle.book.specs.Rows.{held_of, trade_rows};
 ghost use Rattle.book.specs.Writing.{fitted};
 ghost use Rattle.book.specs.Deals.{dealt};
 ghost use Rattle.declarations.specs.Declared.{Declared};
@@ -20,7 +19,7 @@ use crate::confirming::{close_up, write_confirmed};
 use book::Dealt;
 use held::forms::all_formed;
 use held::standing::{fits_hours, has_places, is_in_arrival};
-use model::{Blocks, CONFIRMING_FROM, Day, MOST_PLACES};
+use model::{Blocks, CONFIRMING_FROM, Day, Declaration, MOST_PLACES, Trade};
 use partners::find_partners;
 
 // Room for the partner of each place, in a function of its own, so that no proof looks into its numbers.
@@ -31,21 +30,20 @@ fn partner_room() -> [u64; MOST_PLACES]
 }
 
 // The confirmations are found, and written nowhere.
-fn count_with(rows: &[[u64; 7]], partner: &mut [u64]) -> usize
-    requires declared { Declared (held_of rows.now) }
+fn count_with(rows: &[Declaration], partner: &mut [u64]) -> usize
+    requires declared { Declared rows.now }
     requires partner_len { length partner.old ≡ length rows.now }
-    ensures { result ≡ length (confirmations (held_of rows.now)) }
+    ensures { result ≡ length (confirmations rows.now) }
 {
     find_partners(rows, &mut *partner);
-    let mut nowhere = [[0; 6]; 1];
-    let found = write_confirmed(rows, &mut nowhere[..], partner);
+    let found = write_confirmed(rows, &mut [], partner);
     found.made
 }
 
 // How many confirmations 15:00 would bring.
-pub fn count_confirmed(rows: &[[u64; 7]]) -> usize
-    requires { Declared (held_of rows.now) }
-    ensures { result ≡ length (confirmations (held_of rows.now)) }
+pub fn count_confirmed(rows: &[Declaration]) -> usize
+    requires { Declared rows.now }
+    ensures { result ≡ length (confirmations rows.now) }
 {
     let n = rows.len();
     let mut partner = partner_room();
@@ -53,10 +51,10 @@ pub fn count_confirmed(rows: &[[u64; 7]]) -> usize
 }
 
 // Whether there are 1 to 4,096 places, and the declarations at them are sound.
-pub fn blocks_sound(d: Day, rows: &[[u64; 7]]) -> bool
+pub fn blocks_sound(d: Day, rows: &[Declaration]) -> bool
     requires close_value { is_price d.close ≡ true }
     requires d_value { blocks_fit d ≡ true }
-    ensures { result ≡ (has_places (held_of rows.now) && sound_blocks d (held_of rows.now)) }
+    ensures { result ≡ (has_places rows.now && sound_blocks d rows.now) }
 {
     if !has_places(rows) {
         return false;
@@ -77,12 +75,12 @@ pub fn blocks_sound(d: Day, rows: &[[u64; 7]]) -> bool
 }
 
 // The trades are written, and those confirmed leave at once.
-fn confirm_with(rows: &mut [[u64; 7]], trades: &mut [[u64; 6]], partner: &mut [u64]) -> Dealt
-    requires declared { Declared (held_of rows.old) }
+fn confirm_with(rows: &mut [Declaration], trades: &mut [Trade], partner: &mut [u64]) -> Dealt
+    requires declared { Declared rows.old }
     requires partner_len { length partner.old ≡ length rows.old }
-    ensures value { result ≡ dealt (confirmations (held_of rows.old)) }
-    ensures trades_after { trades.new ≡ fitted (trade_rows (confirmations (held_of rows.old))) trades.old }
-    ensures rows_after { held_of rows.new ≡ held_in (length rows.old) (unnamed (confirmations (held_of rows.old)) (held_of rows.old)) }
+    ensures value { result ≡ dealt (confirmations rows.old) }
+    ensures trades_after { trades.new ≡ fitted (confirmations rows.old) trades.old }
+    ensures rows_after { rows.new ≡ held_in (length rows.old) (unnamed (confirmations rows.old) rows.old) }
 {
     find_partners(rows, &mut *partner);
     let found = write_confirmed(rows, &mut *trades, partner);
@@ -91,11 +89,11 @@ fn confirm_with(rows: &mut [[u64; 7]], trades: &mut [[u64; 6]], partner: &mut [u
 }
 
 // 15:00: lower buyer first, the earliest that fits is the partner. All are counted, and as many are written as the list holds.
-pub fn confirm_all(rows: &mut [[u64; 7]], trades: &mut [[u64; 6]]) -> Dealt
-    requires { Declared (held_of rows.old) }
-    ensures value { result ≡ dealt (confirmations (held_of rows.old)) }
-    ensures trades_after { trades.new ≡ fitted (trade_rows (confirmations (held_of rows.old))) trades.old }
-    ensures rows_after { held_of rows.new ≡ held_in (length rows.old) (unnamed (confirmations (held_of rows.old)) (held_of rows.old)) }
+pub fn confirm_all(rows: &mut [Declaration], trades: &mut [Trade]) -> Dealt
+    requires { Declared rows.old }
+    ensures value { result ≡ dealt (confirmations rows.old) }
+    ensures trades_after { trades.new ≡ fitted (confirmations rows.old) trades.old }
+    ensures rows_after { rows.new ≡ held_in (length rows.old) (unnamed (confirmations rows.old) rows.old) }
 {
     let n = rows.len();
     let mut partner = partner_room();

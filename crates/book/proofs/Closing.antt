@@ -4,36 +4,32 @@ use mathlib.Core.Path.{◌≡◌, refl, sym, ap, ◌∙◌, subst}
 use mathlib.Core.List.{List, [], ◌∷◌, ◌++◌, append_assoc, append-nil}
 use native.Mathlib.Omega.{arith}
 use native.Mathlib.Numerals.{add-one}
-use lib.ListN.{length, get_or, take, drop, set, replicate, length-append, length-map, length-set, take-append-drop, replicate-append-replicate}
+use lib.ListN.{length, get_or, take, drop, set, replicate, length-append, length-set, take-append-drop, replicate-append-replicate}
 use lib.Seq.{drop-drop, drop-append-add, drop-append-le, drop-set-lt, get_or-drop, get_or-set_same, take-append_seam, take-nil, take-set-le, take-suc, take-suc-set, take-take, length-take-le}
 use borrow.Author.Tests.{lt-ltb, le-ltb}
 use Rattle.model.specs.declared.Order.{Order}
 use Rattle.model.specs.Book.{free}
 use Rattle.model.specs.Matching.{less_by}
-use Rattle.book.specs.Rows.{order_of, row_of, book_of}
 use Rattle.book.specs.Lines.{line}
 use Rattle.book.specs.Settling.{off_front, placed, FreeFrom, CutAt}
-use Rattle.book.proofs.Memory.{book_at, book_set}
 use Rattle.book.proofs.Lines.{line_cons, line_end, line_length}
 use Rattle.book.proofs.Parts.{placed_fit}
 
 -- one order put at a place, and what stands before and behind it
-module _ (rows : List (List ℕ)) (place : ℕ) (o : Order) {rows' : List (List ℕ)} (inside : place < length rows) (e : rows' ≡ set rows place (row_of o)) where
-  put_front : take (place + 1) (book_of rows') ≡ take place (book_of rows) ++ (o ∷ [])
+module _ (rows : List Order) (place : ℕ) (o : Order) {rows' : List Order} (inside : place < length rows) (e : rows' ≡ set rows place o) where
+  put_front : take (place + 1) rows' ≡ take place rows ++ (o ∷ [])
   put_front =
-      ap (λ (r : List (List ℕ)). take (place + 1) (book_of r)) e
-      ∙ ap (take (place + 1)) (book_set rows place o)
-      ∙ ap (λ (n : ℕ). take n (set (book_of rows) place o)) (add-one place)
-      ∙ take-suc-set (book_of rows) place o (omega (arith, length-map rows order_of))
+      ap (λ (r : List Order). take (place + 1) r) e
+      ∙ ap (λ (n : ℕ). take n (set rows place o)) (add-one place)
+      ∙ take-suc-set rows place o (omega arith)
 
-  put_back : (n : ℕ) → place < n → drop n (book_of rows') ≡ drop n (book_of rows)
+  put_back : (n : ℕ) → place < n → drop n rows' ≡ drop n rows
   put_back n h =
-      ap (λ (r : List (List ℕ)). drop n (book_of r)) e
-      ∙ ap (drop n) (book_set rows place o)
-      ∙ drop-set-lt n (book_of rows) place o h
+      ap (λ (r : List Order). drop n r) e
+      ∙ drop-set-lt n rows place o h
 
   put_long : length rows' ≡ length rows
-  put_long = ap length e ∙ length-set rows place (row_of o)
+  put_long = ap length e ∙ length-set rows place o
 
 -- what two lists have in common from a place on they have from every later one on
 later_same : (m n : ℕ) (xs ys : List Order) → m ≤ n → drop m xs ≡ drop m ys → drop n xs ≡ drop n ys
@@ -47,31 +43,31 @@ later_same m n xs ys h e =
 
 -- ---- free places
 
-pub record Freed (rows₀ : List (List ℕ)) (from to : ℕ) (rows : List (List ℕ)) (place : ℕ) : Type 0 where
-  pub front : take place (book_of rows) ≡ take from (book_of rows₀) ++ replicate (place - from) free
-  pub back : drop place (book_of rows) ≡ drop place (book_of rows₀)
+pub record Freed (rows₀ : List Order) (from to : ℕ) (rows : List Order) (place : ℕ) : Type 0 where
+  pub front : take place rows ≡ take from rows₀ ++ replicate (place - from) free
+  pub back : drop place rows ≡ drop place rows₀
   pub long : length rows ≡ length rows₀
   pub least : from ≤ place
   pub most : place ≤ to
 
-module _ (rows₀ : List (List ℕ)) (from to : ℕ) where
+module _ (rows₀ : List Order) (from to : ℕ) where
   pub freed_start : from ≤ to → Freed rows₀ from to rows₀ from
   freed_start h =
       let z : from - from ≡ 0 = omega arith in
       record {
-        front = rw z (sym (append-nil (take from (book_of rows₀))));
+        front = rw z (sym (append-nil (take from rows₀)));
         back = refl;
         long = refl;
         least = omega arith;
         most = h;
       }
 
-  module _ (short : to ≤ length rows₀) {rows : List (List ℕ)} {place : ℕ} (f : Freed rows₀ from to rows place) where
+  module _ (short : to ≤ length rows₀) {rows : List Order} {place : ℕ} (f : Freed rows₀ from to rows place) where
     pub freed_next :
-        {o : Order} {rows' : List (List ℕ)}
+        {o : Order} {rows' : List Order}
         → place < to
         → o ≡ free
-        → rows' ≡ set rows place (row_of o)
+        → rows' ≡ set rows place o
         → Freed rows₀ from to rows' (place + 1)
     freed_next {o} h e g =
         let inside : place < length rows = omega (arith, f.long) in
@@ -79,14 +75,14 @@ module _ (rows₀ : List (List ℕ)) (from to : ℕ) where
         record {
           front =
               put_front rows place o inside g
-              ∙ ap (λ (x : Order). take place (book_of rows) ++ (x ∷ [])) e
+              ∙ ap (λ (x : Order). take place rows ++ (x ∷ [])) e
               ∙ ap (λ (l : List Order). l ++ (free ∷ [])) f.front
-              ∙ append_assoc (take from (book_of rows₀)) (replicate (place - from) free) (free ∷ [])
-              ∙ ap (λ (l : List Order). take from (book_of rows₀) ++ l) (replicate-append-replicate (place - from) 1 free)
-              ∙ ap (λ n. take from (book_of rows₀) ++ replicate n free) (sym more);
+              ∙ append_assoc (take from rows₀) (replicate (place - from) free) (free ∷ [])
+              ∙ ap (λ (l : List Order). take from rows₀ ++ l) (replicate-append-replicate (place - from) 1 free)
+              ∙ ap (λ n. take from rows₀ ++ replicate n free) (sym more);
           back =
               put_back rows place o inside g (place + 1) (omega arith)
-              ∙ later_same place (place + 1) (book_of rows) (book_of rows₀) (omega arith) f.back;
+              ∙ later_same place (place + 1) rows rows₀ (omega arith) f.back;
           long = put_long rows place o inside g ∙ f.long;
           least = omega (arith, f.least);
           most = omega arith;
@@ -94,78 +90,78 @@ module _ (rows₀ : List (List ℕ)) (from to : ℕ) where
 
     pub freed_end :
         to ≤ place
-        → book_of rows ≡ take from (book_of rows₀) ++ (replicate (to - from) free ++ drop to (book_of rows₀))
+        → rows ≡ take from rows₀ ++ (replicate (to - from) free ++ drop to rows₀)
     freed_end h =
         let all : place ≡ to = omega (arith, f.most) in
-        sym (take-append-drop place (book_of rows))
-        ∙ ap (λ (l : List Order). l ++ drop place (book_of rows)) f.front
-        ∙ ap (λ (l : List Order). (take from (book_of rows₀) ++ replicate (place - from) free) ++ l) f.back
-        ∙ ap (λ (n : ℕ). (take from (book_of rows₀) ++ replicate (n - from) free) ++ drop n (book_of rows₀)) all
-        ∙ append_assoc (take from (book_of rows₀)) (replicate (to - from) free) (drop to (book_of rows₀))
+        sym (take-append-drop place rows)
+        ∙ ap (λ (l : List Order). l ++ drop place rows) f.front
+        ∙ ap (λ (l : List Order). (take from rows₀ ++ replicate (place - from) free) ++ l) f.back
+        ∙ ap (λ (n : ℕ). (take from rows₀ ++ replicate (n - from) free) ++ drop n rows₀) all
+        ∙ append_assoc (take from rows₀) (replicate (to - from) free) (drop to rows₀)
 
 -- ---- orders moved up
 
 -- one order more of a line
 line_more :
-    (at i : ℕ) (rows : List (List ℕ))
+    (at i : ℕ) (rows : List Order)
     → at ≤ i
     → i < length rows
-    → line at (i + 1) rows ≡ line at i rows ++ (get_or (book_of rows) i free ∷ [])
+    → line at (i + 1) rows ≡ line at i rows ++ (get_or rows i free ∷ [])
 unfolding line
 line_more at i rows h k =
-    let inside : i < length (book_of rows) = omega (arith, length-map rows order_of) in
-    ap (λ (n : ℕ). drop at (take n (book_of rows))) (add-one i)
-    ∙ ap (drop at) (take-suc (book_of rows) i free inside)
-    ∙ drop-append-le at (take i (book_of rows)) (get_or (book_of rows) i free ∷ [])
-    (omega (arith, length-take-le i (book_of rows) (omega arith)))
+    let inside : i < length rows = omega arith in
+    ap (λ (n : ℕ). drop at (take n rows)) (add-one i)
+    ∙ ap (drop at) (take-suc rows i free inside)
+    ∙ drop-append-le at (take i rows) (get_or rows i free ∷ [])
+    (omega (arith, length-take-le i rows (omega arith)))
 
-pub record Moved (rows₀ : List (List ℕ)) (place next end : ℕ) (rows : List (List ℕ)) (i : ℕ) : Type 0 where
-  pub front : take (place + (i - next)) (book_of rows) ≡ take place (book_of rows₀) ++ line next i rows₀
-  pub back : drop (place + (i - next)) (book_of rows) ≡ drop (place + (i - next)) (book_of rows₀)
+pub record Moved (rows₀ : List Order) (place next end : ℕ) (rows : List Order) (i : ℕ) : Type 0 where
+  pub front : take (place + (i - next)) rows ≡ take place rows₀ ++ line next i rows₀
+  pub back : drop (place + (i - next)) rows ≡ drop (place + (i - next)) rows₀
   pub long : length rows ≡ length rows₀
   pub least : next ≤ i
   pub most : i ≤ end
 
-module _ (rows₀ : List (List ℕ)) (place next end : ℕ) where
+module _ (rows₀ : List Order) (place next end : ℕ) where
   pub moved_start : next ≤ end → Moved rows₀ place next end rows₀ next
   moved_start h =
       let z : place + (next - next) ≡ place = omega arith in
       record {
         front =
-            ap (λ (n : ℕ). take n (book_of rows₀)) z
-            ∙ sym (append-nil (take place (book_of rows₀)))
-            ∙ ap (λ (l : List Order). take place (book_of rows₀) ++ l) (sym (line_end next next rows₀ (omega arith)));
+            ap (λ (n : ℕ). take n rows₀) z
+            ∙ sym (append-nil (take place rows₀))
+            ∙ ap (λ (l : List Order). take place rows₀ ++ l) (sym (line_end next next rows₀ (omega arith)));
         back = refl;
         long = refl;
         least = omega arith;
         most = h;
       }
 
-  module _ (before : place ≤ next) (short : end ≤ length rows₀) {rows : List (List ℕ)} {i : ℕ} (m : Moved rows₀ place next end rows i) where
+  module _ (before : place ≤ next) (short : end ≤ length rows₀) {rows : List Order} {i : ℕ} (m : Moved rows₀ place next end rows i) where
     abbrev to : ℕ
     to = place + (i - next)
 
     pub moved_next :
-        {o : Order} {rows' : List (List ℕ)}
+        {o : Order} {rows' : List Order}
         → i < end
-        → o ≡ order_of (get_or rows i [])
-        → rows' ≡ set rows (place + (i - next)) (row_of o)
+        → o ≡ get_or rows i free
+        → rows' ≡ set rows (place + (i - next)) o
         → Moved rows₀ place next end rows' (i + 1)
     moved_next {o} {rows'} h at g =
         record {
           front =
-              ap (λ (n : ℕ). take n (book_of rows')) more
+              ap (λ (n : ℕ). take n rows') more
               ∙ put_front rows to o inside g
               ∙ ap (λ (l : List Order). l ++ (o ∷ [])) m.front
-              ∙ append_assoc (take place (book_of rows₀)) (line next i rows₀) (o ∷ [])
-              ∙ ap (λ (x : Order). take place (book_of rows₀) ++ (line next i rows₀ ++ (x ∷ []))) it
-              ∙ ap (λ (l : List Order). take place (book_of rows₀) ++ l)
+              ∙ append_assoc (take place rows₀) (line next i rows₀) (o ∷ [])
+              ∙ ap (λ (x : Order). take place rows₀ ++ (line next i rows₀ ++ (x ∷ []))) it
+              ∙ ap (λ (l : List Order). take place rows₀ ++ l)
               (sym (line_more next i rows₀ m.least (omega arith)));
           back =
-              ap (λ (n : ℕ). drop n (book_of rows')) more
+              ap (λ (n : ℕ). drop n rows') more
               ∙ put_back rows to o inside g (to + 1) (omega arith)
-              ∙ later_same to (to + 1) (book_of rows) (book_of rows₀) (omega arith) m.back
-              ∙ ap (λ (n : ℕ). drop n (book_of rows₀)) (sym more);
+              ∙ later_same to (to + 1) rows rows₀ (omega arith) m.back
+              ∙ ap (λ (n : ℕ). drop n rows₀) (sym more);
           long = put_long rows to o inside g ∙ m.long;
           least = omega (arith, m.least);
           most = omega arith;
@@ -178,103 +174,102 @@ module _ (rows₀ : List (List ℕ)) (place next end : ℕ) where
         more = omega (arith, m.least)
 
         -- it has not been written over: it stands behind what has
-        it : o ≡ get_or (book_of rows₀) i free
+        it : o ≡ get_or rows₀ i free
         it =
             let k : i ≡ to + (i - to) = omega (arith, m.least) in
             at
-            ∙ book_at rows i
-            ∙ ap (λ (n : ℕ). get_or (book_of rows) n free) k
-            ∙ sym (get_or-drop to (book_of rows) (i - to) free)
+            ∙ ap (λ (n : ℕ). get_or rows n free) k
+            ∙ sym (get_or-drop to rows (i - to) free)
             ∙ ap (λ (l : List Order). get_or l (i - to) free) m.back
-            ∙ get_or-drop to (book_of rows₀) (i - to) free
-            ∙ ap (λ (n : ℕ). get_or (book_of rows₀) n free) (sym k)
+            ∙ get_or-drop to rows₀ (i - to) free
+            ∙ ap (λ (n : ℕ). get_or rows₀ n free) (sym k)
 
     pub moved_end :
         end ≤ i
-        → book_of rows ≡ take place (book_of rows₀) ++ (line next end rows₀ ++ drop (place + (end - next)) (book_of rows₀))
+        → rows ≡ take place rows₀ ++ (line next end rows₀ ++ drop (place + (end - next)) rows₀)
     moved_end h =
         let all : i ≡ end = omega (arith, m.most) in
-        sym (take-append-drop to (book_of rows))
-        ∙ ap (λ (l : List Order). l ++ drop to (book_of rows)) m.front
-        ∙ ap (λ (l : List Order). (take place (book_of rows₀) ++ line next i rows₀) ++ l) m.back
-        ∙ ap (λ (n : ℕ). (take place (book_of rows₀) ++ line next n rows₀) ++ drop (place + (n - next)) (book_of rows₀)) all
-        ∙ append_assoc (take place (book_of rows₀)) (line next end rows₀) (drop (place + (end - next)) (book_of rows₀))
+        sym (take-append-drop to rows)
+        ∙ ap (λ (l : List Order). l ++ drop to rows) m.front
+        ∙ ap (λ (l : List Order). (take place rows₀ ++ line next i rows₀) ++ l) m.back
+        ∙ ap (λ (n : ℕ). (take place rows₀ ++ line next n rows₀) ++ drop (place + (n - next)) rows₀) all
+        ∙ append_assoc (take place rows₀) (line next end rows₀) (drop (place + (end - next)) rows₀)
 
 -- ---- moved up, and free places behind
 
 -- no place is given up
 pub closed_nothing :
-    (rows : List (List ℕ)) (place next end : ℕ)
+    (rows : List Order) (place next end : ℕ)
     → next ≤ end
     → end ≤ length rows
     → place ≡ next
-    → book_of rows ≡ take place (book_of rows) ++ (line next end rows ++ (replicate (next - place) free ++ drop end (book_of rows)))
+    → rows ≡ take place rows ++ (line next end rows ++ (replicate (next - place) free ++ drop end rows))
 unfolding line
 closed_nothing rows place next end h short e =
     let z : next - next ≡ 0 = omega arith in
-    sym (take-append-drop end (book_of rows))
-    ∙ ap (λ (l : List Order). l ++ drop end (book_of rows)) (sym (take-append-drop next (take end (book_of rows))))
-    ∙ ap (λ (l : List Order). (l ++ drop next (take end (book_of rows))) ++ drop end (book_of rows)) (take-take next end (book_of rows) h)
-    ∙ append_assoc (take next (book_of rows)) (drop next (take end (book_of rows))) (drop end (book_of rows))
+    sym (take-append-drop end rows)
+    ∙ ap (λ (l : List Order). l ++ drop end rows) (sym (take-append-drop next (take end rows)))
+    ∙ ap (λ (l : List Order). (l ++ drop next (take end rows)) ++ drop end rows) (take-take next end rows h)
+    ∙ append_assoc (take next rows) (drop next (take end rows)) (drop end rows)
     ∙ rw (e, z)
 
-module _ (rows rows₁ : List (List ℕ)) (place next end : ℕ) (before : place ≤ next) (some : next ≤ end) (short : end ≤ length rows) (e : book_of rows₁ ≡ take place (book_of rows) ++ (line next end rows ++ drop (place + (end - next)) (book_of rows))) where
+module _ (rows rows₁ : List Order) (place next end : ℕ) (before : place ≤ next) (some : next ≤ end) (short : end ≤ length rows) (e : rows₁ ≡ take place rows ++ (line next end rows ++ drop (place + (end - next)) rows)) where
   abbrev moved : ℕ
   moved = place + (end - next)
 
   abbrev stays : List Order
-  stays = take place (book_of rows) ++ line next end rows
+  stays = take place rows ++ line next end rows
 
   stays_length : length stays ≡ moved
   stays_length =
-      length-append (take place (book_of rows)) (line next end rows)
-      ∙ omega (arith, length-take-le place (book_of rows) (omega (arith, length-map rows order_of)), line_length next end rows short)
+      length-append (take place rows) (line next end rows)
+      ∙ omega (arith, length-take-le place rows (omega arith), line_length next end rows short)
 
-  together : book_of rows₁ ≡ stays ++ drop moved (book_of rows)
-  together = e ∙ sym (append_assoc (take place (book_of rows)) (line next end rows) (drop moved (book_of rows)))
+  together : rows₁ ≡ stays ++ drop moved rows
+  together = e ∙ sym (append_assoc (take place rows) (line next end rows) (drop moved rows))
 
   pub closed_up :
       {book : List Order}
-      → book ≡ take moved (book_of rows₁) ++ (replicate (end - moved) free ++ drop end (book_of rows₁))
-      → book ≡ take place (book_of rows) ++ (line next end rows ++ (replicate (next - place) free ++ drop end (book_of rows)))
+      → book ≡ take moved rows₁ ++ (replicate (end - moved) free ++ drop end rows₁)
+      → book ≡ take place rows ++ (line next end rows ++ (replicate (next - place) free ++ drop end rows))
   closed_up f =
       let n : end - moved ≡ next - place = omega arith in
       let k : end ≡ length stays + (end - moved) = omega (arith, stays_length) in
       let j : moved + (end - moved) ≡ end = omega arith in
-      let first : take moved (book_of rows₁) ≡ stays =
+      let first : take moved rows₁ ≡ stays =
       ap (take moved) together
-      ∙ ap (λ (i : ℕ). take i (stays ++ drop moved (book_of rows))) (sym stays_length)
-      ∙ take-append_seam stays (drop moved (book_of rows))
+      ∙ ap (λ (i : ℕ). take i (stays ++ drop moved rows)) (sym stays_length)
+      ∙ take-append_seam stays (drop moved rows)
       in
-      let last : drop end (book_of rows₁) ≡ drop end (book_of rows) =
+      let last : drop end rows₁ ≡ drop end rows =
       ap (drop end) together
-      ∙ ap (λ (i : ℕ). drop i (stays ++ drop moved (book_of rows))) k
-      ∙ drop-append-add stays (drop moved (book_of rows)) (end - moved)
-      ∙ drop-drop (end - moved) moved (book_of rows)
-      ∙ ap (λ (i : ℕ). drop i (book_of rows)) j
+      ∙ ap (λ (i : ℕ). drop i (stays ++ drop moved rows)) k
+      ∙ drop-append-add stays (drop moved rows) (end - moved)
+      ∙ drop-drop (end - moved) moved rows
+      ∙ ap (λ (i : ℕ). drop i rows) j
       in
       f
       ∙ rw (first, last, n)
-      (append_assoc (take place (book_of rows)) (line next end rows) (replicate (next - place) free ++ drop end (book_of rows)))
+      (append_assoc (take place rows) (line next end rows) (replicate (next - place) free ++ drop end rows))
 
 -- ---- shares off a front
 
-pub record Ending (shares from to : ℕ) (rows : List (List ℕ)) (left at : ℕ) : Type 0 where
+pub record Ending (shares from to : ℕ) (rows : List Order) (left at : ℕ) : Type 0 where
   pub same : off_front shares (line from to rows) ≡ off_front left (line at to rows)
   pub least : from ≤ at
   pub most : at ≤ to
 
-pub ending_start : (shares from to : ℕ) (rows : List (List ℕ)) → from ≤ to → Ending shares from to rows shares from
+pub ending_start : (shares from to : ℕ) (rows : List Order) → from ≤ to → Ending shares from to rows shares from
 ending_start shares from to rows h = record { same = refl; least = omega arith; most = h }
 
 -- a line does not look before its first place
 line_same :
-    (at end : ℕ) (rows rows' : List (List ℕ))
-    → drop at (book_of rows') ≡ drop at (book_of rows)
+    (at end : ℕ) (rows rows' : List Order)
+    → drop at rows' ≡ drop at rows
     → line at end rows' ≡ line at end rows
 unfolding line
 line_same at end rows rows' e =
-    cut_either at end (book_of rows') ∙ ap (take (end - at)) e ∙ sym (cut_either at end (book_of rows))
+    cut_either at end rows' ∙ ap (take (end - at)) e ∙ sym (cut_either at end rows)
   where
     cut_either : (m n : ℕ) (l : List Order) → drop m (take n l) ≡ take (n - m) (drop m l)
     cut_either zero n l = let z : n - 0 ≡ n = omega arith in rw z
@@ -285,39 +280,37 @@ line_same at end rows rows' e =
         cut_either m n l ∙ ap (λ (k : ℕ). take k (drop m l)) (sym z)
 
 line_split :
-    (at to end : ℕ) (rows : List (List ℕ))
+    (at to end : ℕ) (rows : List Order)
     → at ≤ to
     → to ≤ end
     → end ≤ length rows
     → line at end rows ≡ line at to rows ++ line to end rows
 unfolding line
 line_split at to end rows a b c =
-    ap (drop at) (sym (take-append-drop to (take end (book_of rows))))
-    ∙ ap (λ (l : List Order). drop at (l ++ drop to (take end (book_of rows)))) (take-take to end (book_of rows) b)
-    ∙ drop-append-le at (take to (book_of rows)) (drop to (take end (book_of rows)))
-    (omega (arith, length-take-le to (book_of rows) (omega (arith, length-map rows order_of))))
+    ap (drop at) (sym (take-append-drop to (take end rows)))
+    ∙ ap (λ (l : List Order). drop at (l ++ drop to (take end rows))) (take-take to end rows b)
+    ∙ drop-append-le at (take to rows) (drop to (take end rows))
+    (omega (arith, length-take-le to rows (omega arith)))
 
-module _ (shares from to : ℕ) (rows : List (List ℕ)) (short : to ≤ length rows) {left at : ℕ} (w : Ending shares from to rows left at) where
-  module _ {o : Order} (inside : at < to) (e : o ≡ order_of (get_or rows at [])) where
+module _ (shares from to : ℕ) (rows : List Order) (short : to ≤ length rows) {left at : ℕ} (w : Ending shares from to rows left at) where
+  module _ {o : Order} (inside : at < to) (e : o ≡ get_or rows at free) where
     off_one : line at to rows ≡ o ∷ line (at + 1) to rows
     off_one = line_cons at to rows inside short e
 
     -- the order there keeps some
     pub cut_here :
-        {r : Order} {rows' : List (List ℕ)}
+        {r : Order} {rows' : List Order}
         → left < o.left
         → r ≡ less_by left o
-        → rows' ≡ set rows at (row_of r)
+        → rows' ≡ set rows at r
         → CutAt shares from to rows rows' at
     unfolding off_front
     cut_here {r} {rows'} l f g =
         let within : at < length rows = omega arith in
-        let it : r ≡ order_of (get_or rows' at []) =
+        let it : r ≡ get_or rows' at free =
         sym
-        (book_at rows' at
-        ∙ ap (λ (x : List (List ℕ)). get_or (book_of x) at free) g
-        ∙ ap (λ (b : List Order). get_or b at free) (book_set rows at r)
-        ∙ get_or-set_same (book_of rows) at r free (omega (arith, length-map rows order_of)))
+        (ap (λ (x : List Order). get_or x at free) g
+        ∙ get_or-set_same rows at r free (omega arith))
         in
         let later : line (at + 1) to rows' ≡ line (at + 1) to rows =
         line_same (at + 1) to rows rows' (put_back rows at r within g (at + 1) (omega arith))
@@ -328,9 +321,8 @@ module _ (shares from to : ℕ) (rows : List (List ℕ)) (short : to ≤ length 
               ∙ ap (λ (os : List Order). r ∷ os) later
               ∙ sym (w.same ∙ ap (off_front left) off_one ∙ rw (lt-ltb left o.left l, f));
           before =
-              ap (λ (x : List (List ℕ)). take at (book_of x)) g
-              ∙ ap (take at) (book_set rows at r)
-              ∙ take-set-le at (book_of rows) at r (omega arith);
+              ap (λ (x : List Order). take at x) g
+              ∙ take-set-le at rows at r (omega arith);
           behind = put_back rows at r within g to inside;
           least = w.least;
           most = w.most;
@@ -360,24 +352,24 @@ module _ (shares from to : ℕ) (rows : List (List ℕ)) (short : to ≤ length 
 
 -- the rows were as they came
 pub cut_from :
-    {shares from to at : ℕ} {rows rows₀ rows' : List (List ℕ)}
+    {shares from to at : ℕ} {rows rows₀ rows' : List Order}
     → rows ≡ rows₀
     → CutAt shares from to rows rows' at
     → CutAt shares from to rows₀ rows' at
-cut_from {shares} {from} {to} {at} {rows} {rows₀} {rows'} e c = subst (λ (r : List (List ℕ)). CutAt shares from to r rows' at) e c
+cut_from {shares} {from} {to} {at} {rows} {rows₀} {rows'} e c = subst (λ (r : List Order). CutAt shares from to r rows' at) e c
 
 -- ---- and those behind moved up
 
-module _ (rows rows' : List (List ℕ)) {shares from to end at : ℕ} (wide : to ≤ end) (short : end ≤ length rows) (long : length rows' ≡ length rows) (frees : FreeFrom end rows) (c : CutAt shares from to rows rows' at) where
+module _ (rows rows' : List Order) {shares from to end at : ℕ} (wide : to ≤ end) (short : end ≤ length rows) (long : length rows' ≡ length rows) (frees : FreeFrom end rows) (c : CutAt shares from to rows rows' at) where
   abbrev orders : List Order
-  orders = take from (book_of rows) ++ (off_front shares (line from to rows) ++ line to end rows)
+  orders = take from rows ++ (off_front shares (line from to rows) ++ line to end rows)
 
   orders_length : length orders ≡ from + ((to - at) + (end - to))
   orders_length =
-      length-append (take from (book_of rows)) (off_front shares (line from to rows) ++ line to end rows)
+      length-append (take from rows) (off_front shares (line from to rows) ++ line to end rows)
       ∙ omega (
         arith,
-        length-take-le from (book_of rows) (omega (arith, length-map rows order_of, c.least, c.most)),
+        length-take-le from rows (omega (arith, c.least, c.most)),
         length-append (off_front shares (line from to rows)) (line to end rows),
         ap length c.kept,
         line_length at to rows' (omega arith),
@@ -386,25 +378,25 @@ module _ (rows rows' : List (List ℕ)) {shares from to end at : ℕ} (wide : to
 
   pub taken_off :
       {book : List Order}
-      → book ≡ take from (book_of rows') ++ (line at end rows' ++ (replicate (at - from) free ++ drop end (book_of rows')))
+      → book ≡ take from rows' ++ (line at end rows' ++ (replicate (at - from) free ++ drop end rows'))
       → book ≡ placed (length rows) orders
   unfolding placed
   taken_off {book} e =
-      let first : take from (book_of rows') ≡ take from (book_of rows) =
-      sym (take-take from at (book_of rows') c.least) ∙ ap (take from) c.before ∙ take-take from at (book_of rows) c.least
+      let first : take from rows' ≡ take from rows =
+      sym (take-take from at rows' c.least) ∙ ap (take from) c.before ∙ take-take from at rows c.least
       in
       let middle : line at end rows' ≡ off_front shares (line from to rows) ++ line to end rows =
       line_split at to end rows' c.most wide (omega arith)
       ∙ ap (λ (l : List Order). l ++ line to end rows') c.kept
       ∙ ap (λ (l : List Order). off_front shares (line from to rows) ++ l) (line_same to end rows rows' c.behind)
       in
-      let last : drop end (book_of rows') ≡ replicate (length rows - end) free =
-      later_same to end (book_of rows') (book_of rows) wide c.behind ∙ frees
+      let last : drop end rows' ≡ replicate (length rows - end) free =
+      later_same to end rows' rows wide c.behind ∙ frees
       in
       let n : (at - from) + (length rows - end) ≡ length rows - length orders = omega (arith, orders_length, c.least, c.most) in
       e
       ∙ rw (first, middle, last)
-      (ap (λ (l : List Order). take from (book_of rows) ++ ((off_front shares (line from to rows) ++ line to end rows) ++ l))
+      (ap (λ (l : List Order). take from rows ++ ((off_front shares (line from to rows) ++ line to end rows) ++ l))
       (replicate-append-replicate (at - from) (length rows - end) free ∙ ap (λ (k : ℕ). replicate k free) n)
-      ∙ sym (append_assoc (take from (book_of rows)) (off_front shares (line from to rows) ++ line to end rows) (replicate (length rows - length orders) free))
+      ∙ sym (append_assoc (take from rows) (off_front shares (line from to rows) ++ line to end rows) (replicate (length rows - length orders) free))
       ∙ sym (placed_fit (length rows) orders (omega (arith, orders_length, c.least, c.most))))

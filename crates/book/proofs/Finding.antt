@@ -14,7 +14,6 @@ use Rattle.model.specs.Lists.{keep, any, total}
 use Rattle.model.specs.Book.{free, is_live}
 use Rattle.model.specs.Calls.{is_own}
 use Rattle.model.proofs.Bools.{and_left, and_right}
-use Rattle.book.specs.Rows.{order_of, book_of}
 use Rattle.model.specs.Words.{Each, Apart}
 use Rattle.book.specs.Places.{first_with, place_of}
 use Rattle.book.proofs.Lists.{each, keep_true, keep_false, keep_all, keep_none}
@@ -32,34 +31,34 @@ module _ (p : Order → Bool) where
   first_later o os e = rw e
 
   -- i places have been passed
-  abbrev pub Passed : List (List ℕ) → ℕ → Type 0
-  Passed rows i = (i ≤ length rows) × (i + first_with p (book_of (drop i rows)) ≡ first_with p (book_of rows))
+  abbrev pub Passed : List Order → ℕ → Type 0
+  Passed rows i = (i ≤ length rows) × (i + first_with p (drop i rows) ≡ first_with p rows)
 
-  pub passed_none : (rows : List (List ℕ)) → Passed rows 0
+  pub passed_none : (rows : List Order) → Passed rows 0
   passed_none rows = (omega arith, omega arith)
 
   module _
-      (rows : List (List ℕ)) (i : ℕ) (o : Order)
-      (h : i < length rows) (e : o ≡ order_of (get_or rows i [])) (w : Passed rows i) where
-    here : book_of (drop i rows) ≡ o ∷ book_of (drop (suc i) rows)
-    here = ap book_of (drop-cons rows i [] h) ∙ ap (λ (x : Order). x ∷ book_of (drop (suc i) rows)) (sym e)
+      (rows : List Order) (i : ℕ) (o : Order)
+      (h : i < length rows) (e : o ≡ get_or rows i free) (w : Passed rows i) where
+    here : (drop i rows) ≡ o ∷ (drop (suc i) rows)
+    here = drop-cons rows i free h ∙ ap (λ (x : Order). x ∷ (drop (suc i) rows)) (sym e)
 
-    pub found_place : p o ≡ true → i ≡ first_with p (book_of rows)
-    found_place t = omega (arith, ap (first_with p) here, first_here o (book_of (drop (suc i) rows)) t, w.1)
+    pub found_place : p o ≡ true → i ≡ first_with p rows
+    found_place t = omega (arith, ap (first_with p) here, first_here o (drop (suc i) rows) t, w.1)
 
     pub passed_more : p o ≡ false → Passed rows (i + 1)
     passed_more t =
-        let next : book_of (drop (i + 1) rows) ≡ book_of (drop (suc i) rows) = ap (λ (n : ℕ). book_of (drop n rows)) (add-one i) in (
+        let next : (drop (i + 1) rows) ≡ (drop (suc i) rows) = ap (λ (n : ℕ). (drop n rows)) (add-one i) in (
           omega arith,
           omega
-              (arith, ap (first_with p) here, first_later o (book_of (drop (suc i) rows)) t, ap (first_with p) next, w.1),
+              (arith, ap (first_with p) here, first_later o (drop (suc i) rows) t, ap (first_with p) next, w.1),
         )
 
-  pub passed_all : (rows : List (List ℕ)) (i : ℕ) → length rows ≤ i → Passed rows i → i ≡ first_with p (book_of rows)
+  pub passed_all : (rows : List Order) (i : ℕ) → length rows ≤ i → Passed rows i → i ≡ first_with p rows
   unfolding first_with
   passed_all rows i h w =
       let end : i ≡ length rows = omega (arith, w.0) in
-      let none : book_of (drop i rows) ≡ [] = ap (λ (n : ℕ). book_of (drop n rows)) end ∙ ap book_of (drop-length rows) in
+      let none : (drop i rows) ≡ [] = ap (λ (n : ℕ). (drop n rows)) end ∙ (drop-length rows) in
       omega (arith, ap (first_with p) none, w.1)
 
   -- ---- when there is one

@@ -6,7 +6,7 @@ use mathlib.Core.Bool.{true}
 use mathlib.Core.List.{List, [], ◌∷◌, ◌++◌, map, append_assoc, append-nil}
 use native.Mathlib.Omega.{arith}
 use native.Mathlib.Decide.{dec_lt}
-use lib.ListN.{length, take, drop, replicate, length-append, length-map, length-replicate, replicate-append-replicate}
+use lib.ListN.{length, take, drop, replicate, length-append, length-replicate, replicate-append-replicate}
 use lib.Seq.{take-append_seam, take-append-add, drop-append_seam, drop-append-add, drop_at}
 use borrow.Author.Tests.{lt-ltb, le-ltb}
 use Rattle.model.specs.declared.Order.{Order}
@@ -14,7 +14,6 @@ use Rattle.model.specs.declared.Trade.{Trade}
 use Rattle.model.specs.Lists.{keep}
 use Rattle.model.specs.Book.{free, is_live, queue, arranged}
 use Rattle.model.specs.Matching.{less_by, filled_of, settle}
-use Rattle.book.specs.Rows.{order_of, book_of}
 use Rattle.model.specs.Words.{Each}
 use Rattle.book.specs.Standing.{Fair, Standing, Ranked}
 use Rattle.book.specs.Lines.{line}
@@ -60,18 +59,18 @@ placed_more n k os h =
     ∙ ap (λ (l : List Order). os ++ l) (replicate-append-replicate k (n - (length os + k)) free ∙ ap (λ i. replicate i free) m)
     ∙ sym (placed_fit n os (omega arith)))
 
-module _ (rows : List (List ℕ)) (ranked : Ranked (book_of rows)) where
+module _ (rows : List Order) (ranked : Ranked rows) where
   abbrev buys : List Order
-  buys = queue 0 (book_of rows)
+  buys = queue 0 rows
 
   abbrev sells : List Order
-  sells = queue 1 (book_of rows)
+  sells = queue 1 rows
 
-  abbrev parts : RankedParts (book_of rows)
-  parts = parts_of (book_of rows) ranked
+  abbrev parts : RankedParts rows
+  parts = parts_of rows ranked
 
   abbrev spare : ℕ
-  spare = length (book_of rows) - (length buys + length sells)
+  spare = length rows - (length buys + length sells)
 
   places : length rows ≡ length buys + (length sells + spare)
   places = rows_length rows parts
@@ -85,9 +84,9 @@ module _ (rows : List (List ℕ)) (ranked : Ranked (book_of rows)) where
       ∙ ap (λ i. replicate i free) (sym n)
 
   -- the first orders are the buys
-  take_buys : {m : ℕ} → m ≡ length buys → take m (book_of rows) ≡ buys
+  take_buys : {m : ℕ} → m ≡ length buys → take m rows ≡ buys
   take_buys e =
-      ap (λ i. take i (book_of rows)) e ∙ ap (take (length buys)) parts.made ∙ take-append_seam buys (sells ++ replicate spare free)
+      ap (λ i. take i rows) e ∙ ap (take (length buys)) parts.made ∙ take-append_seam buys (sells ++ replicate spare free)
 
   module _ {m n : ℕ} (em : m ≡ length buys) (en : n ≡ length buys + length sells) where
     -- where the sides end, nothing stands behind them
@@ -102,13 +101,13 @@ module _ (rows : List (List ℕ)) (ranked : Ranked (book_of rows)) where
 
     pub off_the_buys :
         (v : ℕ) {book : List Order}
-        → book ≡ placed (length rows) (take 0 (book_of rows) ++ (off_front v (line 0 m rows) ++ line m n rows))
+        → book ≡ placed (length rows) (take 0 rows ++ (off_front v (line 0 m rows) ++ line m n rows))
         → book ≡ placed (length rows) (off_front v buys ++ sells)
     off_the_buys v e = e ∙ rw (buys_line, sells_line)
 
     pub off_the_sells :
         (v : ℕ) {book : List Order}
-        → book ≡ placed (length rows) (take m (book_of rows) ++ (off_front v (line m n rows) ++ line n n rows))
+        → book ≡ placed (length rows) (take m rows ++ (off_front v (line m n rows) ++ line n n rows))
         → book ≡ placed (length rows) (buys ++ off_front v sells)
     off_the_sells v e =
         e ∙ rw (take_buys em, sells_line, line_none) (ap (λ (l : List Order). placed (length rows) (buys ++ l)) (append-nil (off_front v sells)))
@@ -121,7 +120,7 @@ module _ (rows : List (List ℕ)) (ranked : Ranked (book_of rows)) where
             nobody (o ∷ l) z = absurd (omega arith)
 
     -- first the sells, and then the buys, which have not moved
-    module _ (v : ℕ) (rows₁ : List (List ℕ)) (e : book_of rows₁ ≡ placed (length rows) (buys ++ off_front v sells)) where
+    module _ (v : ℕ) (rows₁ : List Order) (e : rows₁ ≡ placed (length rows) (buys ++ off_front v sells)) where
       abbrev kept : List Order
       kept = off_front v sells
 
@@ -134,7 +133,7 @@ module _ (rows : List (List ℕ)) (ranked : Ranked (book_of rows)) where
       abbrev rest : ℕ
       rest = length rows - (length buys + length kept)
 
-      together : book_of rows₁ ≡ buys ++ (kept ++ replicate rest free)
+      together : rows₁ ≡ buys ++ (kept ++ replicate rest free)
       unfolding placed
       together =
           e
@@ -143,8 +142,7 @@ module _ (rows : List (List ℕ)) (ranked : Ranked (book_of rows)) where
 
       as_long : length rows₁ ≡ length rows
       as_long =
-          sym (length-map rows₁ order_of)
-          ∙ ap length together
+          ap length together
           ∙ length-append buys (kept ++ replicate rest free)
           ∙ ap (λ i. length buys + i) (length-append kept (replicate rest free) ∙ ap (λ i. length kept + i) (length-replicate rest free))
           ∙ omega (arith, kept_short, places)
@@ -167,7 +165,7 @@ module _ (rows : List (List ℕ)) (ranked : Ranked (book_of rows)) where
       buys_then : line 0 m rows₁ ≡ buys
       unfolding line
       buys_then =
-          ap (λ i. take i (book_of rows₁)) em ∙ ap (take (length buys)) together ∙ take-append_seam buys (kept ++ replicate rest free)
+          ap (λ i. take i rows₁) em ∙ ap (take (length buys)) together ∙ take-append_seam buys (kept ++ replicate rest free)
 
       sells_then : line m n rows₁ ≡ kept ++ replicate (length sells - length kept) free
       unfolding line
@@ -185,7 +183,7 @@ module _ (rows : List (List ℕ)) (ranked : Ranked (book_of rows)) where
 
       pub off_both_sides :
           {book : List Order}
-          → book ≡ placed (length rows₁) (take 0 (book_of rows₁) ++ (off_front v (line 0 m rows₁) ++ line m n rows₁))
+          → book ≡ placed (length rows₁) (take 0 rows₁ ++ (off_front v (line 0 m rows₁) ++ line m n rows₁))
           → book ≡ placed (length rows) (off_front v buys ++ kept)
       off_both_sides {book} f =
           f

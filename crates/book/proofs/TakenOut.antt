@@ -7,13 +7,12 @@ use mathlib.Core.List.{List, [], ◌∷◌, ◌++◌, append_assoc}
 use native.Mathlib.Omega.{arith}
 use native.Mathlib.Decide.{dec_lt}
 use native.Mathlib.Numerals.{add-one}
-use lib.ListN.{length, get_or, take, drop, replicate, length-append, length-drop, length-map, take-append-drop, replicate-append-replicate}
+use lib.ListN.{length, get_or, take, drop, replicate, length-append, length-drop, take-append-drop, replicate-append-replicate}
 use lib.Seq.{drop-append-le, get_or-append-add, length-take-le}
 use Rattle.model.specs.declared.Order.{Order}
 use Rattle.model.specs.Lists.{keep}
 use Rattle.model.specs.Book.{free, queue, arranged}
 use Rattle.model.specs.Calls.{is_own}
-use Rattle.book.specs.Rows.{order_of, book_of}
 use Rattle.book.specs.Standing.{Ranked}
 use Rattle.book.specs.Lines.{line}
 use Rattle.book.specs.Places.{place_of}
@@ -28,34 +27,34 @@ use Rattle.book.proofs.Fronts.{free_behind, placed_more}
 
 -- ---- the places
 
-module _ (rows : List (List ℕ)) (ranked : Ranked (book_of rows)) {place end : ℕ} (en : end ≡ length (queue 0 (book_of rows)) + length (queue 1 (book_of rows))) (h : place < end) where
-  frees_last : drop end (book_of rows) ++ (free ∷ []) ≡ free ∷ drop end (book_of rows)
+module _ (rows : List Order) (ranked : Ranked rows) {place end : ℕ} (en : end ≡ length (queue 0 rows) + length (queue 1 rows)) (h : place < end) where
+  frees_last : drop end rows ++ (free ∷ []) ≡ free ∷ drop end rows
   frees_last =
-      let frees : drop end (book_of rows) ≡ replicate (length rows - end) free = free_behind rows ranked en in
+      let frees : drop end rows ≡ replicate (length rows - end) free = free_behind rows ranked en in
       let swap : (length rows - end) + 1 ≡ suc (length rows - end) = omega arith in
       ap (λ (l : List Order). l ++ (free ∷ [])) frees
       ∙ replicate-append-replicate (length rows - end) 1 free
       ∙ ap (λ i. replicate i free) swap
       ∙ ap (λ (l : List Order). free ∷ l) (sym frees)
 
-  line_on : drop (place + 1) (book_of rows) ≡ line (place + 1) end rows ++ drop end (book_of rows)
+  line_on : drop (place + 1) rows ≡ line (place + 1) end rows ++ drop end rows
   unfolding line
   line_on =
-      ap (drop (place + 1)) (sym (take-append-drop end (book_of rows)))
-      ∙ drop-append-le (place + 1) (take end (book_of rows)) (drop end (book_of rows))
-      (omega (arith, length-take-le end (book_of rows) (omega (arith, length-map rows order_of, en, rows_length rows (parts_of (book_of rows) ranked)))))
+      ap (drop (place + 1)) (sym (take-append-drop end rows))
+      ∙ drop-append-le (place + 1) (take end rows) (drop end rows)
+      (omega (arith, length-take-le end rows (omega (arith, en, rows_length rows (parts_of rows ranked)))))
 
   pub out_of_order :
       {book : List Order}
-      → book ≡ take place (book_of rows) ++ (line (place + 1) end rows ++ (replicate (place + 1 - place) free ++ drop end (book_of rows)))
-      → book ≡ take place (book_of rows) ++ (drop (place + 1) (book_of rows) ++ (free ∷ []))
+      → book ≡ take place rows ++ (line (place + 1) end rows ++ (replicate (place + 1 - place) free ++ drop end rows))
+      → book ≡ take place rows ++ (drop (place + 1) rows ++ (free ∷ []))
   out_of_order e =
       let one : place + 1 - place ≡ 1 = omega arith in
       e
-      ∙ ap (λ i. take place (book_of rows) ++ (line (place + 1) end rows ++ (replicate i free ++ drop end (book_of rows)))) one
-      ∙ ap (λ (l : List Order). take place (book_of rows) ++ l)
+      ∙ ap (λ i. take place rows ++ (line (place + 1) end rows ++ (replicate i free ++ drop end rows))) one
+      ∙ ap (λ (l : List Order). take place rows ++ l)
       (ap (λ (l : List Order). line (place + 1) end rows ++ l) (sym frees_last)
-      ∙ sym (append_assoc (line (place + 1) end rows) (drop end (book_of rows)) (free ∷ []))
+      ∙ sym (append_assoc (line (place + 1) end rows) (drop end rows) (free ∷ []))
       ∙ ap (λ (l : List Order). l ++ (free ∷ [])) (sym line_on))
 
 -- ---- who is live stands before the free places

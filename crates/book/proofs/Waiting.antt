@@ -9,12 +9,12 @@ use lib.ListN.{length, get_or, take}
 use borrow.Author.Tests.{lt-ltb, le-ltb}
 use Rattle.model.specs.declared.Order.{Order}
 use Rattle.book.specs.declared.Head.{Head}
-use Rattle.book.specs.Rows.{order_of, book_of}
 use Rattle.model.specs.Words.{Each}
 use Rattle.book.specs.Heads.{head_of, head_past, as_order, waiting}
 use Rattle.book.specs.Lines.{line}
 use Rattle.book.proofs.Lists.{each_drop}
 use Rattle.book.proofs.Lines.{line_end, line_cons}
+use Rattle.model.specs.Book.{free}
 
 pub waiting_some : (h : Head) (os : List Order) → 0 < h.left → waiting h os ≡ as_order h ∷ os
 unfolding waiting
@@ -45,10 +45,10 @@ module _ (q : ℕ) (h : Head) (os : List Order) where
 
 -- ---- along a line whose orders all have shares
 
-module _ (end : ℕ) (rows : List (List ℕ)) (short : end ≤ length rows) (full : Each (λ o. 1 ≤ o.left) (take end (book_of rows))) where
+module _ (end : ℕ) (rows : List Order) (short : end ≤ length rows) (full : Each (λ o. 1 ≤ o.left) (take end rows)) where
   pub some_left : (at : ℕ) → Each (λ o. 1 ≤ o.left) (line at end rows)
   unfolding line
-  some_left at = each_drop (λ o. 1 ≤ o.left) at (take end (book_of rows)) full
+  some_left at = each_drop (λ o. 1 ≤ o.left) at (take end rows) full
 
   -- those behind a head
   abbrev pub behind : Head → List Order
@@ -61,9 +61,9 @@ module _ (end : ℕ) (rows : List (List ℕ)) (short : end ≤ length rows) (ful
   pub placed_first : (at : ℕ) → Placed (head_of at (line at end rows))
   placed_first at = elim (dec_lt at end) [
     | yes l ↦
-        let e : line at end rows ≡ order_of (get_or rows at []) ∷ line (at + 1) end rows = line_cons at end rows l short refl in
-        let g : Each (λ o. 1 ≤ o.left) (order_of (get_or rows at []) ∷ line (at + 1) end rows) = rw e at (some_left at) in
-        rw (e, ← head_some at {o = order_of (get_or rows at [])} {behind = line (at + 1) end rows} refl) (inl (g.0, l))
+        let e : line at end rows ≡ get_or rows at free ∷ line (at + 1) end rows = line_cons at end rows l short refl in
+        let g : Each (λ o. 1 ≤ o.left) (get_or rows at free ∷ line (at + 1) end rows) = rw e at (some_left at) in
+        rw (e, ← head_some at {o = get_or rows at free} {behind = line (at + 1) end rows} refl) (inl (g.0, l))
     | no l ↦
         rw (line_end at end rows (omega arith), ← head_none at {os = []} refl) (inr (refl, omega arith))
   ]

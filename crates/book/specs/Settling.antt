@@ -3,7 +3,6 @@ use Rattle.std.specs.Prelude.{ℕ, ◌-◌, ◌≤◌, ◌≡◌, List, [], ◌�
 use Rattle.model.specs.declared.Order.{Order}
 use Rattle.model.specs.Book.{free}
 use Rattle.model.specs.Matching.{less_by}
-use Rattle.book.specs.Rows.{book_of}
 use Rattle.book.specs.Lines.{line}
 
 -- orders when so many shares have come off, one order after the other: who has none left is gone
@@ -16,13 +15,13 @@ unfoldable pub placed : ℕ → List Order → List Order
 placed n os = take n (os ++ replicate n free)
 
 -- no order stands from a place on
-abbrev pub FreeFrom : ℕ → List (List ℕ) → Type 0
-FreeFrom end rows = drop end (book_of rows) ≡ replicate (length rows - end) free
+abbrev pub FreeFrom : ℕ → List Order → Type 0
+FreeFrom end rows = drop end rows ≡ replicate (length rows - end) free
 
 -- shares have come off the orders from a place up to another: what is left of them stands from r on, and nothing else has changed
-pub record CutAt (shares from to : ℕ) (rows rows' : List (List ℕ)) (r : ℕ) : Type 0 where
+pub record CutAt (shares from to : ℕ) (rows rows' : List Order) (r : ℕ) : Type 0 where
   pub kept : line r to rows' ≡ off_front shares (line from to rows)
-  pub before : take r (book_of rows') ≡ take r (book_of rows)
-  pub behind : drop to (book_of rows') ≡ drop to (book_of rows)
+  pub before : take r rows' ≡ take r rows
+  pub behind : drop to rows' ≡ drop to rows
   pub least : from ≤ r
   pub most : r ≤ to

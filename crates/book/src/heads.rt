@@ -4,9 +4,10 @@ ghost use Rattle.book.specs.Lines.{line};
 ghost use Rattle.book.specs.Heads.{head_of, head_past};
 
 use crate::{Head, order_at};
+use model::Order;
 
 // The first order from a place on, before the end of its side.
-pub fn head_at(rows: &[[u64; 5]], at: usize, end: usize) -> Head
+pub fn head_at(rows: &[Order], at: usize, end: usize) -> Head
     requires { end ≤ length rows.now }
     ensures { result ≡ head_of at (line at end rows.now) }
 {
@@ -28,7 +29,7 @@ pub fn head_at(rows: &[[u64; 5]], at: usize, end: usize) -> Head
 }
 
 // The head when q of it have traded: itself while something is left, else the next.
-pub fn head_past(rows: &[[u64; 5]], end: usize, h: Head, q: u64) -> Head
+pub fn head_past(rows: &[Order], end: usize, h: Head, q: u64) -> Head
     requires end_in_bounds { end ≤ length rows.now }
     requires at_lt_end { h.at < end }
     ensures { result ≡ head_past q h (line (h.at + 1) end rows.now) }

@@ -9,7 +9,8 @@ pub mod seats;
 pub mod settling;
 
 ghost use Rattle.std.specs.Prelude.{◌≡◌, ◌<◌, min, [], length, get_or, set};
-ghost use Rattle.book.specs.Rows.{order_of, row_of, trade_of, trade_row};
+ghost use Rattle.model.specs.Book.{free};
+ghost use Rattle.model.specs.Matching.{no_trade};
 
 use model::{Order, Trade};
 
@@ -44,57 +45,47 @@ pub fn smaller(a: u64, b: u64) -> u64
 }
 
 // The order at a place.
-pub fn order_at(rows: &[[u64; 5]], place: usize) -> Order
+pub fn order_at(rows: &[Order], place: usize) -> Order
     requires { place < length rows.now }
-    ensures { result ≡ order_of (get_or rows.now place []) }
+    ensures { result ≡ get_or rows.now place free }
 {
-    let row = rows[place];
-    Order {
-        side: row[0],
-        account: row[1],
-        left: row[2],
-        price: row[3],
-        number: row[4],
-    }
+    rows[place]
 }
 
-pub fn put_order(rows: &mut [[u64; 5]], place: usize, o: Order)
+pub fn put_order(rows: &mut [Order], place: usize, o: Order)
     requires { place < length rows.old }
-    ensures { rows.new ≡ set rows.old place (row_of o) }
+    ensures { rows.new ≡ set rows.old place o }
 {
-    let row = [o.side, o.account, o.left, o.price, o.number];
-    rows[place] = row;
+    rows[place] = o;
 }
 
 // The trade at a place of the trade list.
-pub fn trade_at(trades: &[[u64; 6]], place: usize) -> Trade
+pub fn trade_at(trades: &[Trade], place: usize) -> Trade
     requires { place < length trades.now }
-    ensures { result ≡ trade_of (get_or trades.now place []) }
+    ensures { result ≡ get_or trades.now place no_trade }
 {
-    let row = trades[place];
+    trades[place]
+}
+
+// A place of a trade list at which no trade was written.
+pub fn no_trade() -> Trade
+    ensures { result ≡ no_trade }
+{
     Trade {
-        price: row[0],
-        quantity: row[1],
-        buyer: row[2],
-        seller: row[3],
-        buyerleft: row[4],
-        sellerleft: row[5],
+        price: 0,
+        quantity: 0,
+        buyer: 0,
+        seller: 0,
+        buyerleft: 0,
+        sellerleft: 0,
     }
 }
 
 // The trade at its place; a list that does not reach so far stays as it is.
-pub fn put_trade(trades: &mut [[u64; 6]], place: usize, t: Trade)
-    ensures { trades.new ≡ set trades.old place (trade_row t) }
+pub fn put_trade(trades: &mut [Trade], place: usize, t: Trade)
+    ensures { trades.new ≡ set trades.old place t }
 {
     if place < trades.len() {
-        let row = [
-            t.price,
-            t.quantity,
-            t.buyer,
-            t.seller,
-            t.buyerleft,
-            t.sellerleft,
-        ];
-        trades[place] = row;
+        trades[place] = t;
     }
 }

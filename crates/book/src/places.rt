@@ -2,7 +2,6 @@
 ghost use Rattle.std.specs.Prelude.{◌≡◌};
 ghost use Rattle.model.specs.Book.{free, is_live};
 ghost use Rattle.model.specs.Calls.{is_own};
-ghost use Rattle.book.specs.Rows.{book_of};
 ghost use Rattle.book.specs.Places.{place_of};
 
 use crate::order_at;
@@ -40,8 +39,8 @@ fn is_own(account: u64, number: u64, o: Order) -> bool
 }
 
 // The place of the account's order with this number, or the number of places where there is none.
-pub fn place_of(rows: &[[u64; 5]], account: u64, number: u64) -> usize
-    ensures { result ≡ place_of account number (book_of rows.now) }
+pub fn place_of(rows: &[Order], account: u64, number: u64) -> usize
+    ensures { result ≡ place_of account number rows.now }
 {
     let mut i = 0;
     while i < rows.len() {

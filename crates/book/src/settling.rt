@@ -4,7 +4,6 @@ ghost use Rattle.std.specs.Prelude.{◌≡◌, [], ◌∷◌, ◌++◌, ◌+◌,
 ghost use Rattle.model.specs.Book.{free, queue};
 ghost use Rattle.model.specs.Matching.{less_by};
 ghost use Rattle.model.specs.Calls.{cleared};
-ghost use Rattle.book.specs.Rows.{book_of, rows_of};
 ghost use Rattle.book.specs.Standing.{Ranked};
 ghost use Rattle.book.specs.Lines.{line};
 ghost use Rattle.book.specs.Settling.{off_front, placed, FreeFrom, CutAt};
@@ -15,10 +14,10 @@ use crate::{order_at, put_order};
 use model::Order;
 
 // Every place from one up to another is free.
-fn free_places(rows: &mut [[u64; 5]], from: usize, to: usize)
+fn free_places(rows: &mut [Order], from: usize, to: usize)
     requires from_le_to { from ≤ to }
     requires to_in_bounds { to ≤ length rows.old }
-    ensures { book_of rows.new ≡ take from (book_of rows.old) ++ (replicate (to - from) free ++ drop to (book_of rows.old)) }
+    ensures { rows.new ≡ take from rows.old ++ (replicate (to - from) free ++ drop to rows.old) }
 {
     let mut place = from;
     while place < to {
@@ -28,11 +27,11 @@ fn free_places(rows: &mut [[u64; 5]], from: usize, to: usize)
 }
 
 // The orders from `next` up to `end` move up to `place`; what they leave behind still stands there too.
-fn move_up(rows: &mut [[u64; 5]], place: usize, next: usize, end: usize)
+fn move_up(rows: &mut [Order], place: usize, next: usize, end: usize)
     requires place_le_next { place ≤ next }
     requires next_le_end { next ≤ end }
     requires end_in_bounds { end ≤ length rows.old }
-    ensures { book_of rows.new ≡ take place (book_of rows.old) ++ (line next end rows.old ++ drop (place + (end - next)) (book_of rows.old)) }
+    ensures { rows.new ≡ take place rows.old ++ (line next end rows.old ++ drop (place + (end - next)) rows.old) }
 {
     let mut i = next;
     while i < end {
@@ -43,11 +42,11 @@ fn move_up(rows: &mut [[u64; 5]], place: usize, next: usize, end: usize)
 }
 
 // The places from `place` up to `next` are given up: the orders behind them, up to `end`, move there, and free places follow.
-fn close_up(rows: &mut [[u64; 5]], place: usize, next: usize, end: usize)
+fn close_up(rows: &mut [Order], place: usize, next: usize, end: usize)
     requires place_le_next { place ≤ next }
     requires next_le_end { next ≤ end }
     requires end_in_bounds { end ≤ length rows.old }
-    ensures { book_of rows.new ≡ take place (book_of rows.old) ++ (line next end rows.old ++ (replicate (next - place) free ++ drop end (book_of rows.old))) }
+    ensures { rows.new ≡ take place rows.old ++ (line next end rows.old ++ (replicate (next - place) free ++ drop end rows.old)) }
 {
     if place == next {
         return;
@@ -74,7 +73,7 @@ fn less_by(q: u64, o: Order) -> Order
 
 // Shares come off the orders from `from` up to `to`, one after the other: what is left of them stands from the place that is
 // handed back up to `to`. The places before it still hold who has nothing left.
-fn cut_front(rows: &mut [[u64; 5]], from: usize, to: usize, shares: u64) -> usize
+fn cut_front(rows: &mut [Order], from: usize, to: usize, shares: u64) -> usize
     requires from_le_to { from ≤ to }
     requires to_in_bounds { to ≤ length rows.old }
     ensures { CutAt shares from to rows.old rows.new result }
@@ -94,21 +93,21 @@ fn cut_front(rows: &mut [[u64; 5]], from: usize, to: usize, shares: u64) -> usiz
 }
 
 // The same, and the places that they leave are closed up by those behind, up to `end`.
-fn take_off(rows: &mut [[u64; 5]], from: usize, to: usize, end: usize, shares: u64)
+fn take_off(rows: &mut [Order], from: usize, to: usize, end: usize, shares: u64)
     requires from_le_to { from ≤ to }
     requires to_le_end { to ≤ end }
     requires end_in_bounds { end ≤ length rows.old }
     requires free_from { FreeFrom end rows.old }
-    ensures { book_of rows.new ≡ placed (length rows.old) (take from (book_of rows.old) ++ (off_front shares (line from to rows.old) ++ line to end rows.old)) }
+    ensures { rows.new ≡ placed (length rows.old) (take from rows.old ++ (off_front shares (line from to rows.old) ++ line to end rows.old)) }
 {
     let at = cut_front(&mut *rows, from, to, shares);
     close_up(&mut *rows, from, at, end);
 }
 
 // So many shares come off the front of the buys.
-pub fn off_buys(rows: &mut [[u64; 5]], shares: u64)
-    requires { Ranked (book_of rows.old) }
-    ensures { book_of rows.new ≡ placed (length rows.old) (off_front shares (queue 0 (book_of rows.old)) ++ queue 1 (book_of rows.old)) }
+pub fn off_buys(rows: &mut [Order], shares: u64)
+    requires { Ranked rows.old }
+    ensures { rows.new ≡ placed (length rows.old) (off_front shares (queue 0 rows.old) ++ queue 1 rows.old) }
 {
     let middle = sells_from(rows);
     let end = free_from(rows);
@@ -116,9 +115,9 @@ pub fn off_buys(rows: &mut [[u64; 5]], shares: u64)
 }
 
 // Of the sells.
-pub fn off_sells(rows: &mut [[u64; 5]], shares: u64)
-    requires { Ranked (book_of rows.old) }
-    ensures { book_of rows.new ≡ placed (length rows.old) (queue 0 (book_of rows.old) ++ off_front shares (queue 1 (book_of rows.old))) }
+pub fn off_sells(rows: &mut [Order], shares: u64)
+    requires { Ranked rows.old }
+    ensures { rows.new ≡ placed (length rows.old) (queue 0 rows.old ++ off_front shares (queue 1 rows.old)) }
 {
     let middle = sells_from(rows);
     let end = free_from(rows);
@@ -126,9 +125,9 @@ pub fn off_sells(rows: &mut [[u64; 5]], shares: u64)
 }
 
 // Of both sides: the sells first, so that the buys still stand where they stood.
-pub fn off_both(rows: &mut [[u64; 5]], shares: u64)
-    requires { Ranked (book_of rows.old) }
-    ensures { book_of rows.new ≡ placed (length rows.old) (off_front shares (queue 0 (book_of rows.old)) ++ off_front shares (queue 1 (book_of rows.old))) }
+pub fn off_both(rows: &mut [Order], shares: u64)
+    requires { Ranked rows.old }
+    ensures { rows.new ≡ placed (length rows.old) (off_front shares (queue 0 rows.old) ++ off_front shares (queue 1 rows.old)) }
 {
     let middle = sells_from(rows);
     let end = free_from(rows);
@@ -137,10 +136,10 @@ pub fn off_both(rows: &mut [[u64; 5]], shares: u64)
 }
 
 // The order at a place is taken out: those behind it move up by one place, and the last place becomes free.
-pub fn take_out(rows: &mut [[u64; 5]], place: usize)
-    requires ranked { Ranked (book_of rows.old) }
-    requires place_in_bounds { place < length (queue 0 (book_of rows.old)) + length (queue 1 (book_of rows.old)) }
-    ensures { book_of rows.new ≡ take place (book_of rows.old) ++ (drop (place + 1) (book_of rows.old) ++ (free ∷ [])) }
+pub fn take_out(rows: &mut [Order], place: usize)
+    requires ranked { Ranked rows.old }
+    requires place_in_bounds { place < length (queue 0 rows.old) + length (queue 1 rows.old) }
+    ensures { rows.new ≡ take place rows.old ++ (drop (place + 1) rows.old ++ (free ∷ [])) }
 {
     let end = free_from(rows);
     let next = place + 1;
@@ -148,8 +147,8 @@ pub fn take_out(rows: &mut [[u64; 5]], place: usize)
 }
 
 // Every place free.
-pub fn clear_rows(rows: &mut [[u64; 5]])
-    ensures { rows.new ≡ rows_of (cleared (book_of rows.old)) }
+pub fn clear_rows(rows: &mut [Order])
+    ensures { rows.new ≡ (cleared rows.old) }
 {
     let mut place = 0;
     while place < rows.len() {

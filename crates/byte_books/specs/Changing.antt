@@ -3,7 +3,6 @@ use Rattle.std.specs.Prelude.{ℕ, ◌≡◌, List}
 use Rattle.model.specs.declared.Order.{Order}
 use Rattle.model.specs.declared.Day.{Day}
 use Rattle.model.specs.Calls.{OpenOutcome, open_call, CancelOutcome, cancel_call}
-use Rattle.book.specs.Rows.{book_of}
 use Rattle.records.specs.Layout.{day_in, book_in, book_bytes, over}
 use Rattle.byte_books.specs.declared.BookAsked as BookAsked
 use Rattle.byte_books.specs.declared.BookReply as BookReply
@@ -24,8 +23,8 @@ book_call d book (BookAsked.TheVariants.Open close mark) = opened (open_call clo
 book_call d book (BookAsked.TheVariants.Cancel account number) = cancelled (cancel_call d account number book)
 
 -- what a call on rows has left
-abbrev pub change_left : BookReply.BookReply → List (List ℕ) → BookOutcome
-change_left reply rows = record { reply = reply; book = book_of rows }
+abbrev pub change_left : BookReply.BookReply → List Order → BookOutcome
+change_left reply rows = record { reply = reply; book = rows }
 
 -- ---- on bytes
 

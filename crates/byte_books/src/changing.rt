@@ -1,21 +1,21 @@
 // An opening and a cancel: the two calls that change the book and make no trade.
 ghost use Rattle.std.specs.Prelude.{◌≡◌, ◌/◌, ◌≤◌, length};
-ghost use Rattle.book.specs.Rows.{book_of};
 ghost use Rattle.records.specs.Layout.{day_in};
 ghost use Rattle.byte_books.specs.Changing.{change_left, book_call, Changed, book_on};
 
 use crate::{BookAsked, BookReply};
 use day::events::cancel_call;
 use day::opening::open_call;
+use model::Order;
 use records::ORDER_BYTES;
 use records::days::day_in;
 use records::lists::{load_book, store_book};
 use records::rooms::{FEW_PLACES, FEWEST_PLACES, room, small_room, tiny_room};
 
 // The call on rows. An opening reads nothing of the old day.
-fn change_rows(day: &[u8], rows: &mut [[u64; 5]], asked: BookAsked) -> BookReply
+fn change_rows(day: &[u8], rows: &mut [Order], asked: BookAsked) -> BookReply
     requires { length day.now ≡ 352 }
-    ensures { change_left result rows.new ≡ book_call (day_in day.now) (book_of rows.old) asked }
+    ensures { change_left result rows.new ≡ book_call (day_in day.now) rows.old asked }
 {
     match asked {
         BookAsked::Open { close, mark } => {
@@ -28,7 +28,7 @@ fn change_rows(day: &[u8], rows: &mut [[u64; 5]], asked: BookAsked) -> BookReply
 }
 
 // The bytes as rows, the call on the rows, and the rows as bytes again.
-fn change_in(day: &[u8], book: &mut [u8], rows: &mut [[u64; 5]], asked: BookAsked) -> BookReply
+fn change_in(day: &[u8], book: &mut [u8], rows: &mut [Order], asked: BookAsked) -> BookReply
     requires day_len { length day.now ≡ 352 }
     requires rows_len { length rows.old ≡ length book.old / 40 }
     ensures { Changed (book_on day.now book.old asked) book.old result book.new }

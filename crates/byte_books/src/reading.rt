@@ -1,12 +1,11 @@
 // The auction report and the price list: the two calls that change nothing. The prices are told as a run, since the lent list may be
 // longer than any array here.
 ghost use Rattle.std.specs.Prelude.{◌≡◌, ◌/◌, ◌≤◌, length};
-ghost use Rattle.book.specs.Rows.{book_of};
 ghost use Rattle.byte_books.specs.Reading.{read_refusal, read_call, read_on};
 
 use crate::{ReadAsked, ReadReply};
 use day::auctions::{Listing, list_run, report_call};
-use model::{Day, ReportReply};
+use model::{Day, Order, ReportReply};
 use records::ORDER_BYTES;
 use records::days::day_in;
 use records::lists::load_book;
@@ -25,8 +24,8 @@ pub fn read_refusal(asked: ReadAsked, n: u64) -> ReadReply
 }
 
 // The call on rows.
-fn read_rows(d: Day, rows: &[[u64; 5]], asked: ReadAsked) -> ReadReply
-    ensures { result ≡ read_call d (book_of rows.now) asked }
+fn read_rows(d: Day, rows: &[Order], asked: ReadAsked) -> ReadReply
+    ensures { result ≡ read_call d rows.now asked }
 {
     match asked {
         ReadAsked::Report => ReadReply::Report(report_call(d, rows)),
@@ -34,7 +33,7 @@ fn read_rows(d: Day, rows: &[[u64; 5]], asked: ReadAsked) -> ReadReply
     }
 }
 
-fn read_in(day: &[u8], book: &[u8], rows: &mut [[u64; 5]], asked: ReadAsked) -> ReadReply
+fn read_in(day: &[u8], book: &[u8], rows: &mut [Order], asked: ReadAsked) -> ReadReply
     requires day_len { length day.now ≡ 352 }
     requires rows_len { length rows.old ≡ length book.now / 40 }
     ensures { result ≡ read_on day.now book.now asked }

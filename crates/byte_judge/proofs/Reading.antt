@@ -7,7 +7,6 @@ use native.Mathlib.Omega.{arith}
 use lib.ListN.{length, drop}
 use lib.Seq.{drop-drop}
 use Rattle.model.specs.declared.Day.{Day}
-use Rattle.book.specs.Rows.{book_of}
 use Rattle.octets.specs.Numbers.{parts}
 use Rattle.octets.proofs.Parts.{length_parts}
 use Rattle.records.specs.Layout.{book_in}
@@ -15,6 +14,7 @@ use Rattle.judge.specs.declared.Claim.{Claim}
 use Rattle.judge.specs.declared.Verdict.{Verdict}
 use Rattle.judge.specs.Judging.{judge_call}
 use Rattle.byte_judge.specs.Claims.{claim_in, claims_in}
+use Rattle.model.specs.declared.Order.{Order}
 
 -- the part at a place, and those behind it
 part_next :
@@ -47,8 +47,8 @@ byte_claim_next b i {c} h e =
     ∙ ap (λ (n : ℕ). c ∷ drop n (parts claim_in 24 (length b / 24) b)) (sym (add-one i))
 
 pub rows_judged :
-    (d : Day) (book : List ℕ) (rows : List (List ℕ)) (cs : List Claim) (price : ℕ) {v : Verdict}
-    → book_of rows ≡ book_in book
-    → v ≡ judge_call d price (book_of rows) cs
+    (d : Day) (book : List ℕ) (rows : List Order) (cs : List Claim) (price : ℕ) {v : Verdict}
+    → rows ≡ book_in book
+    → v ≡ judge_call d price rows cs
     → v ≡ judge_call d price (book_in book) cs
 rows_judged d book rows cs price b e = e ∙ rw b

@@ -1,6 +1,5 @@
 // The judge's call on a book and claims as bytes, in a room as small as the book allows.
 ghost use Rattle.std.specs.Prelude.{◌≡◌, ◌/◌, ◌≤◌, length};
-ghost use Rattle.book.specs.Rows.{book_of};
 ghost use Rattle.book.specs.Standing.{Ranked};
 ghost use Rattle.lookup.specs.Piles.{none_yet};
 ghost use Rattle.records.specs.Layout.{book_in};
@@ -11,34 +10,34 @@ use crate::claims::take_byte_claims;
 use judge::Verdict;
 use judging::calls::{price_verdict, set_up, slate_room};
 use lookup::{no_tops, nothing_under};
-use model::Day;
+use model::{Day, Order};
 use records::ORDER_BYTES;
 use records::lists::load_book;
 use records::rooms::{FEW_PLACES, FEWEST_PLACES, room, small_room, tiny_room};
 
 // Whether every claim joins, and each order's claims add up to what is granted at the price.
 fn byte_claims_decide(
-    rows: &[[u64; 5]],
+    rows: &[Order],
     tops: &mut [u16],
     under: &mut [u16],
     slate: &mut [u64],
     claims: &[u8],
     price: u64,
 ) -> bool
-    requires ranked { Ranked (book_of rows.now) }
+    requires ranked { Ranked rows.now }
     requires tops_value { tops.old ≡ none_yet 65_536 }
     requires rows_in_bounds { length rows.now ≤ length under.old }
     requires slate_len { length slate.old ≡ length rows.now }
-    ensures { result ≡ claims_right price (book_of rows.now) (claims_in claims.now) }
+    ensures { result ≡ claims_right price rows.now (claims_in claims.now) }
 {
     set_up(rows, &mut *tops, &mut *under, &mut *slate, price);
     take_byte_claims(rows, tops, under, &mut *slate, claims)
 }
 
 // The same, with room for piles and slate.
-fn byte_claims_right(rows: &[[u64; 5]], claims: &[u8], price: u64) -> bool
-    requires { Ranked (book_of rows.now) }
-    ensures { result ≡ claims_right price (book_of rows.now) (claims_in claims.now) }
+fn byte_claims_right(rows: &[Order], claims: &[u8], price: u64) -> bool
+    requires { Ranked rows.now }
+    ensures { result ≡ claims_right price rows.now (claims_in claims.now) }
 {
     let n = rows.len();
     let mut tops = no_tops();
@@ -55,8 +54,8 @@ fn byte_claims_right(rows: &[[u64; 5]], claims: &[u8], price: u64) -> bool
 }
 
 // The call on rows of a book.
-fn judge_rows(d: Day, rows: &[[u64; 5]], claims: &[u8], price: u64) -> Verdict
-    ensures { result ≡ judge_call d price (book_of rows.now) (claims_in claims.now) }
+fn judge_rows(d: Day, rows: &[Order], claims: &[u8], price: u64) -> Verdict
+    ensures { result ≡ judge_call d price rows.now (claims_in claims.now) }
 {
     let told = price_verdict(d, rows, price);
     match told {
@@ -75,7 +74,7 @@ fn judge_rows(d: Day, rows: &[[u64; 5]], claims: &[u8], price: u64) -> Verdict
     }
 }
 
-fn judge_in(d: Day, book: &[u8], rows: &mut [[u64; 5]], claims: &[u8], price: u64) -> Verdict
+fn judge_in(d: Day, book: &[u8], rows: &mut [Order], claims: &[u8], price: u64) -> Verdict
     requires { length rows.old ≡ length book.now / 40 }
     ensures { result ≡ judge_call d price (book_in book.now) (claims_in claims.now) }
 {

@@ -1,6 +1,5 @@
 // Claims read from bytes, and taken off a slate one after the other.
 ghost use Rattle.std.specs.Prelude.{◌≡◌, ◌↔◌, true, ◌+◌, ◌≤◌, length, drop};
-ghost use Rattle.book.specs.Rows.{book_of};
 ghost use Rattle.book.specs.Standing.{Standing};
 ghost use Rattle.lookup.specs.Piles.{Piled};
 ghost use Rattle.judging.specs.Slates.{Settles};
@@ -9,6 +8,7 @@ ghost use Rattle.byte_judge.specs.Claims.{claim_in, claims_in};
 use crate::CLAIM_BYTES;
 use judge::Claim;
 use judging::claims::{all_filled, take_claim};
+use model::Order;
 use records::numbers::read_numbers;
 
 fn read_claim(b: &[u8], at: usize) -> Claim
@@ -26,16 +26,16 @@ fn read_claim(b: &[u8], at: usize) -> Claim
 
 // Whether the claims are those that the slate asks for. Bytes behind the last whole claim are not read.
 pub fn take_byte_claims(
-    rows: &[[u64; 5]],
+    rows: &[Order],
     tops: &[u16],
     under: &[u16],
     slate: &mut [u64],
     claims: &[u8],
 ) -> bool
-    requires standing { Standing (book_of rows.now) }
-    requires piled { Piled (book_of rows.now) (length (book_of rows.now)) tops.now under.now }
+    requires standing { Standing rows.now }
+    requires piled { Piled rows.now (length rows.now) tops.now under.now }
     requires slate_len { length slate.old ≡ length rows.now }
-    ensures { (result ≡ true) ↔ Settles (book_of rows.now) slate.old (claims_in claims.now) }
+    ensures { (result ≡ true) ↔ Settles rows.now slate.old (claims_in claims.now) }
 {
     let n = claims.len() / CLAIM_BYTES;
     let mut i = 0;

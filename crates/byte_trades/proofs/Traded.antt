@@ -10,7 +10,6 @@ use Rattle.model.specs.declared.Order.{Order}
 use Rattle.model.specs.declared.Trade.{Trade}
 use Rattle.model.specs.declared.Day.{Day}
 use Rattle.model.specs.Calls.{Outcome, written}
-use Rattle.book.specs.Rows.{book_of, trade_of, trades_of}
 use Rattle.book.specs.Promises.{call_left}
 use Rattle.records.specs.Layout.{AllBytes, day_in, book_in, book_bytes, trades_in, trades_bytes, over}
 use Rattle.records.proofs.Back.{length_book_in, length_trades_in, trades_front, trades_kept, book_kept}
@@ -20,19 +19,14 @@ use Rattle.byte_trades.specs.declared.TradeAnswer.{TradeAnswer}
 use Rattle.byte_trades.specs.Trading.{trade_refusal, trade_call, trade_on, Traded}
 use Rattle.byte_trades.proofs.Rooms.{Alike, trade_roomy}
 
-trades_take : (n : ℕ) (rows : List (List ℕ)) → trades_of (take n rows) ≡ take n (trades_of rows)
-trades_take zero rows = refl
-trades_take (suc n) [] = refl
-trades_take (suc n) (r ∷ rows) = ap (λ (ts : List Trade). trade_of r ∷ ts) (trades_take n rows)
-
-module _ (day book trades : List ℕ) (asked : TradeAsked) (rows list rows' list' : List (List ℕ)) {d : Day} {r : TradeAnswer}
-    (b : book_of rows ≡ book_in book)
+module _ (day book trades : List ℕ) (asked : TradeAsked) (rows : List Order) (list : List Trade) (rows' : List Order) (list' : List Trade) {d : Day} {r : TradeAnswer}
+    (b : rows ≡ book_in book)
     (e : d ≡ day_in day)
     (k : length list ≡ length book / 40)
-    (p : call_left r rows' list' ≡ trade_call d asked (book_of rows) (trades_of list)) where
+    (p : call_left r rows' list' ≡ trade_call d asked rows list) where
   -- it was made in a list as long as the book
   abbrev there : Outcome TradeAnswer
-  there = trade_call (day_in day) asked (book_in book) (trades_of list)
+  there = trade_call (day_in day) asked (book_in book) list
 
   abbrev here : Outcome TradeAnswer
   here = trade_on day book trades asked
@@ -43,27 +37,27 @@ module _ (day book trades : List ℕ) (asked : TradeAsked) (rows list rows' list
   count : r.made ≡ there.answer.made
   count = ap (λ (o : Outcome TradeAnswer). o.answer.made) was
 
-  long : length (trades_of list) ≡ length (book_in book)
-  long = rw (length-map, length_book_in) k
+  long : length list ≡ length (book_in book)
+  long = rw length_book_in k
 
   pub rows_made : r.made ≤ length list
   rows_made =
-      omega (arith, count, (trade_roomy asked).few (day_in day) (book_in book) (trades_of list) long, length-map list trade_of)
+      omega (arith, count, (trade_roomy asked).few (day_in day) (book_in book) list long)
 
   -- the lent one has room for its trades
   module _ {left trades' : List ℕ}
       (h : r.made ≤ length trades / 48)
-      (w : left ≡ over (book_bytes (book_of rows')) book)
-      (v : trades' ≡ over (trades_bytes (trades_of (take r.made list'))) trades)
+      (w : left ≡ over (book_bytes rows') book)
+      (v : trades' ≡ over (trades_bytes (take r.made list')) trades)
       (s : AllBytes trades) where
-    same_traded : Alike (λ (x : TradeAnswer). x.made) (trades_of list) (trades_in trades) there here → Traded here book trades r left trades'
+    same_traded : Alike (λ (x : TradeAnswer). x.made) list (trades_in trades) there here → Traded here book trades r left trades'
     unfolding written
     same_traded a =
         let new : List Trade = a.new in
         let c : r.made ≡ length new = count ∙ a.count in
-        let l : trades_of list' ≡ written new (trades_of list) = ap (λ (o : Outcome TradeAnswer). o.trades) was ∙ a.there in
-        let n : trades_of (take r.made list') ≡ new =
-        trades_take r.made list' ∙ rw (c, l) (take_at new (drop (length new) (trades_of list)) (length new) refl) in
+        let l : list' ≡ written new list = ap (λ (o : Outcome TradeAnswer). o.trades) was ∙ a.there in
+        let n : (take r.made list') ≡ new =
+        rw (c, l) (take_at new (drop (length new) list) (length new) refl) in
         record {
           told = ap (λ (o : Outcome TradeAnswer). o.answer) was ∙ a.answer;
           places =
@@ -79,7 +73,7 @@ module _ (day book trades : List ℕ) (asked : TradeAsked) (rows list rows' list
     pub rows_traded : Traded here book trades r left trades'
     rows_traded =
         same_traded
-        ((trade_roomy asked).same (day_in day) (book_in book) (trades_of list) (trades_in trades) long
+        ((trade_roomy asked).same (day_in day) (book_in book) list (trades_in trades) long
         (omega (arith, count, length_trades_in trades)))
 
   -- it has not, and every byte stays
@@ -92,7 +86,7 @@ module _ (day book trades : List ℕ) (asked : TradeAsked) (rows list rows' list
       → Traded here book trades (record { reply = told; made = 0; day = d }) book trades
   rows_short h t sb st =
       rw (
-        (trade_roomy asked).short (day_in day) (book_in book) (trades_of list) (trades_in trades) long
+        (trade_roomy asked).short (day_in day) (book_in book) list (trades_in trades) long
             (omega (arith, count, length_trades_in trades)),
         e,
         t,

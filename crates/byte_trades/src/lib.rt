@@ -3,7 +3,7 @@
 
 pub mod trading;
 
-use model::{Asked, ClockReply, Day, OrderReply};
+use model::{Asked, ClockReply, Day, Order, OrderReply};
 
 #[derive(Clone, Copy)]
 pub enum TradeAsked {

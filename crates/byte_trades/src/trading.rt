@@ -1,12 +1,11 @@
 // An order and a move of the clock: the two calls that trade.
 ghost use Rattle.std.specs.Prelude.{◌≡◌, ◌/◌, ◌≤◌, length};
-ghost use Rattle.book.specs.Rows.{book_of, trades_of};
 ghost use Rattle.book.specs.Promises.{call_left};
 ghost use Rattle.byte_trades.specs.Trading.{trade_refusal, trade_call, Traded, trade_on};
 
 use crate::{TradeAnswer, TradeAsked, TradeReply};
 use day::events::{clock_call, order_call};
-use model::{ClockReply, Day, OrderReply};
+use model::{ClockReply, Day, Order, OrderReply, Trade};
 use records::days::day_in;
 use records::lists::{load_book, store_book, store_trades};
 use records::rooms::{
@@ -25,13 +24,8 @@ pub fn trade_refusal(asked: TradeAsked, n: u64) -> TradeReply
 }
 
 // The call on rows.
-fn trade_rows(
-    d: Day,
-    rows: &mut [[u64; 5]],
-    list: &mut [[u64; 6]],
-    asked: TradeAsked,
-) -> TradeAnswer
-    ensures { call_left result rows.new list.new ≡ trade_call d asked (book_of rows.old) (trades_of list.old) }
+fn trade_rows(d: Day, rows: &mut [Order], list: &mut [Trade], asked: TradeAsked) -> TradeAnswer
+    ensures { call_left result rows.new list.new ≡ trade_call d asked rows.old list.old }
 {
     match asked {
         TradeAsked::Order(a) => {
@@ -63,8 +57,8 @@ fn trade_in(
     day: &[u8],
     book: &mut [u8],
     trades: &mut [u8],
-    rows: &mut [[u64; 5]],
-    list: &mut [[u64; 6]],
+    rows: &mut [Order],
+    list: &mut [Trade],
     asked: TradeAsked,
 ) -> TradeAnswer
     requires day_len { length day.now ≡ 352 }

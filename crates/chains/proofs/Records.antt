@@ -9,9 +9,7 @@ use Rattle.model.specs.declared.Event as Event
 use Rattle.model.specs.declared.OpenReply as OpenReply
 use Rattle.model.specs.Calls.{Outcome}
 use Rattle.model.specs.Session.{Desk}
-use Rattle.book.specs.Rows.{trades_of}
 use Rattle.model.proofs.Bools.{not_both}
-use Rattle.day.specs.Promises.{Rows}
 use Rattle.demands.specs.Running.{is_opening, Fresh}
 use Rattle.demands.specs.Histories.{trades_then, present, event_seen, seen, event_desk, stepped}
 use Rattle.demands.specs.Chains.{KeepsStep}
@@ -19,12 +17,13 @@ use Rattle.demands.proofs.Chains.{from_opening}
 use Rattle.lent.specs.declared.Answer as Answer
 use Rattle.lent.specs.Calls.{call_of, EventPromise, View, question_call}
 use Rattle.chains.specs.Records.{Asks, Takes, Report, Prices, Gives, day_then, Promise, call, seen_in, told_in, Shows, door, RecordChains}
+use Rattle.model.specs.declared.Trade.{Trade}
 
 -- what an event leaves by the definitions is what is seen of it, and the desk then
 event_seen_lem :
-    (e : Event.Event) (trades : Rows) (m : Desk)
-    → event_seen present e (trades_of trades) m
-    ≡ seen_in (call_of e m.day m.book (trades_of trades)).answer (call_of e m.day m.book (trades_of trades)).trades
+    (e : Event.Event) (trades : List Trade) (m : Desk)
+    → event_seen present e trades m
+    ≡ seen_in (call_of e m.day m.book trades).answer (call_of e m.day m.book trades).trades
 unfolding event_seen present seen_in call_of
 event_seen_lem (Event.TheVariants.Open close mark) trades m = refl
 event_seen_lem (Event.TheVariants.Clock t) trades m = refl
@@ -32,9 +31,9 @@ event_seen_lem (Event.TheVariants.Order a) trades m = refl
 event_seen_lem (Event.TheVariants.Cancel account number) trades m = refl
 
 event_list :
-    (e : Event.Event) (trades : Rows) (m : Desk)
-    → (call_of e m.day m.book (trades_of trades)).trades
-    ≡ trades_then (event_seen present e (trades_of trades) m) (trades_of trades)
+    (e : Event.Event) (trades : List Trade) (m : Desk)
+    → (call_of e m.day m.book trades).trades
+    ≡ trades_then (event_seen present e trades m) trades
 unfolding event_seen present trades_then call_of
 event_list (Event.TheVariants.Open close mark) trades m = refl
 event_list (Event.TheVariants.Clock t) trades m = refl
@@ -42,12 +41,12 @@ event_list (Event.TheVariants.Order a) trades m = refl
 event_list (Event.TheVariants.Cancel account number) trades m = refl
 
 event_desk_lem :
-    (e : Event.Event) → is_opening e ≡ false → (trades : Rows) (m : Desk)
+    (e : Event.Event) → is_opening e ≡ false → (trades : List Trade) (m : Desk)
     → record {
-      day = day_then m.day (call_of e m.day m.book (trades_of trades)).answer;
-      book = (call_of e m.day m.book (trades_of trades)).book;
+      day = day_then m.day (call_of e m.day m.book trades).answer;
+      book = (call_of e m.day m.book trades).book;
     }
-    ≡ event_desk present e (trades_of trades) m
+    ≡ event_desk present e trades m
 unfolding event_desk present day_then call_of is_opening
 event_desk_lem (Event.TheVariants.Open close mark) w trades m = absurd (not_both refl w)
 event_desk_lem (Event.TheVariants.Clock t) w trades m = refl
@@ -88,7 +87,7 @@ opened (Answer.TheVariants.Order a) = OpenReply.TheVariants.Refused 0
 opened (Answer.TheVariants.Cancel r) = OpenReply.TheVariants.Refused 0
 
 fresh :
-    (before book : List Order) (trades trades' : Rows) (old : Day) (close mark : ℕ) (d : Day)
+    (before book : List Order) (trades trades' : List Trade) (old : Day) (close mark : ℕ) (d : Day)
     → EventPromise before trades (record { day = old; event = Event.TheVariants.Open close mark })
     (Answer.TheVariants.Open (OpenReply.TheVariants.Opened d))
     book

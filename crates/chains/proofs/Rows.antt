@@ -1,18 +1,19 @@
 -- The calls on rows keep step with the definitions. Assumes nothing.
 use Prim.Native.Nat.{ℕ}
 use mathlib.Core.Path.{◌≡◌, sym, ap, ◌∙◌}
+use mathlib.Core.List.{List}
+use Rattle.model.specs.declared.Order as Orders
 use Rattle.model.specs.declared.Day.{Day}
 use Rattle.model.specs.declared.OpenReply as OpenReply
 use Rattle.model.specs.declared.ClockAnswer.{ClockAnswer}
 use Rattle.model.specs.declared.OrderAnswer.{OrderAnswer}
 use Rattle.model.specs.Calls.{Outcome, OpenOutcome, CancelOutcome}
 use Rattle.model.specs.AuctionCalls.{ListOutcome}
-use Rattle.book.specs.Rows.{book_of}
 use Rattle.demands.specs.Running.{moves_to, enters, cancels, Fresh}
 use Rattle.demands.specs.Histories.{Moved, Entered, Cancelled, Reported, Listed, present, event_seen, seen, event_desk, stepped}
 use Rattle.demands.specs.Chains.{KeepsStep}
 use Rattle.demands.proofs.Chains.{from_opening}
-use Rattle.day.specs.Promises.{Rows, OpenPromise}
+use Rattle.day.specs.Promises.{OpenPromise}
 use Rattle.chains.specs.Rows.{Memory, Asks, Clock, Order, Cancel, Report, Prices, Gives, Promise, call, Shows, door, RowChains}
 
 shows : (a : Asks) (m : Memory) (g : Gives a) (n : Memory) → Promise a m g n → Shows a (seen present (call a) (door.desk m)) g
@@ -28,16 +29,16 @@ shows (Prices asked prices) m g n (p, d) = ap (λ (o : ListOutcome). Listed o.re
 leaves : (a : Asks) (m : Memory) (g : Gives a) (n : Memory) → Promise a m g n → door.desk n ≡ stepped present (call a) (door.desk m)
 unfolding stepped event_desk present moves_to enters cancels
 leaves (Clock t trades) m g n (p, d) =
-    ap (λ (x : Day). record { day = x; book = book_of n.rows }) d
+    ap (λ (x : Day). record { day = x; book = n.rows }) d
     ∙ ap (λ (o : Outcome ClockAnswer). record { day = o.answer.day; book = o.book }) p
 leaves (Order a trades) m g n (p, d) =
-    ap (λ (x : Day). record { day = x; book = book_of n.rows }) d
+    ap (λ (x : Day). record { day = x; book = n.rows }) d
     ∙ ap (λ (o : Outcome OrderAnswer). record { day = o.answer.day; book = o.book }) p
 leaves (Cancel account number) m g n (p, d) =
-    ap (λ (x : Day). record { day = x; book = book_of n.rows }) d
+    ap (λ (x : Day). record { day = x; book = n.rows }) d
     ∙ ap (λ (o : CancelOutcome). record { day = o.answer.day; book = o.book }) p
-leaves Report m g n (p, d) = ap (λ (x : Memory). record { day = x.day; book = book_of x.rows }) d
-leaves (Prices asked prices) m g n (p, d) = ap (λ (x : Memory). record { day = x.day; book = book_of x.rows }) d
+leaves Report m g n (p, d) = ap (λ (x : Memory). record { day = x.day; book = x.rows }) d
+leaves (Prices asked prices) m g n (p, d) = ap (λ (x : Memory). record { day = x.day; book = x.rows }) d
 
 keeps_step : KeepsStep door (λ _. Unit {0})
 keeps_step =
@@ -48,14 +49,14 @@ keeps_step =
     }
 
 fresh :
-    (before rows : Rows) (close mark : ℕ) (d : Day)
+    (before rows : List Orders.Order) (close mark : ℕ) (d : Day)
     → OpenPromise before close mark (OpenReply.TheVariants.Opened d) rows
-    → Fresh (record { day = d; book = book_of rows })
+    → Fresh (record { day = d; book = rows })
 fresh before rows close mark d p =
     record {
       close = close;
       mark = mark;
-      places = book_of before;
+      places = before;
       opened = ap (λ (o : OpenOutcome). o.reply) (sym p);
       book = ap (λ (o : OpenOutcome). o.book) (sym p);
     }

@@ -7,8 +7,6 @@ use Rattle.model.specs.declared.Day.{Day}
 use Rattle.model.specs.declared.Event as Event
 use Rattle.model.specs.declared.OpenReply as OpenReply
 use Rattle.model.specs.Session.{Desk}
-use Rattle.book.specs.Rows.{trades_of}
-use Rattle.day.specs.Promises.{Rows}
 use Rattle.demands.specs.Running.{is_opening}
 use Rattle.demands.specs.Histories as histories
 use Rattle.demands.specs.Histories.{AnyCall, Happens, Seen, Opened, Moved, Entered, Cancelled, Reported, Listed, trades_then}
@@ -20,12 +18,12 @@ use Rattle.lent.specs.Calls.{EventPromise, QuestionPromise}
 
 -- an event that is no opening, with the rows of the trade list; a report or a price list, with the list of prices
 pub data Asks : Type 0 where
-  Takes : (e : Event.Event) → is_opening e ≡ false → Rows → Asks
+  Takes : (e : Event.Event) → is_opening e ≡ false → List Trade → Asks
   Report : List ℕ → Asks
   Prices : ℕ → List ℕ → Asks
 
 abbrev pub Gives : Asks → Type 0
-Gives (Takes e w trades) = Gave Answer.Answer Rows
+Gives (Takes e w trades) = Gave Answer.Answer (List Trade)
 Gives (Report prices) = Gave Told.Told (List ℕ)
 Gives (Prices asked prices) = Gave Told.Told (List ℕ)
 
@@ -46,7 +44,7 @@ Promise (Prices asked prices) m g n =
     QuestionPromise m.book prices (Question.TheVariants.List m.day asked) g.answer g.list × (n ≡ m)
 
 abbrev pub call : Asks → AnyCall
-call (Takes e w trades) = Happens (record { event = e; within = w; lent = trades_of trades })
+call (Takes e w trades) = Happens (record { event = e; within = w; lent = trades })
 call (Report prices) = histories.Reports
 call (Prices asked prices) = histories.Lists asked prices
 
@@ -64,7 +62,7 @@ told_in (Told.TheVariants.List r) prices = Listed r prices
 -- a report leaves the list of prices
 abbrev pub Shows : (a : Asks) → Seen → Gives a → Type 0
 Shows (Takes e w trades) x g =
-    (x ≡ seen_in g.answer (trades_of g.list)) × (trades_of g.list ≡ trades_then x (trades_of trades))
+    (x ≡ seen_in g.answer g.list) × (g.list ≡ trades_then x trades)
 Shows (Report prices) x g = (x ≡ told_in g.answer g.list) × (g.list ≡ prices)
 Shows (Prices asked prices) x g = x ≡ told_in g.answer g.list
 
@@ -75,7 +73,7 @@ door =
 -- begun by an opening that is accepted, on any records and whatever day came with it
 pub record RecordChains : Type 0 where
   pub chain :
-      (before book : List Order) (trades trades' : Rows) (old : Day) (close mark : ℕ) (d : Day)
+      (before book : List Order) (trades trades' : List Trade) (old : Day) (close mark : ℕ) (d : Day)
       → EventPromise before trades (record { day = old; event = Event.TheVariants.Open close mark })
       (Answer.TheVariants.Open (OpenReply.TheVariants.Opened d))
       book

@@ -22,7 +22,6 @@ use Rattle.model.specs.Entry.{entry_trades, base}
 use Rattle.model.specs.Refusals.{◌when◌, first_of}
 use Rattle.model.proofs.Bools.{and_left, and_right, and_both, not_both}
 use Rattle.model.proofs.Rules.{Numbered}
-use Rattle.book.specs.Rows.{order_of, book_of}
 use Rattle.book.specs.Standing.{Standing, Ranked}
 use Rattle.book.proofs.Lists.{length_keep}
 use Rattle.book.proofs.Counting.{orders, queues_orders, full, not_full}
@@ -144,27 +143,27 @@ module _ (d : Day) (a : Asked) (book : List Order) where
 
 -- ---- what the code found
 
-module _ (rows : List (List ℕ)) (r : Ranked (book_of rows)) {n : ℕ} (e : n ≡ length (queue 0 (book_of rows)) + length (queue 1 (book_of rows))) where
-  places : length (book_of rows) ≡ length rows
-  places = length-map rows order_of
+module _ (rows : List Order) (r : Ranked rows) {n : ℕ} (e : n ≡ length (queue 0 rows) + length (queue 1 rows)) where
+  places : length rows ≡ length rows
+  places = refl
 
-  counted : n ≡ orders (book_of rows)
-  counted = e ∙ queues_orders (book_of rows) r.stands.fair
+  counted : n ≡ orders rows
+  counted = e ∙ queues_orders rows r.stands.fair
 
-  pub full_of : n ≡ length rows → all is_live (book_of rows) ≡ true
-  full_of h = full (book_of rows) (omega (arith, places, counted))
+  pub full_of : n ≡ length rows → all is_live rows ≡ true
+  full_of h = full rows (omega (arith, places, counted))
 
-  pub free_of : (n ≡ length rows → ⊥) → all is_live (book_of rows) ≡ false
-  free_of h = not_full (book_of rows) (omega (arith, places, counted, length_keep is_live (book_of rows)))
+  pub free_of : (n ≡ length rows → ⊥) → all is_live rows ≡ false
+  free_of h = not_full rows (omega (arith, places, counted, length_keep is_live rows))
 
 -- no order has more trades than the book has places
 pub list_holds_entry :
-    (d : Day) (a : Asked) (rows : List (List ℕ)) (room : ℕ)
+    (d : Day) (a : Asked) (rows : List Order) (room : ℕ)
     → length rows ≤ room
-    → false ≡ ltb room (length (entry_trades d a (book_of rows)))
+    → false ≡ ltb room (length (entry_trades d a rows))
 list_holds_entry d a rows room h =
-    let book = book_of rows in
-    sym (le-ltb room (length (entry_trades d a book)) (omega (arith, h, entry_few d a book, length-map rows order_of)))
+    let book = rows in
+    sym (le-ltb room (length (entry_trades d a book)) (omega (arith, h, entry_few d a book)))
 
 pub counted_trades : {s : Swept} (ts : List Trade) → s ≡ comes_to ts → s.trades ≡ length ts
 unfolding comes_to

@@ -8,7 +8,6 @@ ghost use Rattle.model.specs.Book as sides;
 ghost use Rattle.model.specs.Figures.{reference};
 ghost use Rattle.model.specs.Entry.{entry_trades};
 ghost use Rattle.model.specs.Refusals.{first_of};
-ghost use Rattle.book.specs.Rows.{book_of};
 ghost use Rattle.book.specs.Standing.{Ranked};
 ghost use Rattle.checks.specs.Checks.{base_from, outside_of, book_rules};
 
@@ -16,7 +15,7 @@ use book::seats::free_from;
 use figures::reference_of;
 use limits::in_range;
 use matching::entering::enter_trades;
-use model::{Asked, CONTINUOUS, Day, LAST_NUMBER};
+use model::{Asked, CONTINUOUS, Day, LAST_NUMBER, Order};
 
 // The base of the order range: the other side's best, else the own side's, else the last trade, else the previous close.
 fn base_of(d: Day, own: u64, other: u64) -> u64
@@ -41,14 +40,14 @@ fn is_outside(a: Asked, phase: u64, base: u64) -> bool
 }
 
 // 9: outside the range. 10: no free place. 11: no number left.
-pub fn book_refusal(d: Day, rows: &[[u64; 5]], a: Asked, phase: u64, own: u64, other: u64) -> u64
-    requires ranked { Ranked (book_of rows.now) }
+pub fn book_refusal(d: Day, rows: &[Order], a: Asked, phase: u64, own: u64, other: u64) -> u64
+    requires ranked { Ranked rows.now }
     requires phase_value { phase ≡ phase_now d }
-    requires own_value { own ≡ best a.side (book_of rows.now) }
-    requires other_value { other ≡ best (sides.other a.side) (book_of rows.now) }
+    requires own_value { own ≡ best a.side rows.now }
+    requires other_value { other ≡ best (sides.other a.side) rows.now }
     requires d_value { is_price (reference d) ≡ true }
     requires price_value { is_price a.price ≡ true }
-    ensures { result ≡ first_of (book_rules d a (book_of rows.now)) }
+    ensures { result ≡ first_of (book_rules d a rows.now) }
 {
     if is_outside(a, phase, base_of(d, own, other)) {
         return 9;
@@ -66,24 +65,23 @@ pub fn book_refusal(d: Day, rows: &[[u64; 5]], a: Asked, phase: u64, own: u64, o
 // the places are fewer: a list of none takes no trade, and all are counted.
 pub fn lacks_places(
     d: Day,
-    rows: &[[u64; 5]],
+    rows: &[Order],
     places: usize,
     a: Asked,
     phase: u64,
     own: u64,
     other: u64,
 ) -> bool
-    requires ranked { Ranked (book_of rows.now) }
+    requires ranked { Ranked rows.now }
     requires phase_value { phase ≡ phase_now d }
-    requires own_value { own ≡ best a.side (book_of rows.now) }
-    requires other_value { other ≡ best (sides.other a.side) (book_of rows.now) }
+    requires own_value { own ≡ best a.side rows.now }
+    requires other_value { other ≡ best (sides.other a.side) rows.now }
     requires issued_bound { d.issued ≤ 999_999 }
-    ensures { result ≡ ltb places (length (entry_trades d a (book_of rows.now))) }
+    ensures { result ≡ ltb places (length (entry_trades d a rows.now)) }
 {
     if rows.len() <= places {
         return false;
     }
-    let mut none = [[0; 6]; 1];
-    let counted = enter_trades(d, rows, &mut none[..0], a, phase, own, other);
+    let counted = enter_trades(d, rows, &mut [], a, phase, own, other);
     places < counted.trades
 }

@@ -6,8 +6,9 @@ use Rattle.text.specs.Points.{Point}
 use Rattle.desk.specs.declared.Answered.{Answered}
 use Rattle.desk.specs.Desks.{desk_of}
 use Rattle.chunks.specs.declared.Progress.{Progress}
+use Rattle.model.specs.declared.Order.{Order}
 
-abbrev pub point_of : Progress → List (List ℕ) → Point (Option Desk)
+abbrev pub point_of : Progress → List Order → Point (Option Desk)
 point_of p rows = record { state = desk_of p.desk rows; at = p.at; long = p.long }
 
 -- past a line that is answered

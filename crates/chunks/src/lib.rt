@@ -10,6 +10,7 @@ ghost use Rattle.chunks.specs.Points.{point_of, past_line};
 
 use desk::answering::answer_command;
 use desk::{Answered, Desk, LONGEST_ANSWER};
+use model::{Order, Trade};
 use text::NextCommand;
 use text::reading::next_command;
 
@@ -41,8 +42,8 @@ fn past_line(a: Answered, place: usize) -> Progress
 // Goes on from a place of the chunk until no line is left, or the output might not hold another answer.
 pub fn answer_lines(
     from: Progress,
-    rows: &mut [[u64; 5]],
-    trades: &mut [[u64; 6]],
+    rows: &mut [Order],
+    trades: &mut [Trade],
     chunk: &[u8],
     out: &mut [u8],
 ) -> Progress

@@ -15,34 +15,34 @@ use Rattle.model.specs.Refusals.{◌when◌, first_of}
 use Rattle.model.specs.Calls.{open_rules, cleared, open_call}
 use Rattle.model.specs.Blocks.{none_held}
 use Rattle.model.specs.AllCalls.{open_all_rules, open_all_call}
-use Rattle.book.specs.Rows.{book_of, rows_of, declaration_of, held_of, held_rows, books_of}
+use Rattle.book.specs.Books.{books_of}
 use Rattle.book.specs.Promises.{open_left, open_all_left}
-use Rattle.declarations.proofs.Memory.{held_rows_lem}
 use Rattle.limits.proofs.Spans.{too_low, from_low}
-use Rattle.book.proofs.Memory.{book_rows}
+use Rattle.model.specs.declared.Order.{Order}
+use Rattle.model.specs.declared.Declaration.{Declaration}
 
-module _ (close mark : ℕ) (rows : List (List ℕ)) where
+module _ (close mark : ℕ) (rows : List Order) where
   abbrev may_open : Bool
-  may_open = is_price close && is_mark mark && has_places (book_of rows)
+  may_open = is_price close && is_mark mark && has_places rows
 
-  pub open_refused : may_open ≡ false → open_left (Refused 14) rows ≡ open_call close mark (book_of rows)
+  pub open_refused : may_open ≡ false → open_left (Refused 14) rows ≡ open_call close mark rows
   unfolding open_call open_rules first_of ◌when◌
   open_refused e = rw e
 
   pub open_accepted :
-      (d : Day) (after : List (List ℕ))
+      (d : Day) (after : List Order)
       → may_open ≡ true
       → d ≡ fresh_day close mark
-      → after ≡ rows_of (cleared (book_of rows))
-      → open_left (Opened d) after ≡ open_call close mark (book_of rows)
+      → after ≡ (cleared rows)
+      → open_left (Opened d) after ≡ open_call close mark rows
   unfolding open_call open_rules first_of ◌when◌
-  open_accepted d after e f g = rw (e, f, g, book_rows)
+  open_accepted d after e f g = rw (e, f, g)
 
 -- over all lists
-module _ (close mark : ℕ) (main fixed blocks : List (List ℕ)) where
+module _ (close mark : ℕ) (main fixed : List Order) (blocks : List Declaration) where
   abbrev may_open_all : Bool
   may_open_all =
-      is_price close && is_mark mark && has_places (book_of main) && has_places (book_of fixed) && has_places (held_of blocks)
+      is_price close && is_mark mark && has_places main && has_places fixed && has_places blocks
 
   -- test after test
   pub all_unpriced : is_price close ≡ false → false ≡ may_open_all
@@ -54,41 +54,38 @@ module _ (close mark : ℕ) (main fixed blocks : List (List ℕ)) where
     all_unmarked h = rw (p, lt-leb mark 1 h)
 
     module _ (m : mark ≤ 1) where
-      pub all_no_book : has_places (book_of main) ≡ false → false ≡ may_open_all
+      pub all_no_book : has_places main ≡ false → false ≡ may_open_all
       unfolding is_mark
       all_no_book e = rw (p, le-leb mark 1 m, e)
 
-      module _ (b : has_places (book_of main) ≡ true) where
-        pub all_no_line : has_places (book_of fixed) ≡ false → false ≡ may_open_all
+      module _ (b : has_places main ≡ true) where
+        pub all_no_line : has_places fixed ≡ false → false ≡ may_open_all
         unfolding is_mark
         all_no_line e = rw (p, le-leb mark 1 m, b, e)
 
-        pub all_places : {r : Bool} → has_places (book_of fixed) ≡ true → r ≡ has_places (held_of blocks) → r ≡ may_open_all
+        pub all_places : {r : Bool} → has_places fixed ≡ true → r ≡ has_places blocks → r ≡ may_open_all
         unfolding is_mark
         all_places f e = rw (p, le-leb mark 1 m, b, f) e
 
-  held_long : length (held_of blocks) ≡ length blocks
-  held_long = length-map blocks declaration_of
-
-  pub all_too_few : length blocks < 1 → leb 1 (length blocks) ≡ has_places (held_of blocks)
+  pub all_too_few : length blocks < 1 → leb 1 (length blocks) ≡ has_places blocks
   unfolding has_places
-  all_too_few h = rw held_long (too_low 1 4_096 (length blocks) h)
+  all_too_few h = too_low 1 4_096 (length blocks) h
 
-  pub all_enough : 1 ≤ length blocks → leb (length blocks) 4_096 ≡ has_places (held_of blocks)
+  pub all_enough : 1 ≤ length blocks → leb (length blocks) 4_096 ≡ has_places blocks
   unfolding has_places
-  all_enough h = rw held_long (from_low 1 4_096 (length blocks) h refl)
+  all_enough h = from_low 1 4_096 (length blocks) h refl
 
   pub all_refused : may_open_all ≡ false → open_all_left (Refused 14) main fixed blocks ≡ open_all_call close mark (books_of main fixed blocks)
   unfolding open_all_call open_all_rules first_of ◌when◌
   all_refused e = rw e
 
   pub all_accepted :
-      {d : Day} {main' fixed' blocks' : List (List ℕ)}
+      {d : Day} {main' fixed' : List Order} {blocks' : List Declaration}
       → may_open_all ≡ true
       → d ≡ fresh_day close mark
-      → main' ≡ rows_of (cleared (book_of main))
-      → fixed' ≡ rows_of (cleared (book_of fixed))
-      → blocks' ≡ held_rows (none_held (held_of blocks))
+      → main' ≡ (cleared main)
+      → fixed' ≡ (cleared fixed)
+      → blocks' ≡ (none_held blocks)
       → open_all_left (Opened d) main' fixed' blocks' ≡ open_all_call close mark (books_of main fixed blocks)
   unfolding open_all_call open_all_rules first_of ◌when◌
-  all_accepted e f g h k = rw (e, f, g, h, k, book_rows, book_rows, held_rows_lem)
+  all_accepted e f g h k = rw (e, f, g, h, k)

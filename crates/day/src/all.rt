@@ -2,7 +2,6 @@
 ghost use Rattle.std.specs.Prelude.{◌≡◌, ◌&&◌};
 ghost use Rattle.model.specs.Limits.{is_price};
 ghost use Rattle.model.specs.Sound.{is_mark, has_places};
-ghost use Rattle.book.specs.Rows.{book_of, held_of};
 ghost use Rattle.day.specs.Promises.{OpenAllPromise, ClockAllPromise};
 
 use blocks::blocks_sound;
@@ -12,19 +11,19 @@ use evenings::moving::{clock_all_sound, move_refused};
 use figures::fresh_day;
 use fixed_book::fixed_sound;
 use limits::is_price;
-use model::{Day, MOST_PLACES, MoveAnswer, OpenReply};
+use model::{Day, Declaration, MOST_PLACES, MoveAnswer, OpenReply, Order, Trade};
 use soundness::is_sound;
 use soundness::places::has_places;
 
 // Previous close, mark and the places of each list are what a day can have.
 fn may_open_all(
-    main: &[[u64; 5]],
-    fixed: &[[u64; 5]],
-    blocks: &[[u64; 7]],
+    main: &[Order],
+    fixed: &[Order],
+    blocks: &[Declaration],
     close: u64,
     mark: u64,
 ) -> bool
-    ensures { result ≡ (is_price close && is_mark mark && has_places (book_of main.now) && has_places (book_of fixed.now) && has_places (held_of blocks.now)) }
+    ensures { result ≡ (is_price close && is_mark mark && has_places main.now && has_places fixed.now && has_places blocks.now) }
 {
     if !is_price(close) {
         return false;
@@ -43,9 +42,9 @@ fn may_open_all(
 
 // Every place of every list is made free. An opening reads nothing of the old day.
 pub fn open_all_call(
-    main: &mut [[u64; 5]],
-    fixed: &mut [[u64; 5]],
-    blocks: &mut [[u64; 7]],
+    main: &mut [Order],
+    fixed: &mut [Order],
+    blocks: &mut [Declaration],
     close: u64,
     mark: u64,
 ) -> OpenReply
@@ -63,10 +62,10 @@ pub fn open_all_call(
 // 15 where the day or one of the lists is not sound, else what a move does on a sound day.
 pub fn clock_all_call(
     d: Day,
-    main: &mut [[u64; 5]],
-    fixed: &mut [[u64; 5]],
-    blocks: &mut [[u64; 7]],
-    trades: &mut [[u64; 6]],
+    main: &mut [Order],
+    fixed: &mut [Order],
+    blocks: &mut [Declaration],
+    trades: &mut [Trade],
     time: u64,
 ) -> MoveAnswer
     ensures { ClockAllPromise d main.old fixed.old blocks.old trades.old time result main.new fixed.new blocks.new trades.new }

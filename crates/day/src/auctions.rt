@@ -1,6 +1,5 @@
 // What an auction held now would do: the report, and the price list. Neither changes day or book.
 ghost use Rattle.std.specs.Prelude.{◌≡◌};
-ghost use Rattle.book.specs.Rows.{book_of};
 ghost use Rattle.day.specs.Listings.{list_run, list_reply};
 ghost use Rattle.day.specs.Promises.{ReportPromise, ListPromise};
 
@@ -9,7 +8,7 @@ use auction::listing::{run_of, write_run};
 use auction::price::auction_price;
 use auction::report::report_at;
 use figures::reference_of;
-use model::{Day, ListReply, ReportReply};
+use model::{Day, ListReply, Order, ReportReply};
 use soundness::is_sound;
 
 // The price list before it is written anywhere: refused, or the prices as a run.
@@ -19,7 +18,7 @@ pub enum Listing {
     Prices(Run),
 }
 
-pub fn report_call(d: Day, rows: &[[u64; 5]]) -> ReportReply
+pub fn report_call(d: Day, rows: &[Order]) -> ReportReply
     ensures { ReportPromise d rows.now result }
 {
     if !is_sound(d, rows) {
@@ -30,8 +29,8 @@ pub fn report_call(d: Day, rows: &[[u64; 5]]) -> ReportReply
 }
 
 // For a list of so many places, be it of numbers or of bytes.
-pub fn list_run(d: Day, rows: &[[u64; 5]], places: usize, asked: u64) -> Listing
-    ensures { result ≡ list_run d (book_of rows.now) places asked }
+pub fn list_run(d: Day, rows: &[Order], places: usize, asked: u64) -> Listing
+    ensures { result ≡ list_run d rows.now places asked }
 {
     if !is_sound(d, rows) {
         return Listing::Refused(15);
@@ -51,7 +50,7 @@ pub fn list_reply(told: Listing) -> ListReply
     }
 }
 
-pub fn list_call(d: Day, rows: &[[u64; 5]], prices: &mut [u64], asked: u64) -> ListReply
+pub fn list_call(d: Day, rows: &[Order], prices: &mut [u64], asked: u64) -> ListReply
     ensures { ListPromise d rows.now prices.old asked result prices.new }
 {
     let told = list_run(d, rows, prices.len(), asked);

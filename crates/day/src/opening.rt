@@ -2,24 +2,23 @@
 ghost use Rattle.std.specs.Prelude.{◌≡◌, ◌&&◌};
 ghost use Rattle.model.specs.Limits.{is_price};
 ghost use Rattle.model.specs.Sound.{is_mark, has_places};
-ghost use Rattle.book.specs.Rows.{book_of};
 ghost use Rattle.day.specs.Promises.{OpenPromise};
 
 use book::settling::clear_rows;
 use figures::fresh_day;
 use limits::is_price;
-use model::OpenReply;
+use model::{OpenReply, Order};
 use soundness::places::has_places;
 
 // Previous close, mark and places are what a day can have.
-fn may_open(rows: &[[u64; 5]], close: u64, mark: u64) -> bool
-    ensures { result ≡ (is_price close && is_mark mark && has_places (book_of rows.now)) }
+fn may_open(rows: &[Order], close: u64, mark: u64) -> bool
+    ensures { result ≡ (is_price close && is_mark mark && has_places rows.now) }
 {
     is_price(close) && mark <= 1 && has_places(rows)
 }
 
 // Every place is made free. An opening reads nothing of the old day.
-pub fn open_call(rows: &mut [[u64; 5]], close: u64, mark: u64) -> OpenReply
+pub fn open_call(rows: &mut [Order], close: u64, mark: u64) -> OpenReply
     ensures { OpenPromise rows.old close mark result rows.new }
 {
     if !may_open(rows, close, mark) {

@@ -1,3 +1,2 @@
 -- The laws behind the functions on rows of declarations, and those that callers cite.
-pub mod Memory
 pub mod Freeing

@@ -5,41 +5,22 @@
 ghost use Rattle.std.specs.Prelude.{◌≡◌, [], ◌++◌, ◌-◌, ◌≤◌, ◌<◌, length, get_or, set, take, replicate};
 ghost use Rattle.model.specs.Book.{other};
 ghost use Rattle.model.specs.Blocks.{undeclared, fits, none_held};
-ghost use Rattle.book.specs.Rows.{declaration_of, declaration_row, held_of, held_rows};
 
 use model::Declaration;
 
 // The declaration at a place.
-pub fn declaration_at(rows: &[[u64; 7]], place: usize) -> Declaration
+pub fn declaration_at(rows: &[Declaration], place: usize) -> Declaration
     requires { place < length rows.now }
-    ensures { result ≡ declaration_of (get_or rows.now place []) }
+    ensures { result ≡ get_or rows.now place undeclared }
 {
-    let row = rows[place];
-    Declaration {
-        side: row[0],
-        account: row[1],
-        counter: row[2],
-        quantity: row[3],
-        price: row[4],
-        agreement: row[5],
-        number: row[6],
-    }
+    rows[place]
 }
 
-pub fn put_declaration(rows: &mut [[u64; 7]], place: usize, x: Declaration)
+pub fn put_declaration(rows: &mut [Declaration], place: usize, x: Declaration)
     requires { place < length rows.old }
-    ensures { rows.new ≡ set rows.old place (declaration_row x) }
+    ensures { rows.new ≡ set rows.old place x }
 {
-    let row = [
-        x.side,
-        x.account,
-        x.counter,
-        x.quantity,
-        x.price,
-        x.agreement,
-        x.number,
-    ];
-    rows[place] = row;
+    rows[place] = x;
 }
 
 // A free place is all zeros.
@@ -58,9 +39,9 @@ pub fn no_declaration() -> Declaration
 }
 
 // Every place from one on is free.
-pub fn free_rest(rows: &mut [[u64; 7]], from: usize)
+pub fn free_rest(rows: &mut [Declaration], from: usize)
     requires { from ≤ length rows.old }
-    ensures { rows.new ≡ take from rows.old ++ replicate (length rows.old - from) (declaration_row undeclared) }
+    ensures { rows.new ≡ take from rows.old ++ replicate (length rows.old - from) undeclared }
 {
     let mut place = from;
     while place < rows.len() {
@@ -70,8 +51,8 @@ pub fn free_rest(rows: &mut [[u64; 7]], from: usize)
 }
 
 // Every place free.
-pub fn clear_held(rows: &mut [[u64; 7]])
-    ensures { rows.new ≡ held_rows (none_held (held_of rows.old)) }
+pub fn clear_held(rows: &mut [Declaration])
+    ensures { rows.new ≡ (none_held rows.old) }
 {
     free_rest(&mut *rows, 0);
 }

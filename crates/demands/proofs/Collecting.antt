@@ -24,6 +24,7 @@ use Rattle.demands.proofs.Refusals.{order_numbers_lem, order_apart}
 use Rattle.demands.proofs.Cases.{order_cases}
 use Rattle.demands.proofs.Hours.{now_halted, continuous_takes}
 use Rattle.demands.proofs.LongLists.{never, not_this}
+use Rattle.model.specs.Matching.{no_trade}
 
 module _ (d : Day) (now : phase_now d ≡ 7) where
   not_continuous : eqb (phase_now d) continuous ≡ false

@@ -25,7 +25,6 @@ use Rattle.model.specs.ClockCall.{clock_rules, clock_call}
 use Rattle.model.specs.Lines.{refusal_line, trade_lines, open_line, clock_line, order_line, cancel_line}
 use Rattle.model.specs.Session as Session
 use Rattle.model.specs.Session.{Desk, opened, open_answer, cancel_answer, on_desk, event_answer, answer}
-use Rattle.book.specs.Rows.{order_of, book_of, trade_of, trades_of}
 use Rattle.book.specs.Promises.{open_left, call_left, cancel_left}
 use Rattle.printing.specs.Printing.{Wrote}
 use Rattle.printing.proofs.Printed.{and_then, line_within}
@@ -66,23 +65,23 @@ clock_holds d t book lent =
 
 -- and so they do in the rows of memory
 made_within :
-    {A : Type 0} (made : A → ℕ) (o : Outcome A) (r : A) (rows trades : List (List ℕ))
+    {A : Type 0} (made : A → ℕ) (o : Outcome A) (r : A) (rows : List Order) (trades : List Trade)
     → made o.answer ≤ length o.trades
     → call_left r rows trades ≡ o
     → made r ≤ length trades
 made_within {A} made o r rows trades h e =
-    let n : length (trades_of trades) ≡ length trades = length-map trades trade_of in
-    let k : made r ≤ length (trades_of trades) = subst (λ (x : Outcome A). made x.answer ≤ length x.trades) (sym e) h in
+    let n : length trades ≡ length trades = refl in
+    let k : made r ≤ length trades = subst (λ (x : Outcome A). made x.answer ≤ length x.trades) (sym e) h in
     omega arith
 
-module _ (d : Day) (rows trades rows' trades' : List (List ℕ)) where
+module _ (d : Day) (rows : List Order) (trades : List Trade) (rows' : List Order) (trades' : List Trade) where
   pub order_made :
-      (a : Asked) {r : OrderAnswer} → call_left r rows' trades' ≡ order_call d a (book_of rows) (trades_of trades) → r.made ≤ length trades'
-  order_made a {r} = made_within (λ x. x.made) _ r rows' trades' (order_holds d a (book_of rows) (trades_of trades))
+      (a : Asked) {r : OrderAnswer} → call_left r rows' trades' ≡ order_call d a rows trades → r.made ≤ length trades'
+  order_made a {r} = made_within (λ x. x.made) _ r rows' trades' (order_holds d a rows trades)
 
   pub clock_made :
-      (t : ℕ) {r : ClockAnswer} → call_left r rows' trades' ≡ clock_call d t (book_of rows) (trades_of trades) → r.made ≤ length trades'
-  clock_made t {r} = made_within (λ x. x.made) _ r rows' trades' (clock_holds d t (book_of rows) (trades_of trades))
+      (t : ℕ) {r : ClockAnswer} → call_left r rows' trades' ≡ clock_call d t rows trades → r.made ≤ length trades'
+  clock_made t {r} = made_within (λ x. x.made) _ r rows' trades' (clock_holds d t rows trades)
 
 -- ---- answers
 
@@ -108,7 +107,7 @@ pub is_open : {A : Type 0} {k : Desk.Desk} {d : Day} → k ≡ Desk.TheVariants.
 is_open e f = let z : ◌≡◌ {A = ℕ} 0 1 = cc in absurd (omega arith)
 
 -- the desk depends on the rows by the book alone
-same_desk : (k : Desk.Desk) (rows rows' : List (List ℕ)) → book_of rows' ≡ book_of rows → desk_of k rows' ≡ desk_of k rows
+same_desk : (k : Desk.Desk) (rows rows' : List Order) → rows' ≡ rows → desk_of k rows' ≡ desk_of k rows
 same_desk Desk.TheVariants.Closed rows rows' e = refl
 same_desk (Desk.TheVariants.Open d) rows rows' e = ap (λ (b : List Order). some (record { day = d; book = b })) e
 
@@ -118,15 +117,15 @@ asked_sound k e s = subst (λ (y : Command). asks_unsound y k ≡ false) e s
 
 -- where a day is open
 pub on_day :
-    (k : Desk.Desk) (rows : List (List ℕ)) {d : Day}
+    (k : Desk.Desk) (rows : List Order) {d : Day}
     → k ≡ Desk.TheVariants.Open d
     → not_sound (desk_of k rows) ≡ false
-    → unsound d (book_of rows) ≡ false
+    → unsound d rows ≡ false
 on_day k rows e s = subst (λ (x : Desk.Desk). not_sound (desk_of x rows) ≡ false) e s
 
 -- where no day is open, no line touches the trade list
 pub no_trades_lem :
-    (k : Desk.Desk) (rows : List (List ℕ)) (e : Event.Event) (lent : List Trade)
+    (k : Desk.Desk) (rows : List Order) (e : Event.Event) (lent : List Trade)
     → k ≡ Desk.TheVariants.Closed
     → lent ≡ trades_left (Asks e) (desk_of k rows) lent
 no_trades_lem k rows (Event.TheVariants.Open close mark) lent e = refl
@@ -137,26 +136,26 @@ no_trades_lem k rows (Event.TheVariants.Cancel account number) lent e = refl
 module _ {before after : List ℕ} {at : ℕ} where
   -- an answer's text and desk, as they are known
   pub leaves :
-      {a : Session.Answered} {text : List ℕ} {desk : Option Desk} {rows rows' : List (List ℕ)} {r : Answered}
+      {a : Session.Answered} {text : List ℕ} {desk : Option Desk} {rows rows' : List Order} {r : Answered}
       → a ≡ answered text desk
       → Wrote before at text after r.next
       → r.next ≤ length after
       → desk_of r.desk rows' ≡ desk
-      → (r.desk ≡ Desk.TheVariants.Closed → book_of rows' ≡ book_of rows)
+      → (r.desk ≡ Desk.TheVariants.Closed → rows' ≡ rows)
       → Leaves a rows before at rows' after r
   leaves {rows = rows} {rows'} {r} e w h f g =
       subst (λ (x : Session.Answered). Leaves x rows before at rows' after r) (sym e) (record { text = w; fits = h; desk = f; idle = g })
 
   -- the line asks for what it was taken to ask for
   pub as_asked :
-      {c x : Command} {k : Desk.Desk} {rows trades rows' trades' : List (List ℕ)} {r : Answered}
+      {c x : Command} {k : Desk.Desk} {rows : List Order} {trades : List Trade} {rows' : List Order} {trades' : List Trade} {r : Answered}
       → c ≡ x
       → Answering x k rows trades before at rows' trades' after r
       → Answering c k rows trades before at rows' trades' after r
   as_asked {k = k} {rows} {trades} {rows'} {trades'} {r} e l =
       subst (λ (y : Command). Answering y k rows trades before at rows' trades' after r) (sym e) l
 
-  module _ (k : Desk.Desk) (rows : List (List ℕ)) where
+  module _ (k : Desk.Desk) (rows : List Order) where
     -- 17: no day opened yet
     pub no_day_lem :
         (f : Desk → Session.Answered) (r : Answered)
@@ -178,14 +177,14 @@ module _ {before after : List ℕ} {at : ℕ} where
     unfolding answer
     no_line r h f w = leaves refl w (line_within w (refusal_fits 16) h) (rw f) (λ _. refl)
 
-    module _ (rows' : List (List ℕ)) (next : ℕ) where
+    module _ (rows' : List Order) (next : ℕ) where
       module _
           (close mark : ℕ) (reply : OpenReply.OpenReply) (n : length rows ≡ 1_024)
-          (e : open_left reply rows' ≡ open_call close mark (book_of rows)) (w : Wrote before at (open_line reply) after next)
+          (e : open_left reply rows' ≡ open_call close mark rows) (w : Wrote before at (open_line reply) after next)
           (h : at + 110 ≤ length before) where
         opening : open_answer close mark (desk_of k rows) ≡ answered (open_line reply) (opened (open_left reply rows') (desk_of k rows))
         opening =
-            open_answer_lem close mark (book_of rows) (length-map rows order_of ∙ n) (desk_of k rows)
+            open_answer_lem close mark rows (n) (desk_of k rows)
             ∙ sym (ap (λ (o : OpenOutcome). answered (open_line o.reply) (opened o (desk_of k rows))) e)
 
         pub opening_made :
@@ -201,15 +200,15 @@ module _ {before after : List ℕ} {at : ℕ} where
             → Leaves (open_answer close mark (desk_of k rows)) rows before at rows' after (record { desk = k; next = next })
         unfolding opened
         opening_refused m f =
-            let g : (open_call close mark (book_of rows)).reply ≡ OpenReply.TheVariants.Refused m = sym (ap (λ (o : OpenOutcome). o.reply) e) ∙ f in
-            let b : book_of rows' ≡ book_of rows = ap (λ (o : OpenOutcome). o.book) e ∙ open_stays close mark (book_of rows) m g in
+            let g : (open_call close mark rows).reply ≡ OpenReply.TheVariants.Refused m = sym (ap (λ (o : OpenOutcome). o.reply) e) ∙ f in
+            let b : rows' ≡ rows = ap (λ (o : OpenOutcome). o.book) e ∙ open_stays close mark rows m g in
             leaves opening w (line_within w (open_fits reply) h) (rw f (same_desk k rows rows' b)) (λ _. b)
 
       module _ {d : Day} (o : k ≡ Desk.TheVariants.Open d) where
         pub cancel_answered :
             (account number : ℕ) (r : CancelAnswer)
             → at + 110 ≤ length before
-            → cancel_left r rows' ≡ cancel_call d account number (book_of rows)
+            → cancel_left r rows' ≡ cancel_call d account number rows
             → Wrote before at (cancel_line number r.reply) after next
             → Leaves (on_desk (cancel_answer account number) (desk_of k rows)) rows before at rows' after (record { desk = Desk.TheVariants.Open r.day; next = next })
         unfolding on_desk cancel_answer
@@ -217,19 +216,19 @@ module _ {before after : List ℕ} {at : ℕ} where
             leaves (rw (o, ← e)) w (line_within w (cancel_fits number r.reply) h) refl (is_open refl)
 
         module _
-            (trades trades' : List (List ℕ)) (n : length trades ≡ 2_048)
+            (trades trades' : List Trade) (n : length trades ≡ 2_048)
             {middle : List ℕ} {p : ℕ} (h : p + 110 ≤ length middle) where
           pub order_answered :
               (a : Asked) (r : OrderAnswer)
-              → call_left r rows' trades' ≡ order_call d a (book_of rows) (trades_of trades)
-              → Wrote before at (trade_lines (take r.made (trades_of trades'))) middle p
+              → call_left r rows' trades' ≡ order_call d a rows trades
+              → Wrote before at (trade_lines (take r.made trades')) middle p
               → Wrote middle p (order_line r.reply) after next
               → Answering (Asks (Event.TheVariants.Order a)) k rows trades before at rows' trades' after (record { desk = Desk.TheVariants.Open r.day; next = next })
           unfolding answer event_answer on_desk
           order_answered a r e v w = record {
             leaves =
                 leaves
-                (rw o (order_answer_lem (trades_of trades) (length-map trades trade_of ∙ n) (record { day = d; book = book_of rows }) a
+                (rw o (order_answer_lem trades (n) (record { day = d; book = rows }) a
                 ∙ sym (ap (λ (x : Outcome OrderAnswer). order_text (take x.answer.made x.trades) x.answer x.book) e)))
                 (and_then v w) (line_within w (order_fits r.reply) h) refl (is_open refl);
             list = rw o (ap (λ (x : Outcome OrderAnswer). x.trades) e);
@@ -237,15 +236,15 @@ module _ {before after : List ℕ} {at : ℕ} where
 
           pub clock_answered :
               (t : ℕ) (r : ClockAnswer)
-              → call_left r rows' trades' ≡ clock_call d t (book_of rows) (trades_of trades)
-              → Wrote before at (trade_lines (take r.made (trades_of trades'))) middle p
+              → call_left r rows' trades' ≡ clock_call d t rows trades
+              → Wrote before at (trade_lines (take r.made trades')) middle p
               → Wrote middle p (clock_line r.reply) after next
               → Answering (Asks (Event.TheVariants.Clock t)) k rows trades before at rows' trades' after (record { desk = Desk.TheVariants.Open r.day; next = next })
           unfolding answer event_answer on_desk
           clock_answered t r e v w = record {
             leaves =
                 leaves
-                (rw o (clock_answer_lem (trades_of trades) (length-map trades trade_of ∙ n) (record { day = d; book = book_of rows }) t
+                (rw o (clock_answer_lem trades (n) (record { day = d; book = rows }) t
                 ∙ sym (ap (λ (x : Outcome ClockAnswer). clock_text (take x.answer.made x.trades) x.answer x.book) e)))
                 (and_then v w) (line_within w (clock_fits r.reply) h) refl (is_open refl);
             list = rw o (ap (λ (x : Outcome ClockAnswer). x.trades) e);

@@ -1,5 +1,6 @@
 -- The definitions' desk, as the program holds it: the day, once one is open, and the rows of the book. No answer depends on
 -- the rest: the places while no day is open, and what stands in the trade list before a call.
+use Rattle.model.specs.declared.Order as Orders
 use Rattle.std.specs.Prelude.{ℕ, ◌≤◌, ◌≡◌, Bool, true, false, ◌&&◌, List, length}
 use Rattle.std.proofs.Math.Option.{Option, none, some}
 use Rattle.model.specs.declared.Trade.{Trade}
@@ -10,14 +11,13 @@ use Rattle.model.specs.Refusals.{unsound}
 use Rattle.model.specs.Calls.{order_call}
 use Rattle.model.specs.ClockCall.{clock_call}
 use Rattle.model.specs.Session as Session
-use Rattle.book.specs.Rows.{book_of, trades_of}
 use Rattle.printing.specs.Printing.{Wrote}
 use Rattle.desk.specs.declared.Desk as Desk
 use Rattle.desk.specs.declared.Answered.{Answered}
 
-abbrev pub desk_of : Desk.Desk → List (List ℕ) → Option Session.Desk
+abbrev pub desk_of : Desk.Desk → List Orders.Order → Option Session.Desk
 desk_of Desk.TheVariants.Closed rows = none
-desk_of (Desk.TheVariants.Open d) rows = some (record { day = d; book = book_of rows })
+desk_of (Desk.TheVariants.Open d) rows = some (record { day = d; book = rows })
 
 abbrev pub not_sound : Option Session.Desk → Bool
 not_sound none = false
@@ -37,11 +37,11 @@ asks_unsound c k = asks_day c && not_sound k
 
 -- the definitions' answer, put into a buffer at a place: its text stands there, all of it, and its desk is what the answer
 -- leaves; while no day is open the places stay
-pub record Leaves (a : Session.Answered) (rows : List (List ℕ)) (before : List ℕ) (at : ℕ) (rows' : List (List ℕ)) (after : List ℕ) (r : Answered) : Type 0 where
+pub record Leaves (a : Session.Answered) (rows : List Orders.Order) (before : List ℕ) (at : ℕ) (rows' : List Orders.Order) (after : List ℕ) (r : Answered) : Type 0 where
   pub text : Wrote before at a.text after r.next
   pub fits : r.next ≤ length after
   pub desk : desk_of r.desk rows' ≡ a.desk
-  pub idle : r.desk ≡ Desk.TheVariants.Closed → book_of rows' ≡ book_of rows
+  pub idle : r.desk ≡ Desk.TheVariants.Closed → rows' ≡ rows
 
 -- the trade list as the call that a line asks for leaves it
 abbrev pub trades_left : Command → Option Session.Desk → List Trade → List Trade
@@ -54,6 +54,6 @@ trades_left (Asks (Open close mark)) k lent = lent
 trades_left (Asks (Cancel account number)) k lent = lent
 
 -- the answer to what a line asks for, and all lent memory
-pub record Answering (c : Command) (desk : Desk.Desk) (rows trades : List (List ℕ)) (before : List ℕ) (at : ℕ) (rows' trades' : List (List ℕ)) (after : List ℕ) (r : Answered) : Type 0 where
+pub record Answering (c : Command) (desk : Desk.Desk) (rows : List Orders.Order) (trades : List Trade) (before : List ℕ) (at : ℕ) (rows' : List Orders.Order) (trades' : List Trade) (after : List ℕ) (r : Answered) : Type 0 where
   pub leaves : Leaves (Session.answer c (desk_of desk rows)) rows before at rows' after r
-  pub list : trades_of trades' ≡ trades_left c (desk_of desk rows) (trades_of trades)
+  pub list : trades' ≡ trades_left c (desk_of desk rows) trades

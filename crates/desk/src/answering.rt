@@ -2,7 +2,6 @@
 // No call tests the day again: it is for the caller to show that 15 is not due.
 ghost use Rattle.std.specs.Prelude.{◌≡◌, false, ◌+◌, ◌≤◌, length};
 ghost use Rattle.model.specs.declared.Command.TheVariants.{Asks};
-ghost use Rattle.model.specs.declared.Event.TheVariants.{Clock, Order};
 ghost use Rattle.model.specs.Lines.{refusal_line};
 ghost use Rattle.model.specs.Session.{open_answer, cancel_answer, on_desk};
 ghost use Rattle.printing.specs.Printing.{Wrote};
@@ -10,7 +9,7 @@ ghost use Rattle.desk.specs.Desks.{desk_of, not_sound, asks_unsound, Leaves, Ans
 
 use crate::{Answered, Desk};
 use day::opening::open_call;
-use model::{Asked, Command, Event, OpenReply};
+use model::{Asked, Command, Event, OpenReply, Order, Trade};
 use moves::moving::clock_sound;
 use orders::cancelling::cancel_sound;
 use orders::entering::order_sound;
@@ -28,7 +27,7 @@ pub fn refuse(desk: Desk, n: u64, out: &mut [u8], at: usize) -> Answered
 // A new day starts over; a refused one changes nothing.
 fn answer_open(
     desk: Desk,
-    rows: &mut [[u64; 5]],
+    rows: &mut [Order],
     close: u64,
     mark: u64,
     out: &mut [u8],
@@ -51,14 +50,14 @@ fn answer_open(
 // Trades come first.
 fn answer_clock(
     desk: Desk,
-    rows: &mut [[u64; 5]],
-    trades: &mut [[u64; 6]],
+    rows: &mut [Order],
+    trades: &mut [Trade],
     time: u64,
     out: &mut [u8],
     at: usize,
 ) -> Answered
     requires { (length trades.old ≡ 2048) × (at + 262254 ≤ length out.old) × (not_sound (desk_of desk rows.old) ≡ false) }
-    ensures { Answering (Asks (Clock time)) desk rows.old trades.old out.old at rows.new trades.new out.new result }
+    ensures { Answering (Asks (Event.Clock time)) desk rows.old trades.old out.old at rows.new trades.new out.new result }
 {
     let Desk::Open(d) = desk else {
         return refuse(desk, 17, out, at);
@@ -76,14 +75,14 @@ fn answer_clock(
 
 fn answer_order(
     desk: Desk,
-    rows: &mut [[u64; 5]],
-    trades: &mut [[u64; 6]],
+    rows: &mut [Order],
+    trades: &mut [Trade],
     a: Asked,
     out: &mut [u8],
     at: usize,
 ) -> Answered
     requires { (length trades.old ≡ 2048) × (at + 262254 ≤ length out.old) × (not_sound (desk_of desk rows.old) ≡ false) }
-    ensures { Answering (Asks (Order a)) desk rows.old trades.old out.old at rows.new trades.new out.new result }
+    ensures { Answering (Asks (Event.Order a)) desk rows.old trades.old out.old at rows.new trades.new out.new result }
 {
     let Desk::Open(d) = desk else {
         return refuse(desk, 17, out, at);
@@ -101,7 +100,7 @@ fn answer_order(
 
 fn answer_cancel(
     desk: Desk,
-    rows: &mut [[u64; 5]],
+    rows: &mut [Order],
     account: u64,
     number: u64,
     out: &mut [u8],
@@ -125,8 +124,8 @@ fn answer_cancel(
 
 fn answer_event(
     desk: Desk,
-    rows: &mut [[u64; 5]],
-    trades: &mut [[u64; 6]],
+    rows: &mut [Order],
+    trades: &mut [Trade],
     event: Event,
     out: &mut [u8],
     at: usize,
@@ -145,8 +144,8 @@ fn answer_event(
 // The answer to any line.
 pub fn answer_command(
     desk: Desk,
-    rows: &mut [[u64; 5]],
-    trades: &mut [[u64; 6]],
+    rows: &mut [Order],
+    trades: &mut [Trade],
     c: Command,
     out: &mut [u8],
     at: usize,

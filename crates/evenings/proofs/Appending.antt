@@ -1,6 +1,6 @@
 -- Trades written into what is left of a list, behind those so far. Assumes nothing.
 use Prim.Native.Nat.{ℕ, ◌+◌, ◌-◌, ◌≤◌}
-use mathlib.Core.Path.{◌≡◌, sym, ap, ◌∙◌}
+use mathlib.Core.Path.{◌≡◌, refl, sym, ap, ◌∙◌}
 use mathlib.Core.List.{List, [], ◌++◌, map-append, append-nil}
 use native.Mathlib.Omega.{arith}
 use lib.ListN.{length, take, drop, length-map, length-append, length-drop, drop_of_length-le}
@@ -9,9 +9,9 @@ use Rattle.model.specs.declared.Trade.{Trade}
 use Rattle.model.specs.Matching.{filled}
 use Rattle.book.specs.declared.Dealt.{Dealt}
 use Rattle.book.specs.Deals.{dealt}
-use Rattle.book.specs.Rows.{trade_of, trade_row, trades_of, trade_rows}
 use Rattle.book.specs.Writing.{fitted}
 use Rattle.book.proofs.Written.{fitted_all, fitted_trades}
+use Rattle.model.specs.declared.Order.{Order}
 
 -- what was counted of them
 module _ (ts : List Trade) {r : Dealt} (e : r ≡ dealt ts) where
@@ -24,20 +24,20 @@ module _ (ts : List Trade) {r : Dealt} (e : r ≡ dealt ts) where
   sum_within n h = omega (arith, h, ap (λ (x : Dealt). x.made) e)
 
 -- after the first n places stand these trades, and behind them the list is as it was
-pub record Behind (n : ℕ) (ts : List Trade) (before after : List (List ℕ)) : Type 0 where
-  pub list : trades_of (take (n + length ts) after) ≡ trades_of (take n before) ++ ts
+pub record Behind (n : ℕ) (ts : List Trade) (before after : List Trade) : Type 0 where
+  pub list : (take (n + length ts) after) ≡ (take n before) ++ ts
   pub past : drop (n + length ts) after ≡ drop (n + length ts) before
   pub within : n + length ts ≤ length after
 
-module _ (n : ℕ) (lent : List (List ℕ)) (w : n ≤ length lent) where
+module _ (n : ℕ) (lent : List Trade) (w : n ≤ length lent) where
   -- those so far, what is left of the list, and what is left after that
-  abbrev old : List (List ℕ)
+  abbrev old : List Trade
   old = take n lent
 
-  abbrev rest : List (List ℕ)
+  abbrev rest : List Trade
   rest = take (length lent - n) (drop n lent)
 
-  abbrev beyond : List (List ℕ)
+  abbrev beyond : List Trade
   beyond = drop (length lent - n) (drop n lent)
 
   old_long : length old ≡ n
@@ -52,23 +52,22 @@ module _ (n : ℕ) (lent : List (List ℕ)) (w : n ≤ length lent) where
   pub rest_long : length rest ≡ length lent - n
   rest_long = ap length rest_is ∙ length-drop n lent
 
-  module _ (ts : List Trade) (fits : n + length ts ≤ length lent) {part : List (List ℕ)} (e : part ≡ fitted (trade_rows ts) rest) where
-    abbrev after : List (List ℕ)
+  module _ (ts : List Trade) (fits : n + length ts ≤ length lent) {part : List Trade} (e : part ≡ fitted ts rest) where
+    abbrev after : List Trade
     after = old ++ (part ++ beyond)
 
     room : length ts ≤ length rest
     room = omega (arith, rest_long, fits)
 
-    written_so : part ≡ trade_rows ts ++ drop (length (trade_rows ts)) rest
-    written_so = e ∙ fitted_all (trade_rows ts) rest (omega (arith, room, length-map ts trade_row))
+    written_so : part ≡ ts ++ drop (length ts) rest
+    written_so = e ∙ fitted_all ts rest (omega (arith, room))
 
     part_long : length ts ≤ length part
     part_long =
         omega (
           arith,
           ap length written_so,
-          length-append (trade_rows ts) (drop (length (trade_rows ts)) rest),
-          length-map ts trade_row,
+          length-append ts (drop (length ts) rest),
         )
 
     after_long : length after ≡ length lent
@@ -80,30 +79,27 @@ module _ (n : ℕ) (lent : List (List ℕ)) (w : n ≤ length lent) where
           old_long,
           ap length beyond_is,
           ap length written_so,
-          length-append (trade_rows ts) (drop (length (trade_rows ts)) rest),
-          length-drop (length (trade_rows ts)) rest,
-          length-map ts trade_row,
+          length-append ts (drop (length ts) rest),
+          length-drop (length ts) rest,
           rest_long,
           room,
         )
 
-    listed : trades_of (take (n + length ts) after) ≡ trades_of (take n lent) ++ ts
+    listed : (take (n + length ts) after) ≡ (take n lent) ++ ts
     listed =
-        ap (λ (k : ℕ). trades_of (take (k + length ts) after)) (sym old_long)
-        ∙ ap trades_of (take-append-add old (part ++ beyond) (length ts))
-        ∙ ap (λ (l : List (List ℕ)). trades_of (old ++ l)) (take-append-le (length ts) part beyond part_long)
-        ∙ map-append trade_of old (take (length ts) part)
-        ∙ ap (λ (l : List Trade). trades_of old ++ l) (ap (λ (l : List (List ℕ)). trades_of (take (length ts) l)) e ∙ fitted_trades ts rest room)
+        ap (λ (k : ℕ). (take (k + length ts) after)) (sym old_long)
+        ∙ (take-append-add old (part ++ beyond) (length ts))
+        ∙ ap (λ (l : List Trade). (old ++ l)) (take-append-le (length ts) part beyond part_long)
+        ∙ ap (λ (l : List Trade). old ++ l) (ap (λ (l : List Trade). (take (length ts) l)) e ∙ fitted_trades ts rest room)
 
     untouched : drop (n + length ts) after ≡ drop (n + length ts) lent
     untouched =
         ap (λ (k : ℕ). drop (k + length ts) after) (sym old_long)
         ∙ drop-append-add old (part ++ beyond) (length ts)
-        ∙ ap (λ (l : List (List ℕ)). drop (length ts) (part ++ l)) beyond_is
+        ∙ ap (λ (l : List Trade). drop (length ts) (part ++ l)) beyond_is
         ∙ ap (drop (length ts)) (append-nil part)
         ∙ ap (drop (length ts)) written_so
-        ∙ drop_at (trade_rows ts) (drop (length (trade_rows ts)) rest) (length ts) (length-map ts trade_row)
-        ∙ ap (λ (k : ℕ). drop k rest) (length-map ts trade_row)
+        ∙ drop_at ts (drop (length ts) rest) (length ts) refl
         ∙ ap (drop (length ts)) rest_is
         ∙ drop-drop (length ts) n lent
 

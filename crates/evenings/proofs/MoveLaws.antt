@@ -24,12 +24,12 @@ use Rattle.model.specs.Calls.{written}
 use Rattle.model.specs.AfterClose.{After}
 use Rattle.model.specs.AllCalls.{moved_on, move_trades, clock_all_rules, clock_all_call}
 use Rattle.model.proofs.Rules.{hit, skip}
-use Rattle.book.specs.Rows.{book_of, trade_of, trades_of, books_of}
+use Rattle.book.specs.Books.{books_of}
 use Rattle.book.specs.Promises.{clock_all_left}
-use Rattle.book.proofs.Written.{trades_drop}
 use Rattle.figures.specs.Figures.{Publishable}
 use Rattle.evenings.specs.declared.Evening.{Evening}
-use Rattle.evenings.specs.Stage.{Rows, Stage, answered}
+use Rattle.evenings.specs.Stage.{Stage, answered}
+use Rattle.model.specs.declared.Declaration.{Declaration}
 
 -- ---- which rule is the first
 
@@ -74,28 +74,21 @@ module _ (d : Day) (t : ℕ) (s : Books) (room : ℕ) where
 
 -- ---- what the call comes to
 
-trades_take : (n : ℕ) (l : Rows) → trades_of (take n l) ≡ take n (trades_of l)
-trades_take zero l = refl
-trades_take (suc n) [] = refl
-trades_take (suc n) (r ∷ rs) = ap (λ (ts : List Trade). trade_of r ∷ ts) (trades_take n rs)
-
-module _ {h : After} {lent : Rows} {e : Evening} {line places trades : Rows} (s : Stage h lent e line places trades) where
+module _ {h : After} {lent : List Trade} {e : Evening} {line : List Order} {places : List Declaration} {trades : List Trade} (s : Stage h lent e line places trades) where
   pub stage_made : e.made ≡ length (move_trades h)
   stage_made =
-      sym (length-map (take e.made trades) trade_of ∙ length-take-le e.made trades s.within) ∙ ap length s.list
+      sym (length-take-le e.made trades s.within) ∙ ap length s.list
 
-  stage_written : trades_of trades ≡ written (move_trades h) (trades_of lent)
+  stage_written : trades ≡ written (move_trades h) lent
   unfolding written
   stage_written =
-      ap trades_of (sym (take-append-drop e.made trades))
-      ∙ map-append trade_of (take e.made trades) (drop e.made trades)
-      ∙ ap (λ (ts : List Trade). ts ++ trades_of (drop e.made trades)) s.list
-      ∙ ap (λ (l : Rows). move_trades h ++ trades_of l) s.past
-      ∙ ap (λ (ts : List Trade). move_trades h ++ ts) (trades_drop e.made lent)
-      ∙ ap (λ (n : ℕ). move_trades h ++ drop n (trades_of lent)) stage_made
+      (sym (take-append-drop e.made trades))
+      ∙ ap (λ (ts : List Trade). ts ++ (drop e.made trades)) s.list
+      ∙ ap (λ (l : List Trade). move_trades h ++ l) s.past
+      ∙ ap (λ (n : ℕ). move_trades h ++ drop n lent) stage_made
 
   -- the main book's trades are the first of them
-  stage_auctions : {n : ℕ} → n ≡ length h.auctions → trades_of (take n trades) ≡ h.auctions
+  stage_auctions : {n : ℕ} → n ≡ length h.auctions → (take n trades) ≡ h.auctions
   unfolding move_trades
   stage_auctions {n} f =
       let l : n ≤ e.made =
@@ -105,40 +98,39 @@ module _ {h : After} {lent : Rows} {e : Evening} {line places trades : Rows} (s 
         length-append (h.auctions ++ h.confirmed) h.fixed,
         length-append h.auctions h.confirmed,
       ) in
-      ap trades_of (sym (take-take n e.made trades l))
-      ∙ trades_take n (take e.made trades)
+      (sym (take-take n e.made trades l))
       ∙ ap (take n) s.list
       ∙ first_of_lem h.auctions h.confirmed h.fixed (sym f)
     where
       first_of_lem : {n : ℕ} (xs ys zs : List Trade) → length xs ≡ n → take n (xs ++ ys ++ zs) ≡ xs
       first_of_lem {n} xs ys zs k = rw (append_assoc xs ys zs) (take_at xs (ys ++ zs) n k)
 
-module _ (d : Day) (t : ℕ) (main fixed blocks lent : Rows) {n : ℕ} (e : n ≡ first_of (clock_all_rules d t (books_of main fixed blocks) (length lent))) where
+module _ (d : Day) (t : ℕ) (main fixed : List Order) (blocks : List Declaration) (lent : List Trade) {n : ℕ} (e : n ≡ first_of (clock_all_rules d t (books_of main fixed blocks) (length lent))) where
   abbrev books : Books
   books = books_of main fixed blocks
 
-  first : first_of (clock_all_rules d t books (length (trades_of lent))) ≡ n
-  first = ap (λ (k : ℕ). first_of (clock_all_rules d t books k)) (length-map lent trade_of) ∙ sym e
+  first : first_of (clock_all_rules d t books (length lent)) ≡ n
+  first = ap (λ (k : ℕ). first_of (clock_all_rules d t books k)) (refl) ∙ sym e
 
   pub move_refused_lem :
       (n ≡ 0 → ⊥)
-      → clock_all_left (record { reply = Refused n; made = 0; day = d }) main fixed blocks lent ≡ clock_all_call d t books (trades_of lent)
+      → clock_all_left (record { reply = Refused n; made = 0; day = d }) main fixed blocks lent ≡ clock_all_call d t books lent
   unfolding clock_all_call
   move_refused_lem z = rw (first, ne_eqb n 0 z)
 
   pub move_accepted :
-      (ev : Evening) (main' fixed' blocks' trades' : Rows) {auctions : ℕ} {r : MoveAnswer}
+      (ev : Evening) (main' fixed' : List Order) (blocks' : List Declaration) (trades' : List Trade) {auctions : ℕ} {r : MoveAnswer}
       → n ≡ 0
       → Stage (moved_on d t books) lent ev fixed' blocks' trades'
-      → book_of main' ≡ (moved_on d t books).books.main
+      → main' ≡ (moved_on d t books).books.main
       → auctions ≡ length (moved_on d t books).auctions
-      → r ≡ answered ev (book_of main') trades' auctions t
-      → clock_all_left r main' fixed' blocks' trades' ≡ clock_all_call d t books (trades_of lent)
+      → r ≡ answered ev main' trades' auctions t
+      → clock_all_left r main' fixed' blocks' trades' ≡ clock_all_call d t books lent
   unfolding clock_all_call answered
   move_accepted ev main' fixed' blocks' trades' {auctions} z s b a u =
       let h : After = moved_on d t books in
       let x : at t ev.day ≡ at t h.day = ap (at t) s.day in
-      let w : trades_of trades' ≡ written (move_trades h) (trades_of lent) = stage_written s in
+      let w : trades' ≡ written (move_trades h) lent = stage_written s in
       rw (u, first, eq-eqb n 0 z, x, stage_auctions s a, a, s.confirmed, s.fixed, s.void, s.lapsed, stage_made s, b, s.orders, s.held, w)
 
 -- ---- the answer, part by part
@@ -147,10 +139,10 @@ pub then_publishable : {then day : Day} → day ≡ then → Publishable then �
 then_publishable e p = rw e p
 
 pub answer_is :
-    (e : Evening) (book : List Order) (trades : Rows) (auctions time : ℕ) {then day : Day} {phase : ℕ}
+    (e : Evening) (book : List Order) (trades : List Trade) (auctions time : ℕ) {then day : Day} {phase : ℕ}
     → then ≡ at time e.day
     → phase ≡ phase_now then
-    → day ≡ update (trades_of (take auctions trades)) book then
+    → day ≡ update (take auctions trades) book then
     → record {
       reply =
           Moved

@@ -16,15 +16,17 @@ use Rattle.book.specs.Deals.{dealt}
 use Rattle.moves.specs.Stops.{passes}
 use Rattle.fixed_demands.proofs.Evenings.{due_done, due_left}
 use Rattle.evenings.specs.declared.Evening.{Evening}
-use Rattle.evenings.specs.Stage.{Rows, Stage, Threefold}
+use Rattle.evenings.specs.Stage.{Stage, Threefold}
 use Rattle.evenings.specs.Counts.{confirmed_ahead}
 use Rattle.evenings.proofs.Places.{passes_told, misses_told}
+use Rattle.model.specs.declared.Order.{Order}
+use Rattle.model.specs.declared.Trade.{Trade}
 
 module _ (c : ℕ) (f : After → After) (old new : ℕ) {b : Bool} (e : b ≡ passes c old new) where
   pub passed : not b ≡ false → passes c old new ≡ true
   passed n = sym e ∙ not-false b n
 
-  module _ {h : After} {lent : Rows} {ev : Evening} {line places trades : Rows} where
+  module _ {h : After} {lent : List Trade} {ev : Evening} {line : List Order} {places : List Declaration} {trades : List Trade} where
     pub not_due : not b ≡ true → Stage h lent ev line places trades → Stage (due c f old new h) lent ev line places trades
     not_due n s = rw (due_left c f old new h (misses_told c old new (sym e ∙ not-true b n))) s
 

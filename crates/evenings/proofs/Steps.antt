@@ -21,26 +21,24 @@ use Rattle.model.specs.AfterClose.{After, confirm_all, match_all, end_all}
 use Rattle.model.specs.AllCalls.{move_trades}
 use Rattle.book.specs.declared.Dealt.{Dealt}
 use Rattle.book.specs.Deals.{dealt}
-use Rattle.book.specs.Rows.{order_of, book_of, rows_of, declaration_of, held_of, held_rows, trades_of}
-use Rattle.book.proofs.Memory.{book_rows}
-use Rattle.declarations.proofs.Memory.{held_rows_lem}
 use Rattle.evenings.specs.declared.Evening.{Evening}
-use Rattle.evenings.specs.Stage.{Rows, Stage}
+use Rattle.evenings.specs.Stage.{Stage}
 use Rattle.evenings.proofs.Appending.{Behind}
+use Rattle.model.specs.declared.Declaration.{Declaration}
 
 -- past n places, and then past k more
-further : (n k : ℕ) (xs ys : Rows) → drop n xs ≡ drop n ys → drop (n + k) xs ≡ drop (n + k) ys
+further : (n k : ℕ) (xs ys : List Trade) → drop n xs ≡ drop n ys → drop (n + k) xs ≡ drop (n + k) ys
 further n k xs ys e =
     sym (drop-drop k n xs) ∙ ap (drop k) e ∙ drop-drop k n ys
 
-module _ (h : After) (lent : Rows) (e : Evening) (fixed blocks trades : Rows) (s : Stage h lent e fixed blocks trades) where
+module _ (h : After) (lent : List Trade) (e : Evening) (fixed : List Order) (blocks : List Declaration) (trades : List Trade) (s : Stage h lent e fixed blocks trades) where
   -- trades that were written behind those so far
-  module _ (ts : List Trade) {r : Dealt} {after : Rows} (f : r ≡ dealt ts) (w : Behind e.made ts trades after) where
+  module _ (ts : List Trade) {r : Dealt} {after : List Trade} (f : r ≡ dealt ts) (w : Behind e.made ts trades after) where
     many : r.made ≡ length ts
     unfolding dealt
     many = ap (λ (x : Dealt). x.made) f
 
-    list_then : trades_of (take (e.made + r.made) after) ≡ move_trades h ++ ts
+    list_then : (take (e.made + r.made) after) ≡ move_trades h ++ ts
     list_then = rw many (w.list ∙ ap (λ (l : List Trade). l ++ ts) s.list)
 
     past_then : drop (e.made + r.made) after ≡ drop (e.made + r.made) lent
@@ -51,27 +49,26 @@ module _ (h : After) (lent : Rows) (e : Evening) (fixed blocks trades : Rows) (s
 
   -- 15:00
   abbrev confirmed : List Trade
-  confirmed = confirmations (held_of blocks)
+  confirmed = confirmations blocks
 
   pub three :
-      {r : Dealt} {after blocks' : Rows} {day : Day}
+      {r : Dealt} {after : List Trade} {blocks' : List Declaration} {day : Day}
       → h.confirmed ≡ []
       → h.fixed ≡ []
       → r ≡ dealt confirmed
       → Behind e.made confirmed trades after
-      → held_of blocks' ≡ held_in (length blocks) (unnamed confirmed (held_of blocks))
+      → blocks' ≡ held_in (length blocks) (unnamed confirmed blocks)
       → day ≡ tally_blocks confirmed e.day
       → Stage (confirm_all h) lent
       (record { day = day; made = e.made + r.made; confirmed = r.made; fixed = e.fixed; void = e.void; lapsed = e.lapsed })
       fixed blocks' after
   unfolding confirm_all with_blocks move_trades
   three none nor f w left tallied =
-      let same : held_of blocks ≡ h.books.blocks = s.held in
-      let long : length blocks ≡ length h.books.blocks = sym (length-map blocks declaration_of) ∙ ap length same in
+      let same : blocks ≡ h.books.blocks = s.held in
       record {
         day = tallied ∙ rw (same, s.day);
         orders = s.orders;
-        held = left ∙ rw (same, long);
+        held = left ∙ rw same;
         confirmed = many confirmed f w ∙ rw (same, none);
         fixed = s.fixed;
         void = s.void;
@@ -84,31 +81,30 @@ module _ (h : After) (lent : Rows) (e : Evening) (fixed blocks trades : Rows) (s
   -- 15:05
   module _ (close : ℕ) where
     abbrev stay : List Order
-    stay = keep (λ o. not (is_void close o)) (book_of fixed)
+    stay = keep (λ o. not (is_void close o)) fixed
 
     abbrev matched : List Trade
     matched = matches close stay
 
     pub five_past_lem :
-        {r : Dealt} {after fixed' : Rows} {void : ℕ} {day : Day}
+        {r : Dealt} {after : List Trade} {fixed' : List Order} {void : ℕ} {day : Day}
         → close ≡ close_price e.day
         → h.fixed ≡ []
         → r ≡ dealt matched
         → Behind e.made matched trades after
-        → book_of fixed' ≡ lined (length fixed) (settle matched stay)
-        → void ≡ shares_of (is_void close) (book_of fixed)
+        → fixed' ≡ lined (length fixed) (settle matched stay)
+        → void ≡ shares_of (is_void close) fixed
         → day ≡ tally_fixed matched e.day
         → Stage (match_all h) lent
         (record { day = day; made = e.made + r.made; confirmed = e.confirmed; fixed = r.made; void = void; lapsed = e.lapsed })
         fixed' blocks after
     unfolding match_all with_fixed move_trades
     five_past_lem c nor f w left out tallied =
-        let same : book_of fixed ≡ h.books.fixed = s.orders in
-        let long : length fixed ≡ length h.books.fixed = sym (length-map fixed order_of) ∙ ap length same in
+        let same : fixed ≡ h.books.fixed = s.orders in
         let at : close ≡ close_price h.day = c ∙ ap close_price s.day in
         record {
           day = tallied ∙ rw (at, same, s.day);
-          orders = left ∙ rw (at, same, long);
+          orders = left ∙ rw (at, same);
           held = s.held;
           confirmed = s.confirmed;
           fixed = many matched f w ∙ rw (at, same, nor);
@@ -121,10 +117,10 @@ module _ (h : After) (lent : Rows) (e : Evening) (fixed blocks trades : Rows) (s
 
   -- 15:30
   pub end :
-      {lapsed : ℕ} {fixed' blocks' : Rows}
-      → lapsed ≡ total (λ o. o.left) (book_of fixed)
-      → fixed' ≡ rows_of (cleared (book_of fixed))
-      → blocks' ≡ held_rows (none_held (held_of blocks))
+      {lapsed : ℕ} {fixed' : List Order} {blocks' : List Declaration}
+      → lapsed ≡ total (λ o. o.left) fixed
+      → fixed' ≡ (cleared fixed)
+      → blocks' ≡ (none_held blocks)
       → Stage (end_all h) lent
       (record { day = e.day; made = e.made; confirmed = e.confirmed; fixed = e.fixed; void = e.void; lapsed = lapsed })
       fixed' blocks' trades
@@ -132,8 +128,8 @@ module _ (h : After) (lent : Rows) (e : Evening) (fixed blocks trades : Rows) (s
   end out gone none =
       record {
         day = s.day;
-        orders = ap book_of gone ∙ book_rows (cleared (book_of fixed)) ∙ ap cleared s.orders;
-        held = ap held_of none ∙ held_rows_lem (none_held (held_of blocks)) ∙ ap none_held s.held;
+        orders = gone ∙ ap cleared s.orders;
+        held = none ∙ ap none_held s.held;
         confirmed = s.confirmed;
         fixed = s.fixed;
         void = s.void;

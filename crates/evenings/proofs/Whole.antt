@@ -19,7 +19,7 @@ use Rattle.model.specs.ClockCall.{Held, start, moved}
 use Rattle.model.specs.AfterClose.{After, confirm_all, match_all, end_all}
 use Rattle.model.specs.AllCalls.{start_after, moved_on, move_trades}
 use Rattle.model.proofs.Evening.{due, by_stops}
-use Rattle.book.specs.Rows.{book_of, held_of, trades_of, books_of}
+use Rattle.book.specs.Books.{books_of}
 use Rattle.book.specs.Standing.{Ranked}
 use Rattle.figures.specs.Figures.{Publishable}
 use Rattle.soundness.specs.SoundDay.{EveningDay}
@@ -41,11 +41,12 @@ use Rattle.moves.proofs.ClockLaws.{reached_made}
 use Rattle.foreseen.proofs.Closes.{moved_close}
 use Rattle.evenings.specs.declared.Evening.{Evening}
 use Rattle.evenings.specs.Counts.{confirmed_ahead, matched_ahead}
-use Rattle.evenings.specs.Stage.{Rows, Stage, Unconfirmed, Spacious, Movable}
+use Rattle.evenings.specs.Stage.{Stage, Unconfirmed, Spacious, Movable}
 use Rattle.evenings.proofs.Bounds.{confirmed_shares}
 use Rattle.evenings.proofs.Places.{passes_told, misses_told, counted}
+use Rattle.model.specs.declared.Trade.{Trade}
 
-module _ (d : Day) (t : ℕ) (main fixed blocks lent : Rows) (m : Movable d (book_of main) (book_of fixed) (held_of blocks) t) where
+module _ (d : Day) (t : ℕ) (main fixed : List Order) (blocks : List Declaration) (lent : List Trade) (m : Movable d main fixed blocks t) where
   abbrev s : Books
   s = books_of main fixed blocks
 
@@ -53,18 +54,18 @@ module _ (d : Day) (t : ℕ) (main fixed blocks lent : Rows) (m : Movable d (boo
   h = moved_on d t s
 
   abbrev k : Held
-  k = moved d t (book_of main)
+  k = moved d t main
 
   v : EveningDay d
   v = m.ready.evening
 
   moved_underway : Underway k
   unfolding moved
-  moved_underway = through_underway (passed d.time t) (start d (book_of main)) (start_underway d (book_of main) m.ready)
+  moved_underway = through_underway (passed d.time t) (start d main) (start_underway d main m.ready)
 
   close_then : close_price k.day ≤ 999_999
   close_then =
-      moved_close d t (book_of main) m.ready.ranked m.onward (unfold close_price in close_small d (book_of main) m.ready.sound)
+      moved_close d t main m.ready.ranked m.onward (unfold close_price in close_small d main m.ready.sound)
 
   -- the main book's trades are among those of the whole move
   pub main_fits : {n : ℕ} → length (move_trades h) ≤ n → length k.trades ≤ n
@@ -72,7 +73,7 @@ module _ (d : Day) (t : ℕ) (main fixed blocks lent : Rows) (m : Movable d (boo
 
   -- ---- where the main book's move leaves it
 
-  module _ {p : Passage} {main' trades' : Rows} (r : Reached k lent p main' trades') where
+  module _ {p : Passage} {main' : List Order} {trades' : List Trade} (r : Reached k lent p main' trades') where
     abbrev begun : Evening
     begun = record { day = p.day; made = p.made; confirmed = 0; fixed = 0; void = 0; lapsed = 0 }
 
@@ -97,8 +98,8 @@ module _ (d : Day) (t : ℕ) (main fixed blocks lent : Rows) (m : Movable d (boo
 
     pub begun_spacious : (p.day.blocks.shares ≤ 50_000_000_000_000) × Spacious p.day
     begun_spacious =
-        let o : OthersStay d k.day = moved_others d t (book_of main) in
-        let q : d.fixed.money ≤ 999_999 * d.fixed.shares = fixed_paid d (book_of main) m.ready.sound v in
+        let o : OthersStay d k.day = moved_others d t main in
+        let q : d.fixed.money ≤ 999_999 * d.fixed.shares = fixed_paid d main m.ready.sound v in
         rw (day_is, o.blocks) (
           omega (arith, v.blocks_shares, v.blocks_issued),
           record {
@@ -111,13 +112,13 @@ module _ (d : Day) (t : ℕ) (main fixed blocks lent : Rows) (m : Movable d (boo
     pub begun_room :
         length trades' ≡ length lent
         → length (move_trades h) ≤ length lent
-        → p.made + confirmed_ahead d.time t (held_of blocks) + matched_ahead (close_price p.day) d.time t (book_of fixed) ≤ length trades'
+        → p.made + confirmed_ahead d.time t blocks + matched_ahead (close_price p.day) d.time t fixed ≤ length trades'
     begun_room e f = rw (reached_made r, day_is) (omega (arith, counted d t s m.onward, e, f))
 
-    pub main_then : book_of main' ≡ h.books.main
+    pub main_then : main' ≡ h.books.main
     main_then = ap (λ (x : Held). x.book) r.state ∙ sym (main_part d t s).book
 
-    pub main_ranked : Ranked (book_of main')
+    pub main_ranked : Ranked main'
     main_ranked = rw (ap (λ (x : Held). x.book) r.state) moved_underway.ranked
 
     pub auctions_are : p.made ≡ length h.auctions
@@ -130,7 +131,7 @@ module _ (d : Day) (t : ℕ) (main fixed blocks lent : Rows) (m : Movable d (boo
   -- ---- where what is due after the close leaves it
 
   pub done_stage :
-      {e : Evening} {fixed' blocks' trades' : Rows}
+      {e : Evening} {fixed' : List Order} {blocks' : List Declaration} {trades' : List Trade}
       → Stage (due 55_800 end_all d.time t (due 54_300 match_all d.time t (due 54_000 confirm_all d.time t (start_after k s)))) lent e fixed' blocks' trades'
       → Stage h lent e fixed' blocks' trades'
   unfolding moved_on day_end matching_from confirming_from
@@ -145,7 +146,7 @@ module _ (d : Day) (t : ℕ) (main fixed blocks lent : Rows) (m : Movable d (boo
       go : (b : Bool) → passes 54_000 d.time t ≡ b → h.day.blocks.shares ≤ 50_409_600_000_000
       go true e =
           rw ((evening d t s m.onward).confirmed (passes_told 54_000 d.time t e)).figures
-          (omega (arith, confirmed_shares (held_of blocks) m.declared, v.blocks_shares, v.blocks_issued))
+          (omega (arith, confirmed_shares blocks m.declared, v.blocks_shares, v.blocks_issued))
       go false e =
           rw ((evening d t s m.onward).unconfirmed (misses_told 54_000 d.time t e)).figures
           (omega (arith, v.blocks_shares, v.blocks_issued))
@@ -155,12 +156,12 @@ module _ (d : Day) (t : ℕ) (main fixed blocks lent : Rows) (m : Movable d (boo
   fixed_then = go (passes 54_300 d.time t) refl
     where
       q : d.fixed.money ≤ 999_999 * d.fixed.shares
-      q = fixed_paid d (book_of main) m.ready.sound v
+      q = fixed_paid d main m.ready.sound v
 
       sold : ℕ
-      sold = filled (matched_trades (close_price k.day) (book_of fixed))
+      sold = filled (matched_trades (close_price k.day) fixed)
 
-      paid : money (matched_trades (close_price k.day) (book_of fixed)) ≤ 999_999 * sold
+      paid : money (matched_trades (close_price k.day) fixed) ≤ 999_999 * sold
       paid = rw (matched_money (close_price k.day) _) (mul-le-mul_right sold close_then)
 
       go :
@@ -168,14 +169,14 @@ module _ (d : Day) (t : ℕ) (main fixed blocks lent : Rows) (m : Movable d (boo
           → passes 54_300 d.time t ≡ b
           → (h.day.fixed.shares ≤ 504_096_000_000) × (h.day.fixed.money ≤ 999_999 * 504_096_000_000)
       go true e =
-          let c : sold ≤ 4_096_000_000 = closing_shares (close_price k.day) (book_of fixed) m.lined in
+          let c : sold ≤ 4_096_000_000 = closing_shares (close_price k.day) fixed m.lined in
           rw ((evening d t s m.onward).matched (passes_told 54_300 d.time t e)).figures
           (omega (arith, c, v.fixed_shares, v.fixed_issued), omega (arith, c, q, paid, v.fixed_shares, v.fixed_issued))
       go false e =
           rw ((evening d t s m.onward).unmatched (misses_told 54_300 d.time t e)).figures
           (omega (arith, v.fixed_shares, v.fixed_issued), omega (arith, q, v.fixed_shares, v.fixed_issued))
 
-  pub done_publishable : {e : Evening} {fixed' blocks' trades' : Rows} → Stage h lent e fixed' blocks' trades' → Publishable (at t e.day)
+  pub done_publishable : {e : Evening} {fixed' : List Order} {blocks' : List Declaration} {trades' : List Trade} → Stage h lent e fixed' blocks' trades' → Publishable (at t e.day)
   unfolding at with_fixed_figures with_block_figures
   done_publishable x =
       let u = moved_underway in

@@ -10,27 +10,23 @@ use Rattle.model.specs.Halts.{phase_now}
 use Rattle.model.specs.Screen.{update}
 use Rattle.model.specs.AfterClose.{After}
 use Rattle.model.specs.AllCalls.{move_trades}
-use Rattle.book.specs.Rows.{book_of, held_of, trades_of}
 use Rattle.soundness.specs.Ready.{Ready}
 use Rattle.declarations.specs.Declared.{Declared}
 use Rattle.fixed_book.specs.Ready.{Lined}
 use Rattle.evenings.specs.declared.Evening.{Evening}
 use Rattle.evenings.specs.Counts.{confirmed_ahead}
-
--- the rows of a list
-abbrev pub Rows : Type 0
-Rows = List (List ℕ)
+use Rattle.model.specs.declared.Trade.{Trade}
 
 -- the state h stands in memory, and past its trades the lent list is as it was
-pub record Stage (h : After) (lent : Rows) (e : Evening) (line places trades : Rows) : Type 0 where
+pub record Stage (h : After) (lent : List Trade) (e : Evening) (line : List Order) (places : List Declaration) (trades : List Trade) : Type 0 where
   pub day : e.day ≡ h.day
-  pub orders : book_of line ≡ h.books.fixed
-  pub held : held_of places ≡ h.books.blocks
+  pub orders : line ≡ h.books.fixed
+  pub held : places ≡ h.books.blocks
   pub confirmed : e.confirmed ≡ length h.confirmed
   pub fixed : e.fixed ≡ length h.fixed
   pub void : e.void ≡ h.void
   pub lapsed : e.lapsed ≡ h.lapsed
-  pub list : trades_of (take e.made trades) ≡ move_trades h
+  pub list : (take e.made trades) ≡ move_trades h
   pub within : e.made ≤ length trades
   pub past : drop e.made trades ≡ drop e.made lent
 
@@ -64,7 +60,7 @@ pub record Movable (d : Day) (main line : List Order) (held : List Declaration) 
   pub time : t ≤ 86_399
 
 -- the answer of a move: the first of its trades are those of the main book
-unfoldable pub answered : Evening → List Order → Rows → ℕ → ℕ → MoveAnswer
+unfoldable pub answered : Evening → List Order → List Trade → ℕ → ℕ → MoveAnswer
 answered e book trades auctions time =
     record {
       reply =
@@ -78,5 +74,5 @@ answered e book trades auctions time =
             lapsed = e.lapsed;
           });
       made = e.made;
-      day = update (trades_of (take auctions trades)) book (at time e.day);
+      day = update (take auctions trades) book (at time e.day);
     }

@@ -12,12 +12,12 @@ use borrow.Author.Tests.{eq-eqb, ne_eqb, eqb-true}
 use Rattle.model.specs.declared.Trade.{Trade}
 use Rattle.model.specs.declared.Day.{Day}
 use Rattle.model.specs.Lists.{total}
-use Rattle.model.specs.Matching.{filled, first_price, last_price}
+use Rattle.model.specs.Matching.{filled, first_price, last_price, no_trade}
 use Rattle.model.specs.Figures.{money, tally}
-use Rattle.book.specs.Rows.{trade_of, trades_of}
 use Rattle.book.proofs.Memory.{trades_from}
 use Rattle.figures.specs.declared.Totals.{Totals}
 use Rattle.figures.specs.Figures.{totals}
+use Rattle.model.specs.declared.Order.{Order}
 
 -- ---- sums
 
@@ -56,12 +56,12 @@ module _ (ts rest : List Trade) (t : Trade) (sold paid : ℕ) (a : Adding ts (t 
   adding_fits = (omega (arith, shares_more), omega (arith, cash_more))
 
 -- the trades from place i on begin with the one there
-module _ (rows : List (List ℕ)) (n i : ℕ) (h : i < n) (l : n ≤ length rows) where
+module _ (rows : List Trade) (n i : ℕ) (h : i < n) (l : n ≤ length rows) where
   pub adding_at :
       (t : Trade) (sold paid : ℕ)
-      → t ≡ trade_of (get_or rows i [])
-      → Adding (trades_of (take n rows)) (trades_of (drop i (take n rows))) sold paid
-      → Adding (trades_of (take n rows)) (t ∷ trades_of (drop (i + 1) (take n rows))) sold paid
+      → t ≡ get_or rows i no_trade
+      → Adding (take n rows) (drop i (take n rows)) sold paid
+      → Adding (take n rows) (t ∷ (drop (i + 1) (take n rows))) sold paid
   adding_at t sold paid e a = rw e (rw (trades_from rows n i h l) at a)
 
 pub shares_fit_lem : (ts : List Trade) (sum : Totals) → sum ≡ totals ts → sum.shares ≡ filled ts
@@ -74,11 +74,11 @@ money_fit ts sum e = rw e
 
 -- past the last place nothing is to come
 pub adding_over :
-    (rows : List (List ℕ)) (n i sold paid : ℕ)
+    (rows : List Trade) (n i sold paid : ℕ)
     → n ≤ i
     → n ≤ length rows
-    → Adding (trades_of (take n rows)) (trades_of (drop i (take n rows))) sold paid
-    → record { shares = sold; money = paid } ≡ totals (trades_of (take n rows))
+    → Adding (take n rows) (drop i (take n rows)) sold paid
+    → record { shares = sold; money = paid } ≡ totals (take n rows)
 adding_over rows n i sold paid h l a =
     let k : length (take n rows) ≤ i = rw (length-take-le n rows l) h in
     adding_end _ sold paid (rw (drop_of_length-le (take n rows) k) at a)
@@ -128,43 +128,43 @@ tally_none d =
     cc in
     r
 
-pub tally_zero : (d : Day) (rows : List (List ℕ)) (n : ℕ) → n ≡ 0 → d ≡ tally (trades_of (take n rows)) d
+pub tally_zero : (d : Day) (rows : List Trade) (n : ℕ) → n ≡ 0 → d ≡ tally (take n rows) d
 tally_zero d rows n e = rw e (tally_none d)
 
 -- the first and the last of n trades
-pub first_of_lem : (rows : List (List ℕ)) (m : ℕ) → m < length rows → first_price 0 (trades_of (take (suc m) rows)) ≡ (trade_of (get_or rows 0 [])).price
+pub first_of_lem : (rows : List Trade) (m : ℕ) → m < length rows → first_price 0 (take (suc m) rows) ≡ (get_or rows 0 no_trade).price
 unfolding first_price
 first_of_lem [] m h = absurd (not-suc-le-zero h)
 first_of_lem (r ∷ rs) m h = refl
 
-last_of : (p : ℕ) (rows : List (List ℕ)) (m : ℕ) → m < length rows → last_price p (trades_of (take (suc m) rows)) ≡ (trade_of (get_or rows m [])).price
+last_of : (p : ℕ) (rows : List Trade) (m : ℕ) → m < length rows → last_price p (take (suc m) rows) ≡ (get_or rows m no_trade).price
 unfolding last_price
 last_of p [] m h = absurd (not-suc-le-zero h)
 last_of p (r ∷ rs) zero h = refl
-last_of p (r ∷ rs) (suc m) h = last_of (trade_of r).price rs m (le_of_suc-le-suc h)
+last_of p (r ∷ rs) (suc m) h = last_of r.price rs m (le_of_suc-le-suc h)
 
 -- the figures with n trades added, from their totals and the prices of the first and the last
-module _ (d : Day) (rows : List (List ℕ)) (n m : ℕ) (e : n ≡ suc m) (h : m < length rows) where
+module _ (d : Day) (rows : List Trade) (n m : ℕ) (e : n ≡ suc m) (h : m < length rows) where
   abbrev added : ℕ → Totals → ℕ → Day
   added first sum last = with d (d.shares + sum.shares) (d.turnover + sum.money) first last
 
   module _ (sum : Totals) (first last : Trade)
-      (s : sum ≡ totals (trades_of (take n rows)))
-      (f : first ≡ trade_of (get_or rows 0 []))
-      (l : last ≡ trade_of (get_or rows m [])) where
-    last_price_lem : last.price ≡ last_price d.last (trades_of (take n rows))
+      (s : sum ≡ totals (take n rows))
+      (f : first ≡ get_or rows 0 no_trade)
+      (l : last ≡ get_or rows m no_trade) where
+    last_price_lem : last.price ≡ last_price d.last (take n rows)
     last_price_lem = rw (l, e) (sym (last_of d.last rows m h))
 
-    pub tally_first : d.first ≡ 0 → added first.price sum last.price ≡ tally (trades_of (take n rows)) d
+    pub tally_first : d.first ≡ 0 → added first.price sum last.price ≡ tally (take n rows) d
     unfolding tally totals
     tally_first z =
-        let p : first.price ≡ cond (eqb d.first 0) (first_price 0 (trades_of (take n rows))) d.first =
+        let p : first.price ≡ cond (eqb d.first 0) (first_price 0 (take n rows)) d.first =
         rw (eq-eqb d.first 0 z, f, e) (sym (first_of_lem rows m h)) in
         cc last_price_lem
 
-    pub tally_later : (d.first ≡ 0 → ⊥) → added d.first sum last.price ≡ tally (trades_of (take n rows)) d
+    pub tally_later : (d.first ≡ 0 → ⊥) → added d.first sum last.price ≡ tally (take n rows) d
     unfolding tally totals
     tally_later z =
-        let p : d.first ≡ cond (eqb d.first 0) (first_price 0 (trades_of (take n rows))) d.first =
+        let p : d.first ≡ cond (eqb d.first 0) (first_price 0 (take n rows)) d.first =
         first_kept d.first _ z in
         cc last_price_lem

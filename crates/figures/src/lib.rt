@@ -4,11 +4,10 @@
 ghost use Rattle.std.specs.Prelude.{◌≡◌, ◌+◌, ◌^◌, ◌≤◌, ◌<◌, length, take};
 ghost use Rattle.model.specs.Matching.{filled};
 ghost use Rattle.model.specs.Figures.{no_levels, no_screen, fresh_day, at, issue, money, tally, reference};
-ghost use Rattle.book.specs.Rows.{trades_of};
 ghost use Rattle.figures.specs.Figures.{totals, Publishable, published};
 
 use book::trade_at;
-use model::{Blocks, DAY_END, Day, Fixed, Level, Levels, Screen};
+use model::{Blocks, DAY_END, Day, Fixed, Level, Levels, Screen, Trade};
 
 // Shares and money: what a run of trades adds to the day's figures, and what is published of a day.
 #[derive(Clone, Copy)]
@@ -126,11 +125,11 @@ pub fn published(day: Day) -> Totals
 }
 
 // Shares and money of the first n trades of the list.
-fn totals_of(trades: &[[u64; 6]], n: usize) -> Totals
+fn totals_of(trades: &[Trade], n: usize) -> Totals
     requires n_in_bounds { n ≤ length trades.now }
-    requires trades_bound { filled (trades_of (take n trades.now)) < 2 ^ 64 }
-    requires trades_bound_2 { money (trades_of (take n trades.now)) < 2 ^ 64 }
-    ensures { result ≡ totals (trades_of (take n trades.now)) }
+    requires trades_bound { filled (take n trades.now) < 2 ^ 64 }
+    requires trades_bound_2 { money (take n trades.now) < 2 ^ 64 }
+    ensures { result ≡ totals (take n trades.now) }
 {
     let mut shares: u64 = 0;
     let mut money: u64 = 0;
@@ -145,11 +144,11 @@ fn totals_of(trades: &[[u64; 6]], n: usize) -> Totals
 }
 
 // The figures with the first n trades of the list added.
-pub fn tally_trades(day: Day, trades: &[[u64; 6]], n: usize) -> Day
+pub fn tally_trades(day: Day, trades: &[Trade], n: usize) -> Day
     requires n_in_bounds { n ≤ length trades.now }
-    requires trades_bound { day.shares + filled (trades_of (take n trades.now)) < 2 ^ 64 }
-    requires trades_bound_2 { day.turnover + money (trades_of (take n trades.now)) < 2 ^ 64 }
-    ensures { result ≡ tally (trades_of (take n trades.now)) day }
+    requires trades_bound { day.shares + filled (take n trades.now) < 2 ^ 64 }
+    requires trades_bound_2 { day.turnover + money (take n trades.now) < 2 ^ 64 }
+    ensures { result ≡ tally (take n trades.now) day }
 {
     if n == 0 {
         return day;

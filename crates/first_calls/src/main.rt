@@ -5,6 +5,7 @@
 ghost use Rattle.std.specs.Prelude.{◌≡◌};
 ghost use Rattle.first_calls.specs.Refusal.{open_refusal};
 
+use book::places::free_place;
 use model::OpenReply;
 
 fn open_refusal(r: OpenReply) -> u64
@@ -17,7 +18,7 @@ fn open_refusal(r: OpenReply) -> u64
 }
 
 fn main() {
-    let mut rows = [[0u64; 5]; 2];
+    let mut rows = [free_place(); 2];
     let opened = day::opening::open_call(&mut rows, 0, 1);
     let refused = open_refusal(opened) == 14;
     prove!(refused);

@@ -13,8 +13,6 @@ use Rattle.model.specs.Lists.{keep}
 use Rattle.model.specs.Book.{free, is_live}
 use Rattle.model.specs.FixedBook.{lined}
 use Rattle.model.proofs.Bools.{not_both}
-use Rattle.book.specs.Rows.{order_of, row_of, book_of}
-use Rattle.book.proofs.Memory.{book_at, book_set}
 use Rattle.book.proofs.Lists.{keep_append, keep_true, keep_false, length_keep, each_at}
 use Rattle.book.proofs.Kept.{free_number}
 use Rattle.book.proofs.Counting.{not_live}
@@ -36,20 +34,20 @@ module _ (from to : ℕ) (book : List Order) where
       }
 
 pub goes_up :
-    (from to : ℕ) (rows : List (List ℕ)) {o p : Order} {rows₁ rows₂ : List (List ℕ)}
-    → o ≡ order_of (get_or rows from [])
+    (from to : ℕ) (rows : List Order) {o p : Order} {rows₁ rows₂ : List Order}
+    → o ≡ get_or rows from free
     → is_live o ≡ true
     → p ≡ free
-    → rows₁ ≡ set rows from (row_of p)
-    → rows₂ ≡ set rows₁ to (row_of o)
-    → BroughtUp from to (book_of rows) (book_of rows₂) (to + 1)
+    → rows₁ ≡ set rows from p
+    → rows₂ ≡ set rows₁ to o
+    → BroughtUp from to rows rows₂ (to + 1)
 goes_up from to rows {o} {p} {rows₁} {rows₂} e f g h k =
-    let it : o ≡ get_or (book_of rows) from free = e ∙ book_at rows from in
-    let book₂ : book_of rows₂ ≡ set (set (book_of rows) from p) to o =
-    ap book_of k ∙ book_set rows₁ to o ∙ ap (λ (l : List Order). set l to o) (ap book_of h ∙ book_set rows from p)
+    let it : o ≡ get_or rows from free = e in
+    let book₂ : rows₂ ≡ set (set rows from p) to o =
+    k ∙ ap (λ (l : List Order). set l to o) (h)
     in
     record {
-      live = λ _. (book₂ ∙ ap (λ (x : Order). set (set (book_of rows) from x) to o) g ∙ ap (set (set (book_of rows) from free) to) it, refl);
+      live = λ _. (book₂ ∙ ap (λ (x : Order). set (set rows from x) to o) g ∙ ap (set (set rows from free) to) it, refl);
       none = λ z. absurd (not_both f (rw it z));
     }
 

@@ -11,10 +11,8 @@ use Rattle.model.specs.declared.Order.{Order}
 use Rattle.model.specs.Lists.{keep, all}
 use Rattle.model.specs.Book.{free, is_live}
 use Rattle.model.specs.Arrival.{is_taken}
-use Rattle.book.specs.Rows.{order_of, book_of}
 use Rattle.book.proofs.Lists.{length_keep}
 use Rattle.book.proofs.Kept.{free_number}
-use Rattle.book.proofs.Memory.{book_at}
 use Rattle.book.proofs.Queues.{live_number}
 use Rattle.book.proofs.Counting.{not_live}
 use Rattle.arrivals.proofs.Lines.{in_line, taken_before, before_taken, all_taken}
@@ -36,24 +34,24 @@ module _ (book : List Order) (l : Lined book) where
   pub before_live : (i : ℕ) → i < length (keep is_live book) → (get_or book i free).number ≡ 0 → ⊥
   before_live i h = before_taken number free free_number book (in_line number book l.arrived) i (rw (live_taken book) at h)
 
-module _ (rows : List (List ℕ)) (l : Lined (book_of rows)) where
+module _ (rows : List Order) (l : Lined rows) where
   -- so many orders at least
   abbrev pub Counted : ℕ → Type 0
-  Counted i = i ≤ length (keep is_live (book_of rows))
+  Counted i = i ≤ length (keep is_live rows)
 
-  module _ (i : ℕ) {o : Order} (e : o ≡ order_of (get_or rows i [])) where
-    it : get_or (book_of rows) i free ≡ o
-    it = sym (e ∙ book_at rows i)
+  module _ (i : ℕ) {o : Order} (e : o ≡ get_or rows i free) where
+    it : get_or rows i free ≡ o
+    it = sym (e)
 
     pub counted_next : is_live o ≡ true → Counted (i + 1)
     counted_next t =
-        omega (arith, live_before (book_of rows) l i (λ z. live_number o t (sym (ap number it) ∙ z)))
+        omega (arith, live_before rows l i (λ z. live_number o t (sym (ap number it) ∙ z)))
 
-    pub counted_free : Counted i → is_live o ≡ false → i ≡ length (keep is_live (book_of rows))
-    counted_free w f = elim (dec_lt i (length (keep is_live (book_of rows)))) [
-      | yes h ↦ absurd (before_live (book_of rows) l i h (ap number it ∙ not_live o f))
+    pub counted_free : Counted i → is_live o ≡ false → i ≡ length (keep is_live rows)
+    counted_free w f = elim (dec_lt i (length (keep is_live rows))) [
+      | yes h ↦ absurd (before_live rows l i h (ap number it ∙ not_live o f))
       | no h ↦ omega arith
     ]
 
-  pub counted_all : {i : ℕ} → Counted i → length rows ≤ i → i ≡ length (keep is_live (book_of rows))
-  counted_all w h = omega (arith, length_keep is_live (book_of rows), length-map rows order_of)
+  pub counted_all : {i : ℕ} → Counted i → length rows ≤ i → i ≡ length (keep is_live rows)
+  counted_all w h = omega (arith, length_keep is_live rows)

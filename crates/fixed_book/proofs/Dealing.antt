@@ -16,7 +16,6 @@ use Rattle.model.specs.Matching.{filled}
 use Rattle.model.specs.Pairing.{Share, head_less}
 use Rattle.model.specs.FixedBook.{is_void, matches}
 use Rattle.book.specs.declared.Head.{Head}
-use Rattle.book.specs.Rows.{trade_row, trade_rows}
 use Rattle.book.specs.Deals.{dealt}
 use Rattle.book.specs.Writing.{fitted}
 use Rattle.book.proofs.Settlements.{filled_nil, filled_more}
@@ -41,10 +40,10 @@ module _ (close : ℕ) (book : List Order) where
   abbrev coming : Head → Head → List Trade
   coming buy sell = pairs close (headed close 0 buy book) (headed close 1 sell book)
 
-  pub record Underway (lent : List (List ℕ)) (buy sell : Head) (quantity made shares : ℕ) (out : List (List ℕ)) : Type 0 where
+  pub record Underway (lent : List Trade) (buy sell : Head) (quantity made shares : ℕ) (out : List Trade) : Type 0 where
     pub count : made + length (coming buy sell) ≡ length all
     pub sum : shares + filled (coming buy sell) ≡ filled all
-    pub same : sets out made (trade_rows (coming buy sell)) ≡ sets lent 0 (trade_rows all)
+    pub same : sets out made (coming buy sell) ≡ sets lent 0 all
     pub buying : 0 < buy.left → buy.at < length book
     pub selling : 0 < sell.left → sell.at < length book
     pub least : quantity ≡ min buy.left sell.left
@@ -54,7 +53,7 @@ module _ (close : ℕ) (book : List Order) where
   abbrev pub waiting : Head → Head → ℕ
   waiting buy sell = length (headed close 0 buy book) + length (headed close 1 sell book)
 
-  module _ (lent : List (List ℕ)) where
+  module _ (lent : List Trade) where
     pub underway_start :
         {buy sell : Head} {quantity : ℕ}
         → HeadOf close 0 book (shares_from close 0 0 book) buy
@@ -66,14 +65,14 @@ module _ (close : ℕ) (book : List Order) where
         record {
           count = rw e (omega arith);
           sum = rw e (omega arith);
-          same = ap (λ (ts : List Trade). sets lent 0 (trade_rows ts)) e;
+          same = ap (λ (ts : List Trade). sets lent 0 ts) e;
           buying = hb.inside;
           selling = hs.inside;
           least = hq;
           long = refl;
         }
 
-    module _ {buy sell : Head} {quantity made shares : ℕ} {out : List (List ℕ)} (k : Underway lent buy sell quantity made shares out) (some : 0 < quantity) where
+    module _ {buy sell : Head} {quantity made shares : ℕ} {out : List Trade} (k : Underway lent buy sell quantity made shares out) (some : 0 < quantity) where
       pub buy_inside : buy.at < length book
       buy_inside = k.buying (omega (arith, k.least))
 
@@ -139,8 +138,8 @@ module _ (close : ℕ) (book : List Order) where
               )
 
           pub underway_next :
-              {out' : List (List ℕ)} {quantity' : ℕ}
-              → out' ≡ set out made (trade_row t)
+              {out' : List Trade} {quantity' : ℕ}
+              → out' ≡ set out made t
               → quantity' ≡ min b.left s.left
               → Underway lent b s quantity' (made + 1) (shares + quantity) out'
           underway_next {out'} {quantity'} ho hq =
@@ -148,11 +147,11 @@ module _ (close : ℕ) (book : List Order) where
               (record {
                 count = omega (arith, ap length next, k.count);
                 sum = omega (arith, ap filled next, filled_more t (coming b s), dealt_shares, k.sum);
-                same = rw (add-one made) (sym (ap (λ (ts : List Trade). sets out made (trade_rows ts)) next) ∙ k.same);
+                same = rw (add-one made) (sym (ap (λ (ts : List Trade). sets out made ts) next) ∙ k.same);
                 buying = hb.inside;
                 selling = hs.inside;
                 least = hq;
-                long = length-set out made (trade_row t) ∙ k.long;
+                long = length-set out made t ∙ k.long;
               })
 
     nothing_comes : (buy sell : Head) → min buy.left sell.left ≡ 0 → coming buy sell ≡ []
@@ -164,15 +163,15 @@ module _ (close : ℕ) (book : List Order) where
     ]
 
     pub underway_end :
-        {buy sell : Head} {quantity made shares : ℕ} {out : List (List ℕ)}
+        {buy sell : Head} {quantity made shares : ℕ} {out : List Trade}
         → Underway lent buy sell quantity made shares out
         → quantity ≤ 0
-        → (record { made = made; shares = shares } ≡ dealt all) × (out ≡ fitted (trade_rows all) lent)
+        → (record { made = made; shares = shares } ≡ dealt all) × (out ≡ fitted all lent)
     unfolding dealt
     underway_end {buy} {sell} {quantity} {made} {shares} {out} k h =
         let e : coming buy sell ≡ [] = nothing_comes buy sell (omega (arith, k.least)) in
         let m : made ≡ length all = omega (arith, ap length e, k.count) in
         let s : shares ≡ filled all = omega (arith, ap filled e, filled_nil, k.sum) in (
           rw (m, s),
-          sym (ap (λ (ts : List Trade). sets out made (trade_rows ts)) e) ∙ k.same ∙ sets_fitted (trade_rows all) lent,
+          sym (ap (λ (ts : List Trade). sets out made ts) e) ∙ k.same ∙ sets_fitted all lent,
         )

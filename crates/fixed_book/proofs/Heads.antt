@@ -16,10 +16,8 @@ use Rattle.model.specs.FixedBook.{is_void}
 use Rattle.model.specs.Words.{Each}
 use Rattle.model.proofs.Bools.{and_right}
 use Rattle.book.specs.declared.Head.{Head}
-use Rattle.book.specs.Rows.{order_of, book_of}
 use Rattle.book.specs.Standing.{Fair}
 use Rattle.book.proofs.Lists.{keep_true, keep_false, each_at}
-use Rattle.book.proofs.Memory.{book_at}
 use Rattle.book.proofs.Queues.{on_live}
 use Rattle.pairing.specs.Dealing.{dealt}
 use Rattle.pairing.proofs.Turns.{head_stays, head_goes}
@@ -94,20 +92,20 @@ module _ (close side : ℕ) (book : List Order) where
 -- ---- the walk
 
 -- nobody from the first place up to this one may trade
-pub record Sought (close side : ℕ) (rows : List (List ℕ)) (from at : ℕ) : Type 0 where
-  pub same : shares_from close side at (book_of rows) ≡ shares_from close side from (book_of rows)
+pub record Sought (close side : ℕ) (rows : List Order) (from at : ℕ) : Type 0 where
+  pub same : shares_from close side at rows ≡ shares_from close side from rows
   pub within : at ≤ length rows
 
-pub sought_none : (close side : ℕ) (rows : List (List ℕ)) (from : ℕ) → from ≤ length rows → Sought close side rows from from
+pub sought_none : (close side : ℕ) (rows : List Order) (from : ℕ) → from ≤ length rows → Sought close side rows from from
 sought_none close side rows from h = record { same = refl; within = h }
 
-module _ (close side : ℕ) (rows : List (List ℕ)) {from at : ℕ} (w : Sought close side rows from at) where
-  module _ {o : Order} (inside : at < length rows) (e : o ≡ order_of (get_or rows at [])) where
-    here : drop at (book_of rows) ≡ o ∷ drop (at + 1) (book_of rows)
+module _ (close side : ℕ) (rows : List Order) {from at : ℕ} (w : Sought close side rows from at) where
+  module _ {o : Order} (inside : at < length rows) (e : o ≡ get_or rows at free) where
+    here : drop at rows ≡ o ∷ drop (at + 1) rows
     here =
-        drop-cons (book_of rows) at free (omega (arith, length-map rows order_of))
-        ∙ ap (λ (x : Order). x ∷ drop (suc at) (book_of rows)) (sym (e ∙ book_at rows at))
-        ∙ ap (λ n. o ∷ drop n (book_of rows)) (sym (add-one at))
+        drop-cons rows at free (omega arith)
+        ∙ ap (λ (x : Order). x ∷ drop (suc at) rows) (sym (e))
+        ∙ ap (λ n. o ∷ drop n rows) (sym (add-one at))
 
     pub sought_next : may_trade close side o ≡ false → Sought close side rows from (at + 1)
     unfolding shares_from
@@ -116,43 +114,43 @@ module _ (close side : ℕ) (rows : List (List ℕ)) {from at : ℕ} (w : Sought
           same =
               sym
               (ap (λ (l : List Order). map brings (keep (may_trade close side) l)) here
-              ∙ ap (map brings) (keep_false (may_trade close side) o (drop (at + 1) (book_of rows)) f))
+              ∙ ap (map brings) (keep_false (may_trade close side) o (drop (at + 1) rows) f))
               ∙ w.same;
           within = omega arith;
         }
 
     pub sought_found :
-        Each Fair (book_of rows)
+        Each Fair rows
         → may_trade close side o ≡ true
-        → HeadOf close side (book_of rows) (shares_from close side from (book_of rows)) (record { at = at; number = o.number; price = o.price; left = o.left })
+        → HeadOf close side rows (shares_from close side from rows) (record { at = at; number = o.number; price = o.price; left = o.left })
     unfolding shares_from
     sought_found f t =
         let h : Head = record { at = at; number = o.number; price = o.price; left = o.left } in
         record {
           same =
-              headed_some close side (book_of rows) h some
+              headed_some close side rows h some
               ∙ sym
               (ap (λ (l : List Order). map brings (keep (may_trade close side) l)) here
-              ∙ ap (map brings) (keep_true (may_trade close side) o (drop (at + 1) (book_of rows)) t))
+              ∙ ap (map brings) (keep_true (may_trade close side) o (drop (at + 1) rows) t))
               ∙ w.same;
-          inside = λ _. omega (arith, length-map rows order_of);
+          inside = λ _. omega arith;
         }
       where
         fair : Fair o
-        fair = rw (e ∙ book_at rows at) (each_at Fair (book_of rows) free f at (omega (arith, length-map rows order_of)))
+        fair = rw (e) (each_at Fair rows free f at (omega arith))
 
         some : 0 < o.left
         some = omega (arith, fair.some (on_live side o (trades_on close side o t)))
 
   pub sought_all :
       length rows ≤ at
-      → HeadOf close side (book_of rows) (shares_from close side from (book_of rows)) (record { at = at; number = 0; price = 0; left = 0 })
+      → HeadOf close side rows (shares_from close side from rows) (record { at = at; number = 0; price = 0; left = 0 })
   unfolding shares_from keep
   sought_all h =
       record {
         same =
-            headed_none close side (book_of rows) (record { at = at; number = 0; price = 0; left = 0 }) refl
-            ∙ sym (ap (λ (l : List Order). map brings (keep (may_trade close side) l)) (drop_of_length-le (book_of rows) {i = at} (omega (arith, length-map rows order_of))))
+            headed_none close side rows (record { at = at; number = 0; price = 0; left = 0 }) refl
+            ∙ sym (ap (λ (l : List Order). map brings (keep (may_trade close side) l)) (drop_of_length-le rows {i = at} (omega arith)))
             ∙ w.same;
         inside = λ l. absurd (omega arith);
       }

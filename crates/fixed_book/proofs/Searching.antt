@@ -12,47 +12,45 @@ use Rattle.model.specs.declared.Order.{Order}
 use Rattle.model.specs.Lists.{all, any}
 use Rattle.model.specs.Book.{free, is_live}
 use Rattle.model.specs.Arrival.{is_taken, may_arrive, in_arrival}
-use Rattle.book.specs.Rows.{order_of, book_of}
-use Rattle.book.proofs.Memory.{book_at}
 use Rattle.soundness.proofs.Onward.{onward}
 
-module _ (p : Order → Bool) (rows : List (List ℕ)) where
+module _ (p : Order → Bool) (rows : List Order) where
   -- whether all pass, or one does, is told by those from here on
   abbrev pub AllFrom : ℕ → Type 0
-  AllFrom i = all p (book_of rows) ≡ all p (book_of (drop i rows))
+  AllFrom i = all p rows ≡ all p (drop i rows)
 
   abbrev pub AnyFrom : ℕ → Type 0
-  AnyFrom i = any p (book_of rows) ≡ any p (book_of (drop i rows))
+  AnyFrom i = any p rows ≡ any p (drop i rows)
 
-  module _ {i : ℕ} {o : Order} (inside : i < length rows) (e : o ≡ order_of (get_or rows i [])) where
-    all_here : all p (book_of (drop i rows)) ≡ (p o && all p (book_of (drop (i + 1) rows)))
+  module _ {i : ℕ} {o : Order} (inside : i < length rows) (e : o ≡ get_or rows i free) where
+    all_here : all p (drop i rows) ≡ (p o && all p (drop (i + 1) rows))
     unfolding all
     all_here = ap (all p) (onward rows i o inside e)
 
-    any_here : any p (book_of (drop i rows)) ≡ (p o || any p (book_of (drop (i + 1) rows)))
+    any_here : any p (drop i rows) ≡ (p o || any p (drop (i + 1) rows))
     unfolding any
     any_here = ap (any p) (onward rows i o inside e)
 
-    pub all_fails : AllFrom i → p o ≡ false → false ≡ all p (book_of rows)
+    pub all_fails : AllFrom i → p o ≡ false → false ≡ all p rows
     all_fails w f = sym (w ∙ all_here ∙ rw f)
 
     pub all_next : AllFrom i → p o ≡ true → AllFrom (i + 1)
     all_next w t = w ∙ all_here ∙ rw t
 
-    pub any_found : AnyFrom i → p o ≡ true → true ≡ any p (book_of rows)
+    pub any_found : AnyFrom i → p o ≡ true → true ≡ any p rows
     any_found w t = sym (w ∙ any_here ∙ rw t)
 
     pub any_next : AnyFrom i → p o ≡ false → AnyFrom (i + 1)
     any_next w f = w ∙ any_here ∙ rw f
 
-  nobody : (i : ℕ) → length rows ≤ i → book_of (drop i rows) ≡ []
-  nobody i h = ap book_of (drop_of_length-le rows {i = i} h)
+  nobody : (i : ℕ) → length rows ≤ i → (drop i rows) ≡ []
+  nobody i h = (drop_of_length-le rows {i = i} h)
 
-  pub all_pass : {i : ℕ} → AllFrom i → length rows ≤ i → true ≡ all p (book_of rows)
+  pub all_pass : {i : ℕ} → AllFrom i → length rows ≤ i → true ≡ all p rows
   unfolding all
   all_pass {i} w h = sym (w ∙ ap (all p) (nobody i h))
 
-  pub none_found : {i : ℕ} → AnyFrom i → length rows ≤ i → false ≡ any p (book_of rows)
+  pub none_found : {i : ℕ} → AnyFrom i → length rows ≤ i → false ≡ any p rows
   unfolding any
   none_found {i} w h = sym (w ∙ ap (any p) (nobody i h))
 
@@ -75,34 +73,34 @@ module _ (a b : Order) where
   later_arrives e f = rw (e, f)
 
 -- those up to the one before i have passed
-pub record Arrived (rows : List (List ℕ)) (i : ℕ) : Type 0 where
-  pub same : in_arrival number (book_of rows) ≡ in_arrival number (drop (i - 1) (book_of rows))
+pub record Arrived (rows : List Order) (i : ℕ) : Type 0 where
+  pub same : in_arrival number rows ≡ in_arrival number (drop (i - 1) rows)
   pub low : 1 ≤ i
 
-pub arrived_start : (rows : List (List ℕ)) → Arrived rows 1
+pub arrived_start : (rows : List Order) → Arrived rows 1
 arrived_start rows = record { same = refl; low = omega arith }
 
-module _ (rows : List (List ℕ)) {i : ℕ} (w : Arrived rows i) where
-  module _ {a b : Order} (inside : i < length rows) (ea : a ≡ order_of (get_or rows (i - 1) [])) (eb : b ≡ order_of (get_or rows i [])) where
-    second : drop i (book_of rows) ≡ b ∷ drop (suc i) (book_of rows)
+module _ (rows : List Order) {i : ℕ} (w : Arrived rows i) where
+  module _ {a b : Order} (inside : i < length rows) (ea : a ≡ get_or rows (i - 1) free) (eb : b ≡ get_or rows i free) where
+    second : drop i rows ≡ b ∷ drop (suc i) rows
     second =
-        drop-cons (book_of rows) i free (omega (arith, length-map rows order_of))
-        ∙ ap (λ (x : Order). x ∷ drop (suc i) (book_of rows)) (sym (eb ∙ book_at rows i))
+        drop-cons rows i free (omega arith)
+        ∙ ap (λ (x : Order). x ∷ drop (suc i) rows) (sym (eb))
 
-    two : drop (i - 1) (book_of rows) ≡ a ∷ b ∷ drop (suc i) (book_of rows)
+    two : drop (i - 1) rows ≡ a ∷ b ∷ drop (suc i) rows
     two =
         let k : suc (i - 1) ≡ i = omega (arith, w.low) in
-        drop-cons (book_of rows) (i - 1) free (omega (arith, length-map rows order_of))
-        ∙ ap (λ (x : Order). x ∷ drop (suc (i - 1)) (book_of rows)) (sym (ea ∙ book_at rows (i - 1)))
-        ∙ ap (λ (n : ℕ). a ∷ drop n (book_of rows)) k
+        drop-cons rows (i - 1) free (omega arith)
+        ∙ ap (λ (x : Order). x ∷ drop (suc (i - 1)) rows) (sym (ea))
+        ∙ ap (λ (n : ℕ). a ∷ drop n rows) k
         ∙ ap (λ (l : List Order). a ∷ l) second
 
-    here : in_arrival number (book_of rows) ≡ (may_arrive number a b && in_arrival number (drop i (book_of rows)))
+    here : in_arrival number rows ≡ (may_arrive number a b && in_arrival number (drop i rows))
     unfolding in_arrival
     here = w.same ∙ ap (in_arrival number) two ∙ ap (λ (l : List Order). may_arrive number a b && in_arrival number l) (sym second)
 
     module _ {r : Bool} (e : r ≡ may_arrive (λ (o : Order). o.number) a b) where
-      pub arrived_not : r ≡ false → false ≡ in_arrival (λ (o : Order). o.number) (book_of rows)
+      pub arrived_not : r ≡ false → false ≡ in_arrival (λ (o : Order). o.number) rows
       arrived_not f = sym (here ∙ rw (sym e ∙ f))
 
       pub arrived_next : r ≡ true → Arrived rows (i + 1)
@@ -110,11 +108,11 @@ module _ (rows : List (List ℕ)) {i : ℕ} (w : Arrived rows i) where
           let k : i + 1 - 1 ≡ i = omega arith in
           record { same = here ∙ rw (sym e ∙ f, k); low = omega arith }
 
-  pub arrived_all : length rows ≤ i → true ≡ in_arrival (λ (o : Order). o.number) (book_of rows)
+  pub arrived_all : length rows ≤ i → true ≡ in_arrival (λ (o : Order). o.number) rows
   arrived_all h =
       sym
       (w.same
-      ∙ alone (drop (i - 1) (book_of rows)) (omega (arith, length-drop (i - 1) (book_of rows), length-map rows order_of)))
+      ∙ alone (drop (i - 1) rows) (omega (arith, length-drop (i - 1) rows)))
     where
       alone : (os : List Order) → length os ≤ 1 → in_arrival number os ≡ true
       alone [] l = unfold in_arrival in refl

@@ -16,10 +16,8 @@ use Rattle.model.specs.Book.{free}
 use Rattle.model.specs.Matching.{less_by}
 use Rattle.model.specs.Auction.{shares_of}
 use Rattle.model.specs.FixedBook.{is_void}
-use Rattle.book.specs.Rows.{order_of, row_of, book_of}
 use Rattle.book.specs.Standing.{Fair}
 use Rattle.book.proofs.Lists.{keep_true, keep_false, total_keep, each_at}
-use Rattle.book.proofs.Memory.{book_at, book_set}
 use Rattle.soundness.proofs.Totals.{shares_within}
 use Rattle.fixed_book.specs.declared.Owed.{Owed}
 use Rattle.fixed_book.specs.Ready.{Lined}
@@ -80,13 +78,13 @@ module _ (close : ℕ) (w : Owed) (o : Order) where
 
 -- ---- the walk
 
-pub record Taken (close shares : ℕ) (rows₀ rows : List (List ℕ)) (w : Owed) (i : ℕ) : Type 0 where
-  pub same : take i (book_of rows) ++ left_over close w.buys w.sells (drop i (book_of rows₀)) ≡ left_over close shares shares (book_of rows₀)
-  pub back : drop i (book_of rows) ≡ drop i (book_of rows₀)
-  pub void : w.void + shares_of (is_void close) (drop i (book_of rows₀)) ≡ shares_of (is_void close) (book_of rows₀)
+pub record Taken (close shares : ℕ) (rows₀ rows : List Order) (w : Owed) (i : ℕ) : Type 0 where
+  pub same : take i rows ++ left_over close w.buys w.sells (drop i rows₀) ≡ left_over close shares shares rows₀
+  pub back : drop i rows ≡ drop i rows₀
+  pub void : w.void + shares_of (is_void close) (drop i rows₀) ≡ shares_of (is_void close) rows₀
   pub long : length rows ≡ length rows₀
 
-pub taken_start : (close shares : ℕ) (rows₀ : List (List ℕ)) → Taken close shares rows₀ rows₀ (record { buys = shares; sells = shares; void = 0 }) 0
+pub taken_start : (close shares : ℕ) (rows₀ : List Order) → Taken close shares rows₀ rows₀ (record { buys = shares; sells = shares; void = 0 }) 0
 taken_start close shares rows₀ = record { same = refl; back = refl; void = omega arith; long = refl }
 
 void_none : (close : ℕ) → shares_of (is_void close) [] ≡ 0
@@ -99,77 +97,77 @@ unfolding shares_of
 void_fits close book l =
     omega (arith, total_keep (λ (o : Order). o.left) (is_void close) book, shares_within book l.fair l.few)
 
-module _ (close shares : ℕ) (rows₀ : List (List ℕ)) {rows : List (List ℕ)} {w : Owed} {i : ℕ} (t : Taken close shares rows₀ rows w i) where
-  module _ {o : Order} (inside : i < length rows) (e : o ≡ order_of (get_or rows i [])) where
-    here : drop i (book_of rows₀) ≡ o ∷ drop (i + 1) (book_of rows₀)
+module _ (close shares : ℕ) (rows₀ : List Order) {rows : List Order} {w : Owed} {i : ℕ} (t : Taken close shares rows₀ rows w i) where
+  module _ {o : Order} (inside : i < length rows) (e : o ≡ get_or rows i free) where
+    here : drop i rows₀ ≡ o ∷ drop (i + 1) rows₀
     here =
         sym t.back
-        ∙ drop-cons (book_of rows) i free (omega (arith, length-map rows order_of))
-        ∙ ap (λ (x : Order). x ∷ drop (suc i) (book_of rows)) (sym (e ∙ book_at rows i))
-        ∙ ap (λ n. o ∷ drop n (book_of rows)) (sym (add-one i))
+        ∙ drop-cons rows i free (omega arith)
+        ∙ ap (λ (x : Order). x ∷ drop (suc i) rows) (sym (e))
+        ∙ ap (λ n. o ∷ drop n rows) (sym (add-one i))
         ∙ ap (λ (l : List Order). o ∷ l) later
       where
-        later : drop (i + 1) (book_of rows) ≡ drop (i + 1) (book_of rows₀)
-        later = sym (drop-drop 1 i (book_of rows)) ∙ ap (drop 1) t.back ∙ drop-drop 1 i (book_of rows₀)
+        later : drop (i + 1) rows ≡ drop (i + 1) rows₀
+        later = sym (drop-drop 1 i rows) ∙ ap (drop 1) t.back ∙ drop-drop 1 i rows₀
 
-    pub void_small : Lined (book_of rows₀) → w.void + o.left ≤ 4_097_000_000
+    pub void_small : Lined rows₀ → w.void + o.left ≤ 4_097_000_000
     void_small l =
         let fair : Fair o =
-        rw (e ∙ book_at rows i ∙ first)
-        (each_at Fair (book_of rows₀) free l.fair i (omega (arith, length-map rows₀ order_of, t.long)))
+        rw (e ∙ first)
+        (each_at Fair rows₀ free l.fair i (omega (arith, t.long)))
         in
-        omega (arith, fair.left, t.void, void_fits close (book_of rows₀) l)
+        omega (arith, fair.left, t.void, void_fits close rows₀ l)
       where
-        first : get_or (book_of rows) i free ≡ get_or (book_of rows₀) i free
+        first : get_or rows i free ≡ get_or rows₀ i free
         first =
             let z : i + 0 ≡ i = omega arith in
-            ap (λ n. get_or (book_of rows) n free) (sym z)
-            ∙ sym (get_or-drop i (book_of rows) 0 free)
+            ap (λ n. get_or rows n free) (sym z)
+            ∙ sym (get_or-drop i rows 0 free)
             ∙ ap (λ (l : List Order). get_or l 0 free) t.back
-            ∙ get_or-drop i (book_of rows₀) 0 free
-            ∙ ap (λ n. get_or (book_of rows₀) n free) z
+            ∙ get_or-drop i rows₀ 0 free
+            ∙ ap (λ n. get_or rows₀ n free) z
 
     pub taken_next :
-        {p : Order} {w' : Owed} {rows' : List (List ℕ)}
+        {p : Order} {w' : Owed} {rows' : List Order}
         → p ≡ left_of close w o
         → w' ≡ owed_behind close w o
-        → rows' ≡ set rows i (row_of p)
+        → rows' ≡ set rows i p
         → Taken close shares rows₀ rows' w' (i + 1)
     taken_next {p} {w'} {rows'} ep ew er =
-        let book' : book_of rows' ≡ set (book_of rows) i p = ap book_of er ∙ book_set rows i p in
-        let more : take (i + 1) (book_of rows') ≡ take i (book_of rows) ++ (p ∷ []) =
+        let book' : rows' ≡ set rows i p = er in
+        let more : take (i + 1) rows' ≡ take i rows ++ (p ∷ []) =
         ap (take (i + 1)) book'
-        ∙ ap (λ n. take n (set (book_of rows) i p)) (add-one i)
-        ∙ take-suc-set (book_of rows) i p (omega (arith, length-map rows order_of))
+        ∙ ap (λ n. take n (set rows i p)) (add-one i)
+        ∙ take-suc-set rows i p (omega arith)
         in
         rw ew
         (record {
           same =
-              ap (λ (l : List Order). l ++ left_over close (owed_behind close w o).buys (owed_behind close w o).sells (drop (i + 1) (book_of rows₀))) more
-              ∙ append_assoc (take i (book_of rows)) (p ∷ []) (left_over close (owed_behind close w o).buys (owed_behind close w o).sells (drop (i + 1) (book_of rows₀)))
-              ∙ ap (λ (x : Order). take i (book_of rows) ++ (x ∷ left_over close (owed_behind close w o).buys (owed_behind close w o).sells (drop (i + 1) (book_of rows₀)))) ep
-              ∙ ap (λ (l : List Order). take i (book_of rows) ++ l) (sym (ap (left_over close w.buys w.sells) here ∙ left_step close w o (drop (i + 1) (book_of rows₀))))
+              ap (λ (l : List Order). l ++ left_over close (owed_behind close w o).buys (owed_behind close w o).sells (drop (i + 1) rows₀)) more
+              ∙ append_assoc (take i rows) (p ∷ []) (left_over close (owed_behind close w o).buys (owed_behind close w o).sells (drop (i + 1) rows₀))
+              ∙ ap (λ (x : Order). take i rows ++ (x ∷ left_over close (owed_behind close w o).buys (owed_behind close w o).sells (drop (i + 1) rows₀))) ep
+              ∙ ap (λ (l : List Order). take i rows ++ l) (sym (ap (left_over close w.buys w.sells) here ∙ left_step close w o (drop (i + 1) rows₀)))
               ∙ t.same;
           back =
               ap (drop (i + 1)) book'
-              ∙ drop-set-lt (i + 1) (book_of rows) i p (omega arith)
-              ∙ sym (drop-drop 1 i (book_of rows))
+              ∙ drop-set-lt (i + 1) rows i p (omega arith)
+              ∙ sym (drop-drop 1 i rows)
               ∙ ap (drop 1) t.back
-              ∙ drop-drop 1 i (book_of rows₀);
-          void = void_step close w o (drop (i + 1) (book_of rows₀)) ∙ ap (λ (l : List Order). w.void + shares_of (is_void close) l) (sym here) ∙ t.void;
-          long = ap length er ∙ length-set rows i (row_of p) ∙ t.long;
+              ∙ drop-drop 1 i rows₀;
+          void = void_step close w o (drop (i + 1) rows₀) ∙ ap (λ (l : List Order). w.void + shares_of (is_void close) l) (sym here) ∙ t.void;
+          long = ap length er ∙ length-set rows i p ∙ t.long;
         })
 
   pub taken_end :
       length rows ≤ i
-      → (w.void ≡ shares_of (is_void close) (book_of rows₀)) × (book_of rows ≡ left_over close shares shares (book_of rows₀))
+      → (w.void ≡ shares_of (is_void close) rows₀) × (rows ≡ left_over close shares shares rows₀)
   unfolding left_over
   taken_end h =
-      let none : drop i (book_of rows₀) ≡ [] = drop_of_length-le (book_of rows₀) {i = i} (omega (arith, length-map rows₀ order_of, t.long)) in (
+      let none : drop i rows₀ ≡ [] = drop_of_length-le rows₀ {i = i} (omega (arith, t.long)) in (
         omega (arith, t.void, ap (shares_of (is_void close)) none, void_none close),
         sym
-            (ap (λ (l : List Order). take i (book_of rows) ++ left_over close w.buys w.sells l) none
-            ∙ append-nil (take i (book_of rows))
-            ∙ take_all i (book_of rows) (omega (arith, length-map rows order_of)))
+            (ap (λ (l : List Order). take i rows ++ left_over close w.buys w.sells l) none
+            ∙ append-nil (take i rows)
+            ∙ take_all i rows (omega arith))
             ∙ t.same,
       )

@@ -7,12 +7,11 @@ ghost use Rattle.model.specs.Figures.{close_price};
 ghost use Rattle.model.specs.Sound.{between, fixed_fits};
 ghost use Rattle.model.specs.SoundFixed.{one_sided};
 ghost use Rattle.model.specs.FixedBook.{is_void};
-ghost use Rattle.book.specs.Rows.{book_of};
 
 use crate::walking::{is_void, stands_on};
 use book::order_at;
 use figures::reference_of;
-use model::{Day, MATCHING_FROM, MOST_SHARES};
+use model::{Day, MATCHING_FROM, MOST_SHARES, Order};
 use soundness::day_figures::is_between;
 
 // Shares rest from 9:15 up to 15:30 only.
@@ -23,8 +22,8 @@ pub fn fits_hours(time: u64, resting: u64) -> bool
 }
 
 // Whether an order of the side rests.
-pub fn has_side(rows: &[[u64; 5]], side: u64) -> bool
-    ensures { result ≡ any (stands_on side) (book_of rows.now) }
+pub fn has_side(rows: &[Order], side: u64) -> bool
+    ensures { result ≡ any (stands_on side) rows.now }
 {
     let mut i = 0;
     while i < rows.len() {
@@ -37,8 +36,8 @@ pub fn has_side(rows: &[[u64; 5]], side: u64) -> bool
 }
 
 // Whether a void order rests.
-fn has_void(rows: &[[u64; 5]], close: u64) -> bool
-    ensures { result ≡ any (is_void close) (book_of rows.now) }
+fn has_void(rows: &[Order], close: u64) -> bool
+    ensures { result ≡ any (is_void close) rows.now }
 {
     let mut i = 0;
     while i < rows.len() {
@@ -50,8 +49,8 @@ fn has_void(rows: &[[u64; 5]], close: u64) -> bool
     false
 }
 
-fn is_one_sided(rows: &[[u64; 5]]) -> bool
-    ensures { result ≡ one_sided (book_of rows.now) }
+fn is_one_sided(rows: &[Order]) -> bool
+    ensures { result ≡ one_sided rows.now }
 {
     if !has_side(rows, 0) {
         return true;
@@ -60,8 +59,8 @@ fn is_one_sided(rows: &[[u64; 5]]) -> bool
 }
 
 // From 15:05 on one side rests at most, and no void order.
-pub fn rests_after_matching(d: Day, rows: &[[u64; 5]]) -> bool
-    ensures { result ≡ (ltb d.time matching_from || (one_sided (book_of rows.now) && not (any (is_void (close_price d)) (book_of rows.now)))) }
+pub fn rests_after_matching(d: Day, rows: &[Order]) -> bool
+    ensures { result ≡ (ltb d.time matching_from || (one_sided rows.now && not (any (is_void (close_price d)) rows.now))) }
 {
     if d.time < MATCHING_FROM {
         return true;

@@ -3,7 +3,6 @@
 ghost use Rattle.std.specs.Prelude.{◌≡◌, ◌+◌, ◌-◌, ◌^◌, ◌<◌};
 ghost use Rattle.model.specs.Auction.{shares_of};
 ghost use Rattle.model.specs.FixedBook.{is_void};
-ghost use Rattle.book.specs.Rows.{book_of};
 ghost use Rattle.fixed_book.specs.Ready.{Lined};
 ghost use Rattle.fixed_book.specs.Leaving.{owed_by, left_of, owed_behind, left_over};
 
@@ -72,10 +71,10 @@ fn owed_behind(close: u64, w: Owed, o: Order) -> Owed
 }
 
 // The whole line; the void shares.
-pub fn take_off(rows: &mut [[u64; 5]], close: u64, shares: u64) -> u64
-    requires { Lined (book_of rows.old) }
-    ensures value { result ≡ shares_of (is_void close) (book_of rows.old) }
-    ensures rows_after { book_of rows.new ≡ left_over close shares shares (book_of rows.old) }
+pub fn take_off(rows: &mut [Order], close: u64, shares: u64) -> u64
+    requires { Lined rows.old }
+    ensures value { result ≡ shares_of (is_void close) rows.old }
+    ensures rows_after { rows.new ≡ left_over close shares shares rows.old }
 {
     let mut owed = Owed {
         buys: shares,

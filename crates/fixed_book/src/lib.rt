@@ -26,7 +26,6 @@ ghost use Rattle.model.specs.SoundFixed.{sound_fixed};
 ghost use Rattle.model.specs.Matching.{filled, settle};
 ghost use Rattle.model.specs.Auction.{shares_of};
 ghost use Rattle.model.specs.FixedBook.{is_void, matches, lined};
-ghost use Rattle.book.specs.Rows.{book_of, trade_rows};
 ghost use Rattle.book.specs.Deals.{dealt};
 ghost use Rattle.book.specs.Writing.{fitted};
 ghost use Rattle.fixed_book.specs.Ready.{Lined};
@@ -37,15 +36,15 @@ use crate::line::line_up;
 use crate::places::{is_in_arrival, sound_places};
 use crate::walking::{head_from, head_past, trade_at_close};
 use book::{Dealt, order_at, put_trade, smaller};
-use model::Day;
+use model::{Day, Order, Trade};
 use soundness::places::has_places;
 
 // The trades of the orders that are not void, at the close, in order of arrival: all are counted, and as many are written as the list
 // holds.
-pub fn deal_at_close(rows: &[[u64; 5]], trades: &mut [[u64; 6]], close: u64) -> Dealt
-    requires { Lined (book_of rows.now) }
-    ensures value { result ≡ dealt (matches close (keep (λ o. not (is_void close o)) (book_of rows.now))) }
-    ensures trades_after { trades.new ≡ fitted (trade_rows (matches close (keep (λ o. not (is_void close o)) (book_of rows.now)))) trades.old }
+pub fn deal_at_close(rows: &[Order], trades: &mut [Trade], close: u64) -> Dealt
+    requires { Lined rows.now }
+    ensures value { result ≡ dealt (matches close (keep (λ o. not (is_void close o)) rows.now)) }
+    ensures trades_after { trades.new ≡ fitted (matches close (keep (λ o. not (is_void close o)) rows.now)) trades.old }
 {
     let mut buy = head_from(rows, 0, 0, close);
     let mut sell = head_from(rows, 0, 1, close);
@@ -65,11 +64,11 @@ pub fn deal_at_close(rows: &[[u64; 5]], trades: &mut [[u64; 6]], close: u64) -> 
 }
 
 // Void orders leave, so many shares come off the first of either side, and what is left closes up; the void shares.
-pub fn settle_at_close(rows: &mut [[u64; 5]], close: u64, shares: u64) -> u64
-    requires lined { Lined (book_of rows.old) }
-    requires shares_value { shares ≡ filled (matches close (keep (λ o. not (is_void close o)) (book_of rows.old))) }
-    ensures value { result ≡ shares_of (is_void close) (book_of rows.old) }
-    ensures rows_after { book_of rows.new ≡ lined (length rows.old) (settle (matches close (keep (λ o. not (is_void close o)) (book_of rows.old))) (keep (λ o. not (is_void close o)) (book_of rows.old))) }
+pub fn settle_at_close(rows: &mut [Order], close: u64, shares: u64) -> u64
+    requires lined { Lined rows.old }
+    requires shares_value { shares ≡ filled (matches close (keep (λ o. not (is_void close o)) rows.old)) }
+    ensures value { result ≡ shares_of (is_void close) rows.old }
+    ensures rows_after { rows.new ≡ lined (length rows.old) (settle (matches close (keep (λ o. not (is_void close o)) rows.old)) (keep (λ o. not (is_void close o)) rows.old)) }
 {
     let void = take_off(&mut *rows, close, shares);
     line_up(&mut *rows);
@@ -77,9 +76,9 @@ pub fn settle_at_close(rows: &mut [[u64; 5]], close: u64, shares: u64) -> u64
 }
 
 // The shares left of all orders.
-pub fn resting_of(rows: &[[u64; 5]]) -> u64
-    requires { Lined (book_of rows.now) }
-    ensures { result ≡ total (λ o. o.left) (book_of rows.now) }
+pub fn resting_of(rows: &[Order]) -> u64
+    requires { Lined rows.now }
+    ensures { result ≡ total (λ o. o.left) rows.now }
 {
     let mut sum: u64 = 0;
     let mut i = 0;
@@ -92,10 +91,10 @@ pub fn resting_of(rows: &[[u64; 5]]) -> u64
 }
 
 // Whether the book has 1 to 4,096 places and is sound. Each test keeps the sums of the later ones small.
-pub fn fixed_sound(d: Day, rows: &[[u64; 5]]) -> bool
+pub fn fixed_sound(d: Day, rows: &[Order]) -> bool
     requires close_value { is_price d.close ≡ true }
     requires d_value { fixed_fits d ≡ true }
-    ensures { result ≡ (has_places (book_of rows.now) && sound_fixed d (book_of rows.now)) }
+    ensures { result ≡ (has_places rows.now && sound_fixed d rows.now) }
 {
     if !has_places(rows) {
         return false;

@@ -3,18 +3,18 @@ ghost use Rattle.std.specs.Prelude.{◌≡◌, ◌≤◌, ◌<◌, length};
 ghost use Rattle.model.specs.Lists.{keep};
 ghost use Rattle.model.specs.Book.{is_live};
 ghost use Rattle.model.specs.FixedBook.{lined};
-ghost use Rattle.book.specs.Rows.{book_of};
 ghost use Rattle.fixed_book.specs.Ready.{Lined};
 ghost use Rattle.fixed_book.specs.Line.{Tidy, BroughtUp};
 
 use book::places::{free_place, is_live};
 use book::{order_at, put_order};
+use model::Order;
 
 // The order at a place goes to one before it, or stays; where the next one goes.
-fn bring_up(rows: &mut [[u64; 5]], from: usize, to: usize) -> usize
+fn bring_up(rows: &mut [Order], from: usize, to: usize) -> usize
     requires from_in_bounds { from < length rows.old }
     requires to_le_from { to ≤ from }
-    ensures { BroughtUp from to (book_of rows.old) (book_of rows.new) result }
+    ensures { BroughtUp from to rows.old rows.new result }
 {
     let o = order_at(rows, from);
     if !is_live(o) {
@@ -29,9 +29,9 @@ fn bring_up(rows: &mut [[u64; 5]], from: usize, to: usize) -> usize
 }
 
 // The orders stand one behind the other, and free places last.
-pub fn line_up(rows: &mut [[u64; 5]])
-    requires { Tidy (book_of rows.old) }
-    ensures { book_of rows.new ≡ lined (length rows.old) (book_of rows.old) }
+pub fn line_up(rows: &mut [Order])
+    requires { Tidy rows.old }
+    ensures { rows.new ≡ lined (length rows.old) rows.old }
 {
     let mut to: usize = 0;
     let mut i = 0;
@@ -42,9 +42,9 @@ pub fn line_up(rows: &mut [[u64; 5]])
 }
 
 // How many orders there are: the first free place.
-pub fn orders_in(rows: &[[u64; 5]]) -> usize
-    requires { Lined (book_of rows.now) }
-    ensures { result ≡ length (keep is_live (book_of rows.now)) }
+pub fn orders_in(rows: &[Order]) -> usize
+    requires { Lined rows.now }
+    ensures { result ≡ length (keep is_live rows.now) }
 {
     let mut i = 0;
     while i < rows.len() {

@@ -4,7 +4,6 @@ ghost use Rattle.model.specs.Lists.{all};
 ghost use Rattle.model.specs.Limits.{is_price};
 ghost use Rattle.model.specs.Sound.{may_stand, is_free, is_order_of};
 ghost use Rattle.model.specs.Arrival.{may_arrive, in_arrival};
-ghost use Rattle.book.specs.Rows.{book_of};
 
 use book::order_at;
 use book::places::is_live;
@@ -74,9 +73,9 @@ fn place_is_sound(d: Day, o: Order) -> bool
 }
 
 // Each place is free or has an order.
-pub fn sound_places(d: Day, rows: &[[u64; 5]]) -> bool
+pub fn sound_places(d: Day, rows: &[Order]) -> bool
     requires { is_price d.close ≡ true }
-    ensures { result ≡ all (λ o. is_free o || is_order_of d d.fixed.issued o) (book_of rows.now) }
+    ensures { result ≡ all (λ o. is_free o || is_order_of d d.fixed.issued o) rows.now }
 {
     let mut i = 0;
     while i < rows.len() {
@@ -102,8 +101,8 @@ fn may_arrive(a: Order, b: Order) -> bool
 }
 
 // Each place may be followed by the next one.
-pub fn is_in_arrival(rows: &[[u64; 5]]) -> bool
-    ensures { result ≡ in_arrival (λ o. o.number) (book_of rows.now) }
+pub fn is_in_arrival(rows: &[Order]) -> bool
+    ensures { result ≡ in_arrival (λ o. o.number) rows.now }
 {
     let mut i = 1;
     while i < rows.len() {

@@ -4,7 +4,6 @@ ghost use Rattle.model.specs.Book.{stands_on};
 ghost use Rattle.model.specs.FixedBook.{wrong_side, is_void};
 ghost use Rattle.model.specs.Pairing.{head_less};
 ghost use Rattle.pairing.specs.Dealing.{dealt};
-ghost use Rattle.book.specs.Rows.{book_of};
 ghost use Rattle.fixed_book.specs.Ready.{Lined};
 ghost use Rattle.fixed_book.specs.Heads.{may_trade, head_share, shares_from, HeadOf};
 
@@ -45,10 +44,10 @@ fn may_trade(close: u64, side: u64, o: Order) -> bool
 }
 
 // The first such order from a place on.
-pub fn head_from(rows: &[[u64; 5]], from: usize, side: u64, close: u64) -> Head
-    requires lined { Lined (book_of rows.now) }
+pub fn head_from(rows: &[Order], from: usize, side: u64, close: u64) -> Head
+    requires lined { Lined rows.now }
     requires from_in_bounds { from ≤ length rows.now }
-    ensures { HeadOf close side (book_of rows.now) (shares_from close side from (book_of rows.now)) result }
+    ensures { HeadOf close side rows.now (shares_from close side from rows.now) result }
 {
     let mut at = from;
     while at < rows.len() {
@@ -72,10 +71,10 @@ pub fn head_from(rows: &[[u64; 5]], from: usize, side: u64, close: u64) -> Head
 }
 
 // The head when q of it have traded: itself while something is left, else the next.
-pub fn head_past(rows: &[[u64; 5]], side: u64, close: u64, h: Head, q: u64) -> Head
-    requires lined { Lined (book_of rows.now) }
+pub fn head_past(rows: &[Order], side: u64, close: u64, h: Head, q: u64) -> Head
+    requires lined { Lined rows.now }
     requires at_in_bounds { h.at < length rows.now }
-    ensures { HeadOf close side (book_of rows.now) (head_less q (head_share h) (shares_from close side (h.at + 1) (book_of rows.now))) result }
+    ensures { HeadOf close side rows.now (head_less q (head_share h) (shares_from close side (h.at + 1) rows.now)) result }
 {
     if q < h.left {
         return Head {

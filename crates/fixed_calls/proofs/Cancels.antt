@@ -22,14 +22,12 @@ use Rattle.model.specs.Calls.{is_own}
 use Rattle.model.specs.FixedCalls.{fixed_cancel_rules, fixed_cancel_call}
 use Rattle.model.specs.Words.{Each, Apart}
 use Rattle.model.proofs.Bools.{not_both}
-use Rattle.book.specs.Rows.{order_of, row_of, book_of}
 use Rattle.book.specs.Places.{place_of}
 use Rattle.book.specs.Standing.{Fair}
 use Rattle.book.specs.Promises.{fixed_cancel_left}
 use Rattle.book.proofs.Finding.{own_any, cancel_keeps, cancel_left_lem}
 use Rattle.book.proofs.Lists.{each, every, keep_append, keep_true, keep_false}
 use Rattle.book.proofs.Kept.{free_number}
-use Rattle.book.proofs.Memory.{book_at, book_set}
 use Rattle.book.proofs.Sorting.{Distinct}
 use Rattle.book.proofs.Counting.{not_live}
 use Rattle.arrivals.proofs.Lines.{in_line, not_taken, rising_distinct}
@@ -102,9 +100,9 @@ module _ (account wanted : ℕ) (book : List Order) (l : Lined book) where
 
 -- ---- the rules
 
-module _ (d : Day) (account wanted : ℕ) (main : List Order) (rows : List (List ℕ)) where
+module _ (d : Day) (account wanted : ℕ) (main : List Order) (rows : List Order) where
   abbrev book : List Order
-  book = book_of rows
+  book = rows
 
   abbrev told : ℕ
   told = first_of (fixed_cancel_rules d account wanted main book)
@@ -131,46 +129,46 @@ module _ (d : Day) (account wanted : ℕ) (main : List Order) (rows : List (List
         pub unknown : length rows ≤ place → 12 ≡ told
         unfolding fixed_cancel_rules first_of ◌when◌
         unknown k =
-            rw (u, v, h, own_any account wanted book, le-ltb (place_of account wanted book) (length book) (omega (arith, length-map rows order_of)))
+            rw (u, v, h, own_any account wanted book, le-ltb (place_of account wanted book) (length book) (omega arith))
 
         none_holds : place < length rows → 0 ≡ told
         unfolding fixed_cancel_rules first_of ◌when◌
         none_holds k =
-            rw (u, v, h, own_any account wanted book, lt-ltb (place_of account wanted book) (length book) (omega (arith, length-map rows order_of)))
+            rw (u, v, h, own_any account wanted book, lt-ltb (place_of account wanted book) (length book) (omega arith))
 
         -- ---- what an accepted one comes to
         pub cancelled :
-            (rows₂ : List (List ℕ)) {o own : Order} {rows₁ : List (List ℕ)}
+            (rows₂ : List Order) {o own : Order} {rows₁ : List Order}
             → Lined book
             → place < length rows
-            → own ≡ order_of (get_or rows place [])
+            → own ≡ get_or rows place free
             → o ≡ free
-            → rows₁ ≡ set rows place (row_of o)
-            → book_of rows₂ ≡ lined (length rows₁) (book_of rows₁)
+            → rows₁ ≡ set rows place o
+            → rows₂ ≡ lined (length rows₁) rows₁
             → fixed_cancel_left (Withdrawn own.left) rows₂ ≡ fixed_cancel_call d account wanted main book
         unfolding fixed_cancel_call shares_of
         cancelled rows₂ {o} {own} {rows₁} l k eo e er eb =
             let z : eqb told 0 ≡ true = eq-eqb told 0 (sym (none_holds k)) in
             let shares : own.left ≡ total (λ (x : Order). x.left) (keep (is_own account wanted) book) =
-            ap (λ (x : Order). x.left) (eo ∙ ap (λ n. order_of (get_or rows n [])) p ∙ book_at rows (place_of account wanted book))
+            ap (λ (x : Order). x.left) (eo ∙ ap (λ n. get_or rows n free) p)
             ∙ sym (cancel_left_lem account wanted book (lined_apart book l))
             in
-            let long : length rows₁ ≡ length book = ap length er ∙ length-set rows place (row_of o) ∙ sym (length-map rows order_of) in
-            let put : book_of rows₁ ≡ set book (place_of account wanted book) free =
-            ap book_of er ∙ book_set rows place o ∙ ap (λ (x : Order). set book place x) e ∙ ap (λ n. set book n free) p
+            let long : length rows₁ ≡ length book = ap length er ∙ length-set rows place o in
+            let put : rows₁ ≡ set book (place_of account wanted book) free =
+            er ∙ ap (λ (x : Order). set book place x) e ∙ ap (λ n. set book n free) p
             in
-            let then : book_of rows₂ ≡ lined (length book) (keep (λ (x : Order). not (is_own account wanted x)) book) =
+            let then : rows₂ ≡ lined (length book) (keep (λ (x : Order). not (is_own account wanted x)) book) =
             eb
-            ∙ ap (λ n. lined n (book_of rows₁)) long
+            ∙ ap (λ n. lined n rows₁) long
             ∙ ap (lined (length book)) put
-            ∙ left_out_lem account wanted book l (omega (arith, p, length-map rows order_of))
+            ∙ left_out_lem account wanted book l (omega (arith, p))
             in
             rw (z, shares, then)
 
   -- who leaves leaves a place of zeros
-  pub leaves_tidy : {o : Order} {rows₁ : List (List ℕ)} (place : ℕ) → Lined book → o ≡ free → rows₁ ≡ set rows place (row_of o) → Tidy (book_of rows₁)
+  pub leaves_tidy : {o : Order} {rows₁ : List Order} (place : ℕ) → Lined book → o ≡ free → rows₁ ≡ set rows place o → Tidy rows₁
   leaves_tidy {o} {rows₁} place l e er =
-      let put : book_of rows₁ ≡ set book place free =
-      ap book_of er ∙ book_set rows place o ∙ ap (λ (x : Order). set book place x) e
+      let put : rows₁ ≡ set book place free =
+      er ∙ ap (λ (x : Order). set book place x) e
       in
       rw put (tidy_set book place (each Fair (λ x. x.number ≡ 0 → x ≡ free) book (λ x h. h.none) l.fair))

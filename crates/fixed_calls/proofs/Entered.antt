@@ -27,13 +27,11 @@ use Rattle.model.specs.Calls.{written, ended}
 use Rattle.model.specs.FixedCalls.{arriving, fixed_trades, fixed_entered}
 use Rattle.model.specs.Words.{Each}
 use Rattle.book.specs.declared.Dealt.{Dealt}
-use Rattle.book.specs.Rows.{order_of, row_of, book_of, trade_of, trades_of, trade_rows}
 use Rattle.book.specs.Deals.{dealt}
 use Rattle.book.specs.Promises.{call_left, order_refused}
 use Rattle.book.specs.Standing.{Fair}
 use Rattle.book.specs.Writing.{fitted}
 use Rattle.book.proofs.Lists.{each_at}
-use Rattle.book.proofs.Memory.{book_set}
 use Rattle.book.proofs.Settlements.{settle_none, filled_nil}
 use Rattle.book.proofs.Written.{fitted_written}
 use Rattle.fixed_book.specs.Ready.{Lined}
@@ -51,14 +49,14 @@ use Rattle.fixed_calls.proofs.Entries.{one_level}
 
 -- a line has no more trades than places
 pub enough_places :
-    (rows : List (List ℕ)) (places close : ℕ)
-    → Lined (book_of rows)
+    (rows : List Order) (places close : ℕ)
+    → Lined rows
     → length rows ≤ places
-    → false ≡ ltb places (length (matches close (keep (λ o. not (is_void close o)) (book_of rows))))
+    → false ≡ ltb places (length (matches close (keep (λ o. not (is_void close o)) rows)))
 enough_places rows places close l h =
     sym
-    (le-ltb places (length (matches close (keep (λ (o : Order). not (is_void close o)) (book_of rows))))
-    (omega (arith, closing_few close (book_of rows) l, length-map rows order_of)))
+    (le-ltb places (length (matches close (keep (λ (o : Order). not (is_void close o)) rows)))
+    (omega (arith, closing_few close rows l)))
 
 pub counted_places : (places : ℕ) (ts : List Trade) {c : Dealt} → c ≡ dealt ts → ltb places c.made ≡ ltb places (length ts)
 unfolding dealt
@@ -66,15 +64,15 @@ counted_places places ts e = ap (λ (x : Dealt). ltb places x.made) e
 
 -- ---- the order in its place
 
-module _ (d : Day) (a : AskedFixed) (rows : List (List ℕ)) (place : ℕ) (w : Welcome d a (book_of rows) place) where
+module _ (d : Day) (a : AskedFixed) (rows : List Order) (place : ℕ) (w : Welcome d a rows place) where
   abbrev book : List Order
-  book = book_of rows
+  book = rows
 
   pub fine : Fine d a
   fine = asked_fine d a w.asked
 
   pub inside : place < length rows
-  inside = omega (arith, w.free, length-map rows order_of)
+  inside = omega (arith, w.free)
 
   pub number_fits : d.fixed.issued + 1 < 2 ^ 64
   number_fits = omega (arith, w.numbers)
@@ -85,20 +83,19 @@ module _ (d : Day) (a : AskedFixed) (rows : List (List ℕ)) (place : ℕ) (w : 
   room : length (keep is_live book) < length book
   room = omega (arith, w.behind, w.free)
 
-  module _ {o : Order} (eo : o ≡ incoming d a) {rows₁ : List (List ℕ)} (er : rows₁ ≡ set rows place (row_of o)) where
+  module _ {o : Order} (eo : o ≡ incoming d a) {rows₁ : List Order} (er : rows₁ ≡ set rows place o) where
     pub put_long : length rows₁ ≡ length rows
-    put_long = ap length er ∙ length-set rows place (row_of o)
+    put_long = ap length er ∙ length-set rows place o
 
     -- the line with the order behind it
-    line_then : book_of rows₁ ≡ lined (length book) (arriving d a book)
+    line_then : rows₁ ≡ lined (length book) (arriving d a book)
     line_then =
-        ap book_of er
-        ∙ book_set rows place o
+        er
         ∙ ap (λ (x : Order). set book place x) eo
         ∙ ap (λ n. set book n (incoming d a)) w.behind
         ∙ arrives_at d a book w.ready fine w.numbers room
 
-    pub lined_then : Lined (book_of rows₁)
+    pub lined_then : Lined rows₁
     lined_then = rw line_then (arriving_lined d a book w.ready fine w.numbers room)
 
     -- ---- before 15:05
@@ -114,7 +111,7 @@ module _ (d : Day) (a : AskedFixed) (rows : List (List ℕ)) (place : ℕ) (w : 
           let m : d.fixed.money + 0 ≡ d.fixed.money = omega arith in
           rw (s, m)
 
-      same_line : book_of rows₁ ≡ lined (length book) (settle [] (arriving d a book))
+      same_line : rows₁ ≡ lined (length book) (settle [] (arriving d a book))
       same_line =
           line_then ∙ ap (lined (length book)) (sym (settle_none (arriving d a book) (arriving_fair d a book w.ready fine w.numbers room)))
 
@@ -125,11 +122,11 @@ module _ (d : Day) (a : AskedFixed) (rows : List (List ℕ)) (place : ℕ) (w : 
           {entry : Entry} {day : Day}
           → entry ≡ entry_of d a 0 0
           → day ≡ issue_fixed d
-          → (lent : List (List ℕ))
-          → call_left (record { reply = OrderReply.TheVariants.Accepted entry; made = 0; day = day }) rows₁ lent ≡ welcomed d a book (trades_of lent)
+          → (lent : List Trade)
+          → call_left (record { reply = OrderReply.TheVariants.Accepted entry; made = 0; day = day }) rows₁ lent ≡ welcomed d a book lent
       unfolding welcomed fixed_entered written entry_of
       rests {entry} {day} ee ed lent =
-          let none : ltb (length (trades_of lent)) 0 ≡ false = le-ltb (length (trades_of lent)) 0 (omega arith) in
+          let none : ltb (length lent) 0 ≡ false = le-ltb (length lent) 0 (omega arith) in
           rw (no_trades_lem, none, ee, ed, same_line, same_day, filled_nil, no_levels_lem)
 
     -- ---- from 15:05 on
@@ -140,11 +137,11 @@ module _ (d : Day) (a : AskedFixed) (rows : List (List ℕ)) (place : ℕ) (w : 
 
       -- the trades of the line
       abbrev ts : List Trade
-      ts = matches close (keep (λ (o : Order). not (is_void close o)) (book_of rows₁))
+      ts = matches close (keep (λ (o : Order). not (is_void close o)) rows₁)
 
       trades_match : ts ≡ matches (close_price d) (arriving d a book)
       trades_match =
-          ap (λ c. matches c (keep (λ (o : Order). not (is_void c o)) (book_of rows₁))) at_close
+          ap (λ c. matches c (keep (λ (o : Order). not (is_void c o)) rows₁)) at_close
           ∙ ap (λ (l : List Order). matches (close_price d) (keep (λ (o : Order). not (is_void (close_price d) o)) l)) line_then
           ∙ entry_matches d a book w.ready fine w.numbers room late
 
@@ -184,26 +181,24 @@ module _ (d : Day) (a : AskedFixed) (rows : List (List ℕ)) (place : ℕ) (w : 
           ])
 
       pub leaves_again :
-          {p : Order} {rows₂ : List (List ℕ)} {r : OrderAnswer} {lacks : Bool} (lent : List (List ℕ))
+          {p : Order} {rows₂ : List Order} {r : OrderAnswer} {lacks : Bool} (lent : List Trade)
           → p ≡ free
-          → rows₂ ≡ set rows₁ place (row_of p)
+          → rows₂ ≡ set rows₁ place p
           → r ≡ order_refused d 13
           → lacks ≡ ltb (length lent) (length ts)
           → lacks ≡ true
-          → call_left r rows₂ lent ≡ welcomed d a book (trades_of lent)
+          → call_left r rows₂ lent ≡ welcomed d a book lent
       unfolding welcomed
       leaves_again {p} {rows₂} {r} {lacks} lent ep e₂ e el short =
-          let back : book_of rows₂ ≡ book =
-          ap book_of e₂
-          ∙ book_set rows₁ place p
-          ∙ ap (λ (l : List Order). set l place p) (ap book_of er ∙ book_set rows place o)
+          let back : rows₂ ≡ book =
+          e₂
+          ∙ ap (λ (l : List Order). set l place p) er
           ∙ set-set book place o p
           ∙ ap (set book place) (ep ∙ sym nobody)
           ∙ set-get_or book place free
           in
-          let told : ltb (length (trades_of lent)) (length (fixed_trades d a book)) ≡ true =
-          ap (λ n. ltb n (length (fixed_trades d a book))) (length-map lent trade_of)
-          ∙ ap (λ (l : List Trade). ltb (length lent) (length l)) (sym trades_are)
+          let told : ltb (length lent) (length (fixed_trades d a book)) ≡ true =
+          ap (λ (l : List Trade). ltb (length lent) (length l)) (sym trades_are)
           ∙ sym el
           ∙ short
           in
@@ -220,7 +215,7 @@ module _ (d : Day) (a : AskedFixed) (rows : List (List ℕ)) (place : ℕ) (w : 
         shares_are = ap (λ (x : Dealt). x.shares) e ∙ ap filled trades_are
 
         one_price_lem : Each (λ t. t.price ≡ close) (fixed_trades d a book)
-        one_price_lem = rw (sym trades_are) (matched_at close (keep (λ (o : Order). not (is_void close o)) (book_of rows₁)))
+        one_price_lem = rw (sym trades_are) (matched_at close (keep (λ (o : Order). not (is_void close o)) rows₁))
 
         entry_then :
             entry_of d a c.made c.shares
@@ -234,14 +229,14 @@ module _ (d : Day) (a : AskedFixed) (rows : List (List ℕ)) (place : ℕ) (w : 
         entry_then = rw (made_are, shares_are, one_level close (fixed_trades d a book) one_price_lem)
 
         book_then :
-            (rows₂ : List (List ℕ))
-            → book_of rows₂ ≡ lined (length rows₁) (settle ts (keep (λ o. not (is_void close o)) (book_of rows₁)))
-            → book_of rows₂ ≡ lined (length book) (settle (fixed_trades d a book) (arriving d a book))
+            (rows₂ : List Order)
+            → rows₂ ≡ lined (length rows₁) (settle ts (keep (λ o. not (is_void close o)) rows₁))
+            → rows₂ ≡ lined (length book) (settle (fixed_trades d a book) (arriving d a book))
         book_then rows₂ g =
             g
-            ∙ ap (λ n. lined n (settle ts (keep (λ (o : Order). not (is_void close o)) (book_of rows₁)))) (put_long ∙ sym (length-map rows order_of))
-            ∙ ap (λ (l : List Trade). lined (length book) (settle l (keep (λ (o : Order). not (is_void close o)) (book_of rows₁)))) trades_are
-            ∙ ap (λ x. lined (length book) (settle (fixed_trades d a book) (keep (λ (o : Order). not (is_void x o)) (book_of rows₁)))) at_close
+            ∙ ap (λ n. lined n (settle ts (keep (λ (o : Order). not (is_void close o)) rows₁))) (put_long)
+            ∙ ap (λ (l : List Trade). lined (length book) (settle l (keep (λ (o : Order). not (is_void close o)) rows₁))) trades_are
+            ∙ ap (λ x. lined (length book) (settle (fixed_trades d a book) (keep (λ (o : Order). not (is_void x o)) rows₁))) at_close
             ∙ ap (λ (l : List Order). lined (length book) (settle (fixed_trades d a book) (keep (λ (o : Order). not (is_void (close_price d) o)) l))) line_then
             ∙ entry_settles d a book w.ready fine w.numbers room late (fixed_trades d a book) (length book)
 
@@ -252,30 +247,29 @@ module _ (d : Day) (a : AskedFixed) (rows : List (List ℕ)) (place : ℕ) (w : 
             → day ≡ tally_fixed (fixed_trades d a book) (issue_fixed d)
         unfolding dealt
         day_then_lem {issued} {day} g h =
-            h (keep (λ (o : Order). not (is_void close o)) (book_of rows₁)) (sym (ap (λ (x : Dealt). x.shares) e))
+            h (keep (λ (o : Order). not (is_void close o)) rows₁) (sym (ap (λ (x : Dealt). x.shares) e))
             ∙ ap (λ (l : List Trade). tally_fixed l issued) trades_are
             ∙ ap (tally_fixed (fixed_trades d a book)) g
 
         pub matched_entry :
-            (rows₂ lent : List (List ℕ)) {entry : Entry} {issued day : Day} {out : List (List ℕ)} {lacks : Bool}
+            (rows₂ : List Order) (lent : List Trade) {entry : Entry} {issued day : Day} {out : List Trade} {lacks : Bool}
             → lacks ≡ ltb (length lent) (length ts)
             → lacks ≡ false
-            → out ≡ fitted (trade_rows ts) lent
-            → book_of rows₂ ≡ lined (length rows₁) (settle ts (keep (λ o. not (is_void close o)) (book_of rows₁)))
+            → out ≡ fitted ts lent
+            → rows₂ ≡ lined (length rows₁) (settle ts (keep (λ o. not (is_void close o)) rows₁))
             → entry ≡ entry_of d a c.made c.shares
             → issued ≡ issue_fixed d
             → ((os : List Order) → filled (matches close os) ≡ c.shares → day ≡ tally_fixed (matches close os) issued)
-            → call_left (record { reply = OrderReply.TheVariants.Accepted entry; made = c.made; day = day }) rows₂ out ≡ welcomed d a book (trades_of lent)
+            → call_left (record { reply = OrderReply.TheVariants.Accepted entry; made = c.made; day = day }) rows₂ out ≡ welcomed d a book lent
         unfolding welcomed fixed_entered
         matched_entry rows₂ lent {entry} {issued} {day} {out} {lacks} el long eo' eb ee ei ed =
             let fit : length ts ≤ length lent = ltb-false (length lent) (length ts) (sym el ∙ long) in
-            let told : ltb (length (trades_of lent)) (length (fixed_trades d a book)) ≡ false =
-            ap (λ n. ltb n (length (fixed_trades d a book))) (length-map lent trade_of)
-            ∙ ap (λ (l : List Trade). ltb (length lent) (length l)) (sym trades_are)
+            let told : ltb (length lent) (length (fixed_trades d a book)) ≡ false =
+            ap (λ (l : List Trade). ltb (length lent) (length l)) (sym trades_are)
             ∙ sym el
             ∙ long
             in
-            let list : trades_of out ≡ written (fixed_trades d a book) (trades_of lent) =
-            ap trades_of eo' ∙ fitted_written ts lent fit ∙ ap (λ (l : List Trade). written l (trades_of lent)) trades_are
+            let list : out ≡ written (fixed_trades d a book) lent =
+            eo' ∙ fitted_written ts lent fit ∙ ap (λ (l : List Trade). written l lent) trades_are
             in
             rw (told, ee, entry_then, made_are, list, book_then rows₂ eb, day_then_lem ei ed)

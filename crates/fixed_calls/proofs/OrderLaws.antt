@@ -17,11 +17,11 @@ use Rattle.model.specs.Refusals.{◌when◌, first_of, unsound, unsound_fixed}
 use Rattle.model.specs.Calls.{Outcome}
 use Rattle.model.specs.FixedCalls.{fixed_trades, fixed_rules, fixed_call}
 use Rattle.model.proofs.Rules.{given_by, passed_by, skip}
-use Rattle.book.specs.Rows.{book_of, trades_of}
 use Rattle.book.specs.Promises.{call_left, order_refused}
 use Rattle.fixed_book.proofs.Counting.{all_live}
 use Rattle.fixed_calls.specs.Rules.{asked_rules, book_rules, Welcome, welcomed}
 use Rattle.fixed_calls.proofs.AskedRules.{asked_numbered}
+use Rattle.model.specs.declared.Trade.{Trade}
 
 -- the rules of the definition, in its order
 pub fixed_groups :
@@ -82,19 +82,19 @@ module _ (d : Day) (a : AskedFixed) (main book : List Order) (room : ℕ) where
 
 -- ---- what the call comes to
 
-module _ (d : Day) (a : AskedFixed) (main : List Order) (rows trades : List (List ℕ)) where
+module _ (d : Day) (a : AskedFixed) (main : List Order) (rows : List Order) (trades : List Trade) where
   abbrev book : List Order
-  book = book_of rows
+  book = rows
 
   abbrev told : ℕ
-  told = first_of (fixed_rules d a main book (length (trades_of trades)))
+  told = first_of (fixed_rules d a main book (length trades))
 
   pub order_refused_lem :
       {n : ℕ} {r : OrderAnswer}
       → n ≡ told
       → (n ≡ 0 → ⊥)
       → r ≡ order_refused d n
-      → call_left r rows trades ≡ fixed_call d a main book (trades_of trades)
+      → call_left r rows trades ≡ fixed_call d a main book trades
   unfolding fixed_call
   order_refused_lem {n} {r} e z f = rw (f, ne_eqb told 0 (λ y. z (e ∙ y)), e)
 
@@ -103,20 +103,20 @@ module _ (d : Day) (a : AskedFixed) (main : List Order) (rows trades : List (Lis
       {place : ℕ} {left : Outcome OrderAnswer}
       → unsound d main ≡ false
       → Welcome d a book place
-      → left ≡ welcomed d a book (trades_of trades)
-      → left ≡ fixed_call d a main book (trades_of trades)
+      → left ≡ welcomed d a book trades
+      → left ≡ fixed_call d a main book trades
   unfolding welcomed fixed_call
-  order_welcomed {place} {left} u w e = go (ltb (length (trades_of trades)) (length (fixed_trades d a book))) refl
+  order_welcomed {place} {left} u w e = go (ltb (length trades) (length (fixed_trades d a book))) refl
     where
       some : d.fixed.issued ≡ 999_999 → ⊥
       some z = omega (arith, z, w.numbers)
 
-      go : (b : Bool) → ltb (length (trades_of trades)) (length (fixed_trades d a book)) ≡ b → left ≡ fixed_call d a main book (trades_of trades)
+      go : (b : Bool) → ltb (length trades) (length (fixed_trades d a book)) ≡ b → left ≡ fixed_call d a main book trades
       go true t =
-          let n : 13 ≡ told = too_many d a main book (length (trades_of trades)) u w.ready.sound w.asked w.behind w.free some t in
+          let n : 13 ≡ told = too_many d a main book (length trades) u w.ready.sound w.asked w.behind w.free some t in
           let z : eqb told 0 ≡ false = ne_eqb told 0 (λ y. omega (arith, n, y)) in
           rw t at e ∙ rw (z, ← n)
       go false t =
-          let n : 0 ≡ told = none_holds d a main book (length (trades_of trades)) u w.ready.sound w.asked w.behind w.free some t in
+          let n : 0 ≡ told = none_holds d a main book (length trades) u w.ready.sound w.asked w.behind w.free some t in
           let z : eqb told 0 ≡ true = eq-eqb told 0 (sym n) in
           rw t at e ∙ rw z

@@ -6,17 +6,14 @@ use Rattle.model.specs.declared.Day.{Day}
 use Rattle.model.specs.declared.OrderAnswer.{OrderAnswer}
 use Rattle.model.specs.declared.CancelReply.{CancelReply}
 use Rattle.model.specs.FixedCalls.{fixed_call, fixed_cancel_call}
-use Rattle.book.specs.Rows.{book_of, trades_of}
 use Rattle.book.specs.Promises.{call_left, fixed_cancel_left}
+use Rattle.model.specs.declared.Order.{Order}
+use Rattle.model.specs.declared.Trade.{Trade}
 
--- the rows of a book or of a trade list
-abbrev pub Rows : Type 0
-Rows = List (List ℕ)
-
-abbrev pub FixedPromise : Day → Rows → Rows → Rows → AskedFixed → OrderAnswer → Rows → Rows → Type 0
+abbrev pub FixedPromise : Day → List Order → List Order → List Trade → AskedFixed → OrderAnswer → List Order → List Trade → Type 0
 FixedPromise d main rows trades a answer rows' trades' =
-    call_left answer rows' trades' ≡ fixed_call d a (book_of main) (book_of rows) (trades_of trades)
+    call_left answer rows' trades' ≡ fixed_call d a main rows trades
 
-abbrev pub FixedCancelPromise : Day → Rows → Rows → ℕ → ℕ → CancelReply → Rows → Type 0
+abbrev pub FixedCancelPromise : Day → List Order → List Order → ℕ → ℕ → CancelReply → List Order → Type 0
 FixedCancelPromise d main rows account number reply rows' =
-    fixed_cancel_left reply rows' ≡ fixed_cancel_call d account number (book_of main) (book_of rows)
+    fixed_cancel_left reply rows' ≡ fixed_cancel_call d account number main rows

@@ -4,18 +4,20 @@ ghost use Rattle.model.specs.Lists.{keep};
 ghost use Rattle.model.specs.Figures.{issue_fixed};
 ghost use Rattle.model.specs.FixedBook.{is_void, matches};
 ghost use Rattle.model.specs.Calls.{ended};
-ghost use Rattle.book.specs.Rows.{book_of, trades_of};
 ghost use Rattle.book.specs.Promises.{call_left, order_refused};
 ghost use Rattle.fixed_book.specs.Ready.{Lined};
 ghost use Rattle.fixed_book.specs.Asked.{incoming};
 ghost use Rattle.fixed_calls.specs.Rules.{Welcome, welcomed};
 ghost use Rattle.fixed_calls.specs.Entries.{entry_of};
+ghost use Rattle.model.specs.declared.Trade.{Trade};
 
 use book::places::free_place;
 use book::put_order;
 use figures::reference_of;
 use fixed_book::{deal_at_close, settle_at_close, tally_fixed};
-use model::{AskedFixed, Day, Entry, MATCHING_FROM, Order, OrderAnswer, OrderReply, Remainder};
+use model::{
+    AskedFixed, Day, Entry, MATCHING_FROM, Order, OrderAnswer, OrderReply, Remainder, Trade,
+};
 
 pub fn fixed_refused(d: Day, n: u64) -> OrderAnswer
     ensures { result ≡ order_refused d n }
@@ -92,23 +94,22 @@ fn entry_of(d: Day, a: AskedFixed, made: usize, shares: u64) -> Entry
 
 // Whether the trades of the line at the close outnumber so many places. A line has fewer trades than places, so they are counted only
 // where the places are fewer: a list of none takes no trade, and all are counted.
-fn lacks_places(rows: &[[u64; 5]], places: usize, close: u64) -> bool
-    requires { Lined (book_of rows.now) }
-    ensures { result ≡ ltb places (length (matches close (keep (λ o. not (is_void close o)) (book_of rows.now)))) }
+fn lacks_places(rows: &[Order], places: usize, close: u64) -> bool
+    requires { Lined rows.now }
+    ensures { result ≡ ltb places (length (matches close (keep (λ o. not (is_void close o)) rows.now))) }
 {
     if rows.len() <= places {
         return false;
     }
-    let mut none = [[0; 6]; 1];
-    let counted = deal_at_close(rows, &mut none[..0], close);
+    let counted = deal_at_close(rows, &mut [], close);
     places < counted.made
 }
 
 // Before 15:05: it goes behind the others, and nothing trades.
-fn enter_early(d: Day, rows: &mut [[u64; 5]], a: AskedFixed, place: usize) -> OrderAnswer
-    requires welcome { Welcome d a (book_of rows.old) place }
+fn enter_early(d: Day, rows: &mut [Order], a: AskedFixed, place: usize) -> OrderAnswer
+    requires welcome { Welcome d a rows.old place }
     requires time_bound { d.time < 54_300 }
-    ensures { (lent : List (List ℕ)) → call_left result rows.new lent ≡ welcomed d a (book_of rows.old) (trades_of lent) }
+    ensures { (lent : List Trade) → call_left result rows.new lent ≡ welcomed d a rows.old lent }
 {
     put_order(&mut *rows, place, incoming_order(d, a));
     let entry = entry_of(d, a, 0, 0);
@@ -122,14 +123,14 @@ fn enter_early(d: Day, rows: &mut [[u64; 5]], a: AskedFixed, place: usize) -> Or
 // From 15:05 on: it goes behind the others, and the line matches at the close. Where its trades outnumber the lent list, it leaves again.
 fn enter_late(
     d: Day,
-    rows: &mut [[u64; 5]],
-    trades: &mut [[u64; 6]],
+    rows: &mut [Order],
+    trades: &mut [Trade],
     a: AskedFixed,
     place: usize,
 ) -> OrderAnswer
-    requires welcome { Welcome d a (book_of rows.old) place }
+    requires welcome { Welcome d a rows.old place }
     requires le_time { 54_300 ≤ d.time }
-    ensures { call_left result rows.new trades.new ≡ welcomed d a (book_of rows.old) (trades_of trades.old) }
+    ensures { call_left result rows.new trades.new ≡ welcomed d a rows.old trades.old }
 {
     let close = reference_of(d);
     put_order(&mut *rows, place, incoming_order(d, a));
@@ -151,13 +152,13 @@ fn enter_late(
 // Its trades are none, or those of the line at the close.
 pub fn enter(
     d: Day,
-    rows: &mut [[u64; 5]],
-    trades: &mut [[u64; 6]],
+    rows: &mut [Order],
+    trades: &mut [Trade],
     a: AskedFixed,
     place: usize,
 ) -> OrderAnswer
-    requires { Welcome d a (book_of rows.old) place }
-    ensures { call_left result rows.new trades.new ≡ welcomed d a (book_of rows.old) (trades_of trades.old) }
+    requires { Welcome d a rows.old place }
+    ensures { call_left result rows.new trades.new ≡ welcomed d a rows.old trades.old }
 {
     if d.time < MATCHING_FROM {
         return enter_early(d, &mut *rows, a, place);

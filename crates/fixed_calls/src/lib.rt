@@ -9,7 +9,6 @@ ghost use Rattle.std.specs.Prelude.{◌≡◌, false, List};
 ghost use Rattle.model.specs.declared.Order.{Order};
 ghost use Rattle.model.specs.Refusals.{unsound};
 ghost use Rattle.model.specs.FixedCalls.{fixed_call, fixed_cancel_call};
-ghost use Rattle.book.specs.Rows.{book_of, trades_of};
 ghost use Rattle.book.specs.Promises.{call_left, fixed_cancel_left};
 ghost use Rattle.fixed_book.specs.Ready.{FixedReady};
 ghost use Rattle.fixed_calls.specs.Promises.{FixedPromise, FixedCancelPromise};
@@ -20,18 +19,18 @@ use book::places::{free_place, place_of};
 use book::{order_at, put_order};
 use fixed_book::fixed_sound;
 use fixed_book::line::{line_up, orders_in};
-use model::{AskedFixed, CancelReply, Day, LAST_NUMBER, OrderAnswer};
+use model::{AskedFixed, CancelReply, Day, LAST_NUMBER, Order, OrderAnswer, Trade};
 use soundness::is_sound;
 
 // On a day and a book that its caller has shown to be sound: they are not tested again.
 pub fn fixed_order_sound(
     d: Day,
-    rows: &mut [[u64; 5]],
-    trades: &mut [[u64; 6]],
+    rows: &mut [Order],
+    trades: &mut [Trade],
     a: AskedFixed,
 ) -> OrderAnswer
-    requires { FixedReady d (book_of rows.old) }
-    ensures { (main : List Order) → unsound d main ≡ false → call_left result rows.new trades.new ≡ fixed_call d a main (book_of rows.old) (trades_of trades.old) }
+    requires { FixedReady d rows.old }
+    ensures { (main : List Order) → unsound d main ≡ false → call_left result rows.new trades.new ≡ fixed_call d a main rows.old trades.old }
 {
     let refusal = asked_refusal(d, a);
     if refusal != 0 {
@@ -51,9 +50,9 @@ pub fn fixed_order_sound(
 }
 
 // On a day and a book that its caller has shown to be sound: they are not tested again.
-pub fn fixed_cancel_sound(d: Day, rows: &mut [[u64; 5]], account: u64, number: u64) -> CancelReply
-    requires { FixedReady d (book_of rows.old) }
-    ensures { (main : List Order) → unsound d main ≡ false → fixed_cancel_left result rows.new ≡ fixed_cancel_call d account number main (book_of rows.old) }
+pub fn fixed_cancel_sound(d: Day, rows: &mut [Order], account: u64, number: u64) -> CancelReply
+    requires { FixedReady d rows.old }
+    ensures { (main : List Order) → unsound d main ≡ false → fixed_cancel_left result rows.new ≡ fixed_cancel_call d account number main rows.old }
 {
     // 19: outside the hours
     if !long_hours(d.time) {
@@ -72,9 +71,9 @@ pub fn fixed_cancel_sound(d: Day, rows: &mut [[u64; 5]], account: u64, number: u
 
 pub fn fixed_order_call(
     d: Day,
-    main: &[[u64; 5]],
-    rows: &mut [[u64; 5]],
-    trades: &mut [[u64; 6]],
+    main: &[Order],
+    rows: &mut [Order],
+    trades: &mut [Trade],
     a: AskedFixed,
 ) -> OrderAnswer
     ensures { FixedPromise d main.now rows.old trades.old a result rows.new trades.new }
@@ -90,8 +89,8 @@ pub fn fixed_order_call(
 
 pub fn fixed_cancel_call(
     d: Day,
-    main: &[[u64; 5]],
-    rows: &mut [[u64; 5]],
+    main: &[Order],
+    rows: &mut [Order],
     account: u64,
     number: u64,
 ) -> CancelReply

@@ -14,6 +14,8 @@ use Rattle.floors.specs.Floor.{command_answer, wish_answer, no_floor}
 use Rattle.wishes.specs.Wishes.{floor}
 use Rattle.floor_chunks.proofs.SoundFloors.{SoundFloor}
 use Rattle.floor.specs.Serving.{Reached}
+use Rattle.model.specs.declared.Order.{Order}
+use Rattle.judge.specs.declared.Claim.{Claim}
 
 pub refused_16 : (wish_answer (Says Malformed) no_floor).text ≡ refusal_line 16
 unfolding answer command_answer wish_answer no_floor
@@ -24,7 +26,7 @@ unfolding no_floor
 first_sound = tt
 
 pub at_first :
-    (rows claims : List (List ℕ)) (buf : List ℕ)
+    (rows : List Order) (claims : List Claim) (buf : List ℕ)
     → Reached rows claims buf (record { desk = Closed; noted = 0; kept = 0; long = false; stops = false })
 unfolding no_floor
 at_first rows claims buf = at_outset floor no_floor buf

@@ -16,6 +16,8 @@ use crate::AfterChunk;
 use crate::memory::{claim_list, output, places, trade_list};
 use desk::Desk;
 use floor_chunks::{FloorProgress, answer_lines};
+use judge::Claim;
+use model::{Order, Trade};
 use printing::put_refusal;
 use std::io::{Read, Write};
 use streams::{Input, Streams, fill, large_buffer, tell, write_or_tell};
@@ -42,9 +44,9 @@ fn reply<R, W: Write, E: Write>(streams: &mut Streams<R, W, E>, text: &[u8]) -> 
 fn answer_chunk<R, W: Write, E: Write>(
     from: FloorProgress,
     streams: &mut Streams<R, W, E>,
-    rows: &mut [[u64; 5]],
-    trades: &mut [[u64; 6]],
-    claims: &mut [[u64; 3]],
+    rows: &mut [Order],
+    trades: &mut [Trade],
+    claims: &mut [Claim],
     chunk: &[u8],
     out: &mut [u8],
 ) -> FloorProgress
@@ -71,9 +73,9 @@ fn answer_chunk<R, W: Write, E: Write>(
 fn serve<R, W: Write, E: Write>(
     h: AfterChunk,
     streams: &mut Streams<R, W, E>,
-    rows: &mut [[u64; 5]],
-    trades: &mut [[u64; 6]],
-    claims: &mut [[u64; 3]],
+    rows: &mut [Order],
+    trades: &mut [Trade],
+    claims: &mut [Claim],
     buf: &mut [u8],
     n: usize,
     out: &mut [u8],
@@ -140,9 +142,9 @@ fn finish<R, W: Write, E: Write>(
 fn turn<R: Read, W: Write, E: Write>(
     h: AfterChunk,
     streams: &mut Streams<R, W, E>,
-    rows: &mut [[u64; 5]],
-    trades: &mut [[u64; 6]],
-    claims: &mut [[u64; 3]],
+    rows: &mut [Order],
+    trades: &mut [Trade],
+    claims: &mut [Claim],
     buf: &mut [u8],
     out: &mut [u8],
 ) -> AfterChunk

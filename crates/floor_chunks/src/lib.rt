@@ -11,6 +11,8 @@ ghost use Rattle.floor_chunks.specs.Points.{point_of, past_line};
 use desk::{Desk, LONGEST_ANSWER};
 use floor_desk::FloorAnswered;
 use floor_desk::answering::answer_wish;
+use judge::Claim;
+use model::{Order, Trade};
 use text::Bounds;
 use text::reading::line_from;
 use wishes::wish_after;
@@ -45,9 +47,9 @@ fn past_line(a: FloorAnswered, place: usize) -> FloorProgress
 // Goes on from a place of the chunk until no line is left, or the output might not hold another answer.
 pub fn answer_lines(
     from: FloorProgress,
-    rows: &mut [[u64; 5]],
-    trades: &mut [[u64; 6]],
-    claims: &mut [[u64; 3]],
+    rows: &mut [Order],
+    trades: &mut [Trade],
+    claims: &mut [Claim],
     chunk: &[u8],
     out: &mut [u8],
 ) -> FloorProgress

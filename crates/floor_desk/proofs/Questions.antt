@@ -22,7 +22,6 @@ use Rattle.judge.specs.declared.Claim.{Claim}
 use Rattle.judge.specs.declared.Verdict.{Verdict}
 use Rattle.judge.specs.declared.Verdict.TheVariants.{Refused, Yes, No}
 use Rattle.judge.specs.Judging.{judge_call, verdict_numbers}
-use Rattle.judge.specs.Promises.{claim_of, claims_of}
 use Rattle.auction.specs.declared.Run.{Run}
 use Rattle.day.specs.declared.auctions.Listing as Listing
 use Rattle.day.specs.Listings.{list_run, list_reply, list_prices}
@@ -87,17 +86,14 @@ refusal_within r h w = line_within w (listed_fits r) (omega arith)
 
 -- ---- claims
 
-noted_long : (claims : List (List ℕ)) (noted : ℕ) → noted ≤ length claims → length (noted_in claims noted) ≡ noted
-noted_long claims noted h = length-map (take noted claims) claim_of ∙ length-take-le noted claims h
+noted_long : (claims : List Claim) (noted : ℕ) → noted ≤ length claims → length (noted_in claims noted) ≡ noted
+noted_long claims noted h = length-take-le noted claims h
 
 noted_more :
-    (claims : List (List ℕ)) (noted : ℕ) (c : Claim)
+    (claims : List Claim) (noted : ℕ) (c : Claim)
     → noted < length claims
-    → noted_in (set claims noted (c.shares ∷ c.buyer ∷ c.seller ∷ [])) (noted + 1) ≡ noted_in claims noted ++ (c ∷ [])
-noted_more claims noted c h =
-    let row : List ℕ = c.shares ∷ c.buyer ∷ c.seller ∷ [] in
-    let e : take (noted + 1) (set claims noted row) ≡ take noted claims ++ (row ∷ []) = rw add-one (take-suc-set claims noted row h) in
-    ap claims_of e ∙ map-append claim_of (take noted claims) (row ∷ [])
+    → noted_in (set claims noted c) (noted + 1) ≡ noted_in claims noted ++ (c ∷ [])
+noted_more claims noted c h = rw add-one (take-suc-set claims noted c h)
 
 verdict_fits : (v : Verdict) → length (reply_line 74 (verdict_numbers v)) ≤ 110
 unfolding verdict_numbers
@@ -105,14 +101,14 @@ verdict_fits (Refused n) = answer_fits 74 n (0 ∷ []) (omega arith)
 verdict_fits Yes = answer_fits 74 0 (1 ∷ []) (omega arith)
 verdict_fits No = answer_fits 74 0 (0 ∷ []) (omega arith)
 
-module _ {before after : List ℕ} {at : ℕ} (claims : List (List ℕ)) (noted : ℕ) where
+module _ {before after : List ℕ} {at : ℕ} (claims : List Claim) (noted : ℕ) where
   module _ (c : Claim) (full : length claims ≡ 4_096) (room : at + 110 ≤ length before) (s : Desk) where
     pub claim_noted :
         (n next : ℕ)
         → noted < length claims
         → n ≡ noted + 1
         → Wrote before at (reply 81 (n ∷ [])) after next
-        → Replied (Claims c) s claims noted before at (set claims noted (c.shares ∷ c.buyer ∷ c.seller ∷ [])) after (record { noted = n; next = next })
+        → Replied (Claims c) s claims noted before at (set claims noted c) after (record { noted = n; next = next })
     unfolding question_text noted_then
     claim_noted n next h e w =
         let l : length (noted_in claims noted) ≡ noted = noted_long claims noted (omega arith) in
@@ -181,7 +177,7 @@ module _ {before after : List ℕ} {at : ℕ} (claims : List (List ℕ)) (noted 
 
 -- the question is the one that it was taken for
 pub as_question :
-    {q x : Question} {s : Desk} {claims claims' : List (List ℕ)} {noted : ℕ} {before after : List ℕ} {at : ℕ} {r : Told}
+    {q x : Question} {s : Desk} {claims claims' : List Claim} {noted : ℕ} {before after : List ℕ} {at : ℕ} {r : Told}
     → q ≡ x
     → Replied x s claims noted before at claims' after r
     → Replied q s claims noted before at claims' after r

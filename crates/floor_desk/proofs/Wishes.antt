@@ -1,4 +1,5 @@
 -- What a line of ./floor is answered with, as the definitions have it: a line of ./run, and a question with a day and without. Assumes nothing.
+use Rattle.model.specs.declared.Order as Orders
 use Prim.Native.Nat.{ℕ, ◌+◌, ◌≤◌}
 use mathlib.Core.Path.{◌≡◌, refl, sym, ap, ap₂, subst, ◌∙◌}
 use mathlib.Core.Bool.{Bool, true, false, cond, ◌&&◌}
@@ -19,7 +20,6 @@ use Rattle.model.specs.Calls.{open_rules, open_call}
 use Rattle.model.specs.Lines.{refusal_line}
 use Rattle.model.specs.Session as Session
 use Rattle.model.specs.Session.{lent_places}
-use Rattle.book.specs.Rows.{book_of}
 use Rattle.judge.specs.declared.Claim.{Claim}
 use Rattle.printing.specs.Printing.{Wrote}
 use Rattle.printing.proofs.Printed.{line_within}
@@ -35,6 +35,7 @@ use Rattle.floors.specs.Floor.{noted_after, command_answer, question_answer, wis
 use Rattle.floor_desk.specs.declared.Told.{Told}
 use Rattle.floor_desk.specs.declared.FloorAnswered.{FloorAnswered}
 use Rattle.floor_desk.specs.Floors.{noted_in, starts_over, noted_past, Replied, Leaves}
+use Rattle.model.specs.declared.Trade.{Trade}
 
 -- ---- a new day
 
@@ -73,7 +74,7 @@ module _ {c : Command} {e : Event} {close mark : ℕ} (is : c ≡ Asks e) (told 
   unfolding starts_over
   opens_not p = rw (is, told, p)
 
-kept_past : (c : Command) (claims : List (List ℕ)) (noted : ℕ) → noted_in claims (noted_past c noted) ≡ noted_after c (noted_in claims noted)
+kept_past : (c : Command) (claims : List Claim) (noted : ℕ) → noted_in claims (noted_past c noted) ≡ noted_after c (noted_in claims noted)
 kept_past c claims noted = go (starts_over c) ∙ sym (noted_past_lem c (noted_in claims noted))
   where
     go : (b : Bool) → noted_in claims (cond b 0 noted) ≡ cond b [] (noted_in claims noted)
@@ -92,9 +93,9 @@ past_few c noted h = go (starts_over c)
 abbrev floor_with : Option Session.Desk → List Claim → Floor.Floor
 floor_with x cs = record { desk = x; noted = cs }
 
-module _ {before after : List ℕ} {at : ℕ} (k : Desk.Desk) (rows claims : List (List ℕ)) (noted : ℕ) (few : noted ≤ 4_096) where
+module _ {before after : List ℕ} {at : ℕ} (k : Desk.Desk) (rows : List Orders.Order) (claims : List Claim) (noted : ℕ) (few : noted ≤ 4_096) where
   pub said_leaves :
-      (c : Command) {trades rows' trades' : List (List ℕ)} {a : desk.Answered} (kept : ℕ)
+      (c : Command) {trades : List Trade} {rows' : List Orders.Order} {trades' : List Trade} {a : desk.Answered} (kept : ℕ)
       → Answering c k rows trades before at rows' trades' after a
       → kept ≡ noted_past c noted
       → Leaves (Says c) k rows claims noted before at rows' claims after (record { desk = a.desk; noted = kept; next = a.next })
@@ -124,21 +125,21 @@ module _ {before after : List ℕ} {at : ℕ} (k : Desk.Desk) (rows claims : Lis
     }
 
     pub asked_leaves :
-        {d : Day} {claims' : List (List ℕ)} {told : Told}
+        {d : Day} {claims' : List Claim} {told : Told}
         → k ≡ Desk.TheVariants.Open d
-        → Replied q (record { day = d; book = book_of rows }) claims noted before at claims' after told
+        → Replied q (record { day = d; book = rows }) claims noted before at claims' after told
         → Leaves (Wants q) k rows claims noted before at rows claims' after (record { desk = Desk.TheVariants.Open d; noted = told.noted; next = told.next })
     unfolding wish_answer question_answer
     asked_leaves {d} e r = record {
       text = rw e r.text;
       fits = r.fits;
-      floor = rw e (ap (λ (cs : List Claim). floor_with (some (record { day = d; book = book_of rows })) cs) r.kept);
+      floor = rw e (ap (λ (cs : List Claim). floor_with (some (record { day = d; book = rows })) cs) r.kept);
       few = r.few;
     }
 
 -- the line asks for what it was taken to ask for
 pub as_wish :
-    {w x : Wish} {k : Desk.Desk} {rows claims rows' claims' : List (List ℕ)} {noted : ℕ} {before after : List ℕ} {at : ℕ} {r : FloorAnswered}
+    {w x : Wish} {k : Desk.Desk} {rows : List Orders.Order} {claims : List Claim} {rows' : List Orders.Order} {claims' : List Claim} {noted : ℕ} {before after : List ℕ} {at : ℕ} {r : FloorAnswered}
     → w ≡ x
     → Leaves x k rows claims noted before at rows' claims' after r
     → Leaves w k rows claims noted before at rows' claims' after r

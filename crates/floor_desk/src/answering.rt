@@ -10,8 +10,9 @@ use crate::asking::answer_question;
 use desk::Desk;
 use desk::answering::answer_command;
 use floors::{Question, Wish};
+use judge::Claim;
 use limits::is_price;
-use model::{Command, Event};
+use model::{Command, Event, Order, Trade};
 use printing::put_refusal;
 
 // Whether a line opens a new day.
@@ -45,9 +46,9 @@ fn noted_after(c: Command, noted: usize) -> usize
 // What ./run reads in a line is answered as ./run answers it.
 fn answer_said(
     desk: Desk,
-    rows: &mut [[u64; 5]],
-    trades: &mut [[u64; 6]],
-    claims: &[[u64; 3]],
+    rows: &mut [Order],
+    trades: &mut [Trade],
+    claims: &[Claim],
     noted: usize,
     c: Command,
     out: &mut [u8],
@@ -69,8 +70,8 @@ fn answer_said(
 // A question where no day is open is 17.
 fn answer_asked(
     desk: Desk,
-    rows: &[[u64; 5]],
-    claims: &mut [[u64; 3]],
+    rows: &[Order],
+    claims: &mut [Claim],
     noted: usize,
     q: Question,
     out: &mut [u8],
@@ -94,9 +95,9 @@ fn answer_asked(
 // The answer to any line.
 pub fn answer_wish(
     desk: Desk,
-    rows: &mut [[u64; 5]],
-    trades: &mut [[u64; 6]],
-    claims: &mut [[u64; 3]],
+    rows: &mut [Order],
+    trades: &mut [Trade],
+    claims: &mut [Claim],
     noted: usize,
     w: Wish,
     out: &mut [u8],

@@ -2,9 +2,7 @@
 ghost use Rattle.std.specs.Prelude.{◌≡◌, ◌+◌, ◌≤◌, min, length, take};
 ghost use Rattle.model.specs.AuctionCalls.{list_call};
 ghost use Rattle.model.specs.Session.{Desk};
-ghost use Rattle.book.specs.Rows.{book_of};
 ghost use Rattle.printing.specs.Printing.{Wrote};
-ghost use Rattle.judge.specs.Promises.{claims_of};
 ghost use Rattle.floors.specs.declared.Question.TheVariants.{Claims};
 ghost use Rattle.floors.specs.Floor.{list_lines, lent_prices};
 ghost use Rattle.floor_desk.specs.Floors.{Replied, verdict_line};
@@ -16,7 +14,7 @@ use floor_printing::{put_listed, put_noted, put_prices, put_report, put_verdict}
 use floors::{MOST_LISTED, Question};
 use judge::Claim;
 use judging::calls::judge_call;
-use model::Day;
+use model::{Day, Order};
 use printing::put_refusal;
 
 // So many places are lent to a price list.
@@ -30,16 +28,9 @@ fn lent_places(count: u64) -> usize
 }
 
 // The prices come first.
-fn answer_prices(
-    d: Day,
-    rows: &[[u64; 5]],
-    asked: u64,
-    count: u64,
-    out: &mut [u8],
-    at: usize,
-) -> usize
+fn answer_prices(d: Day, rows: &[Order], asked: u64, count: u64, out: &mut [u8], at: usize) -> usize
     requires { at + 94318 ≤ length out.old }
-    ensures { Wrote out.old at (list_lines (list_call d asked (book_of rows.now) (lent_prices count))) out.new result × (result ≤ length out.new) }
+    ensures { Wrote out.old at (list_lines (list_call d asked rows.now (lent_prices count))) out.new result × (result ≤ length out.new) }
 {
     let told = list_run(d, rows, lent_places(count), asked);
     let reply = list_reply(told);
@@ -53,13 +44,12 @@ fn answer_prices(
 }
 
 // A claim is noted while there is room.
-fn answer_claim(claims: &mut [[u64; 3]], noted: usize, c: Claim, out: &mut [u8], at: usize) -> Told
+fn answer_claim(claims: &mut [Claim], noted: usize, c: Claim, out: &mut [u8], at: usize) -> Told
     requires { (length claims.old ≡ 4096) × (noted ≤ 4096) × (at + 110 ≤ length out.old) }
     ensures { (s : Desk) → Replied (Claims c) s claims.old noted out.old at claims.new out.new result }
 {
     if noted < claims.len() {
-        let row = [c.shares, c.buyer, c.seller];
-        claims[noted] = row;
+        claims[noted] = c;
         let n = noted + 1;
         let next = put_noted(n as u64, out, at);
         return Told { noted: n, next };
@@ -71,15 +61,15 @@ fn answer_claim(claims: &mut [[u64; 3]], noted: usize, c: Claim, out: &mut [u8],
 // The verdict on the claims that are noted.
 fn answer_verdict(
     d: Day,
-    rows: &[[u64; 5]],
-    claims: &[[u64; 3]],
+    rows: &[Order],
+    claims: &[Claim],
     noted: usize,
     price: u64,
     out: &mut [u8],
     at: usize,
 ) -> usize
     requires { (noted ≤ length claims.now) × (at + 110 ≤ length out.old) }
-    ensures { Wrote out.old at (verdict_line d price (book_of rows.now) (claims_of (take noted claims.now))) out.new result }
+    ensures { Wrote out.old at (verdict_line d price rows.now (take noted claims.now)) out.new result }
 {
     let told = judge_call(d, rows, &claims[..noted], price);
     put_verdict(told, out, at)
@@ -88,15 +78,15 @@ fn answer_verdict(
 // The answer to any question.
 pub fn answer_question(
     d: Day,
-    rows: &[[u64; 5]],
-    claims: &mut [[u64; 3]],
+    rows: &[Order],
+    claims: &mut [Claim],
     noted: usize,
     q: Question,
     out: &mut [u8],
     at: usize,
 ) -> Told
     requires { (length claims.old ≡ 4096) × (noted ≤ 4096) × (at + 94318 ≤ length out.old) }
-    ensures { Replied q (record { day = d; book = book_of rows.now }) claims.old noted out.old at claims.new out.new result }
+    ensures { Replied q (record { day = d; book = rows.now }) claims.old noted out.old at claims.new out.new result }
 {
     match q {
         Question::Report => {

@@ -3,13 +3,12 @@
 #![tactic(auto)]
 
 ghost use Rattle.std.specs.Prelude.{◌≡◌, ◌≤◌};
-ghost use Rattle.book.specs.Rows.{book_of};
 ghost use Rattle.soundness.specs.Ready.{Ready};
 ghost use Rattle.foreseen.specs.Foreseen.{foreseen};
 
 use auction::price::auction_price;
 use figures::reference_of;
-use model::Day;
+use model::{Day, Order};
 use moves::holding::auction_trades;
 use moves::stops::next_stop;
 
@@ -20,17 +19,16 @@ pub struct Foreseen {
 }
 
 // The first auction on the way has all trades: after it no buy reaches a sell.
-pub fn foresee(d: Day, rows: &[[u64; 5]], time: u64) -> Foreseen
-    requires ready { Ready d (book_of rows.now) }
+pub fn foresee(d: Day, rows: &[Order], time: u64) -> Foreseen
+    requires ready { Ready d rows.now }
     requires time_le_time { d.time ≤ time }
-    ensures { result ≡ foreseen d time (book_of rows.now) }
+    ensures { result ≡ foreseen d time rows.now }
 {
     let close = reference_of(d);
     if next_stop(d.halt, d.time, time) == 0 {
         return Foreseen { trades: 0, close };
     }
-    let mut none = [[0; 6]; 1];
-    let counted = auction_trades(d, rows, &mut none[..0]);
+    let counted = auction_trades(d, rows, &mut []);
     if counted.shares == 0 {
         return Foreseen { trades: 0, close };
     }

@@ -12,12 +12,12 @@ use Rattle.model.specs.declared.Day.{Day}
 use Rattle.model.specs.Lists.{any}
 use Rattle.model.specs.Figures.{open_price}
 use Rattle.model.specs.Halts.{away, reach, halt_end, halting, fires, fired}
-use Rattle.book.specs.Rows.{trade_of, trades_of}
 use Rattle.model.specs.Words.{Each}
 use Rattle.book.proofs.Lists.{each_drop}
 use Rattle.book.proofs.Memory.{trades_from}
-use Rattle.book.proofs.Written.{trades_drop}
 use Rattle.halts.specs.Priced.{Priced}
+use Rattle.model.specs.Matching.{no_trade}
+use Rattle.model.specs.declared.Order.{Order}
 
 -- ---- one price
 
@@ -32,19 +32,19 @@ module _ (percent opened p : ℕ) where
 
 -- ---- the first n trades of a list, one after the other
 
-module _ (percent : ℕ) (d : Day) (rows : List (List ℕ)) (n i : ℕ) where
+module _ (percent : ℕ) (d : Day) (rows : List Trade) (n i : ℕ) where
   abbrev later : ℕ → List Trade
-  later j = trades_of (drop j (take n rows))
+  later j = (drop j (take n rows))
 
-  module _ (h : i < n) (l : n ≤ length rows) {t : Trade} (e : t ≡ trade_of (get_or rows i [])) where
+  module _ (h : i < n) (l : n ≤ length rows) {t : Trade} (e : t ≡ get_or rows i no_trade) where
     begins : later i ≡ t ∷ later (i + 1)
     begins = trades_from rows n i h l ∙ ap (λ (x : Trade). x ∷ later (i + 1)) (sym e)
 
-    pub price_at : Priced d (trades_of (take n rows)) → t.price ≤ 999_999
-    price_at p = first (each_drop (λ (x : Trade). x.price ≤ 999_999) i (trades_of (take n rows)) p.trades)
+    pub price_at : Priced d (take n rows) → t.price ≤ 999_999
+    price_at p = first (each_drop (λ (x : Trade). x.price ≤ 999_999) i (take n rows) p.trades)
       where
-        first : Each (λ (x : Trade). x.price ≤ 999_999) (drop i (trades_of (take n rows))) → t.price ≤ 999_999
-        first f = (rw (sym (trades_drop i (take n rows)) ∙ begins) at f).0
+        first : Each (λ (x : Trade). x.price ≤ 999_999) (drop i (take n rows)) → t.price ≤ 999_999
+        first f = (rw (begins) at f).0
 
     module _ {b : Bool} (a : b ≡ away percent d.first t.price) where
       pub reach_here : b ≡ true → true ≡ reach percent (later i) d

@@ -2,12 +2,11 @@
 ghost use Rattle.std.specs.Prelude.{◌≡◌, ◌≤◌, length, take};
 ghost use Rattle.model.specs.Halts as halts;
 ghost use Rattle.model.specs.Halts.{away, reach, fired};
-ghost use Rattle.book.specs.Rows.{trades_of};
 ghost use Rattle.halts.specs.Priced.{Priced};
 
 use crate::ends::halt_end;
 use book::trade_at;
-use model::Day;
+use model::{Day, Trade};
 
 // So many percent away from the open, up or down. Two products are compared, so nothing is rounded.
 fn is_away(percent: u64, opened: u64, price: u64) -> bool
@@ -20,11 +19,11 @@ fn is_away(percent: u64, opened: u64, price: u64) -> bool
 }
 
 // Whether one of the first n trades of the list is.
-fn reaches(percent: u64, day: Day, trades: &[[u64; 6]], n: usize) -> bool
+fn reaches(percent: u64, day: Day, trades: &[Trade], n: usize) -> bool
     requires percent_bound { percent ≤ 100 }
     requires n_in_bounds { n ≤ length trades.now }
-    requires priced { Priced day (trades_of (take n trades.now)) }
-    ensures { result ≡ reach percent (trades_of (take n trades.now)) day }
+    requires priced { Priced day (take n trades.now) }
+    ensures { result ≡ reach percent (take n trades.now) day }
 {
     let mut i = 0;
     while i < n {
@@ -38,10 +37,10 @@ fn reaches(percent: u64, day: Day, trades: &[[u64; 6]], n: usize) -> bool
 }
 
 // Each threshold fires once a day, on unlimited days.
-fn fires(day: Day, trades: &[[u64; 6]], n: usize) -> bool
+fn fires(day: Day, trades: &[Trade], n: usize) -> bool
     requires n_in_bounds { n ≤ length trades.now }
-    requires priced { Priced day (trades_of (take n trades.now)) }
-    ensures { result ≡ halts.fires (trades_of (take n trades.now)) day }
+    requires priced { Priced day (take n trades.now) }
+    ensures { result ≡ halts.fires (take n trades.now) day }
 {
     if day.limited != 0 {
         return false;
@@ -53,11 +52,11 @@ fn fires(day: Day, trades: &[[u64; 6]], n: usize) -> bool
 }
 
 // The day, with the first n trades of the list among its figures: where they fire, a halt begins at this second.
-pub fn fire(day: Day, trades: &[[u64; 6]], n: usize, second: u64) -> Day
+pub fn fire(day: Day, trades: &[Trade], n: usize, second: u64) -> Day
     requires second_bound { second ≤ 86_399 }
     requires n_in_bounds { n ≤ length trades.now }
-    requires priced { Priced day (trades_of (take n trades.now)) }
-    ensures { result ≡ fired second (trades_of (take n trades.now)) day }
+    requires priced { Priced day (take n trades.now) }
+    ensures { result ≡ fired second (take n trades.now) day }
 {
     if !fires(day, trades, n) {
         return day;

@@ -8,8 +8,6 @@ use lib.ListN.{length, get_or, take, drop, set, length-set, length-drop, length-
 use lib.Seq.{drop-drop, drop-set-lt, get_or-drop, take-suc, take-suc-set, take_all}
 use Rattle.model.specs.declared.Declaration.{Declaration}
 use Rattle.model.specs.Blocks.{undeclared}
-use Rattle.book.specs.Rows.{declaration_of, declaration_row, held_of}
-use Rattle.declarations.proofs.Memory.{held_at, held_set}
 
 -- those before `at` have moved up, the others still stand
 pub record MovedUp {A : Type 0} (xs₀ : List A) (place : ℕ) (xs : List A) (at : ℕ) : Type 0 where
@@ -75,45 +73,44 @@ module _ {A : Type 0} (none : A) (xs₀ : List A) (place : ℕ) where
 -- ---- on rows
 
 -- the declarations of the rows when those before `at` have moved up
-pub record Leaving (rows₀ : List (List ℕ)) (place : ℕ) (rows : List (List ℕ)) (at : ℕ) : Type 0 where
-  pub moved : MovedUp (held_of rows₀) place (held_of rows) at
+pub record Leaving (rows₀ : List Declaration) (place : ℕ) (rows : List Declaration) (at : ℕ) : Type 0 where
+  pub moved : MovedUp rows₀ place rows at
   pub long : length rows ≡ length rows₀
 
-module _ (rows₀ : List (List ℕ)) (place : ℕ) where
+module _ (rows₀ : List Declaration) (place : ℕ) where
   pub leaving_start : place < length rows₀ → Leaving rows₀ place rows₀ place
   leaving_start h =
       record {
-        moved = moved_start undeclared (held_of rows₀) place (omega (arith, length-map rows₀ declaration_of));
+        moved = moved_start undeclared rows₀ place (omega arith);
         long = refl;
       }
 
-  module _ {rows : List (List ℕ)} {at : ℕ} (l : Leaving rows₀ place rows at) where
+  module _ {rows : List Declaration} {at : ℕ} (l : Leaving rows₀ place rows at) where
     pub leaving_inside : at < length rows
-    leaving_inside = omega (arith, l.moved.most, l.long, length-map rows₀ declaration_of)
+    leaving_inside = omega (arith, l.moved.most, l.long)
 
     pub leaving_next :
-        {x : Declaration} {rows' : List (List ℕ)}
+        {x : Declaration} {rows' : List Declaration}
         → at + 1 < length rows
-        → x ≡ declaration_of (get_or rows (at + 1) [])
-        → rows' ≡ set rows at (declaration_row x)
+        → x ≡ get_or rows (at + 1) undeclared
+        → rows' ≡ set rows at x
         → Leaving rows₀ place rows' (at + 1)
     leaving_next {x} {rows'} h e g =
-        let same : held_of rows' ≡ set (held_of rows) at x = ap held_of g ∙ held_set rows at x in
+        let same : rows' ≡ set rows at x = g in
         record {
           moved =
               rw same
-              (moved_next undeclared (held_of rows₀) place l.moved x (omega (arith, length-map rows declaration_of)) (e ∙ held_at rows (at + 1)));
-          long = ap length g ∙ length-set rows at (declaration_row x) ∙ l.long;
+              (moved_next undeclared rows₀ place l.moved x (omega arith) (e));
+          long = ap length g ∙ length-set rows at x ∙ l.long;
         }
 
     pub leaving_end :
-        {x : Declaration} {rows' : List (List ℕ)}
+        {x : Declaration} {rows' : List Declaration}
         → length rows ≤ at + 1
         → x ≡ undeclared
-        → rows' ≡ set rows at (declaration_row x)
-        → held_of rows' ≡ take place (held_of rows₀) ++ (drop (place + 1) (held_of rows₀) ++ (undeclared ∷ []))
+        → rows' ≡ set rows at x
+        → rows' ≡ take place rows₀ ++ (drop (place + 1) rows₀ ++ (undeclared ∷ []))
     leaving_end {x} h e g =
-        ap held_of g
-        ∙ held_set rows at x
-        ∙ ap (set (held_of rows) at) e
-        ∙ moved_end undeclared (held_of rows₀) place l.moved (omega (arith, length-map rows declaration_of))
+        g
+        ∙ ap (set rows at) e
+        ∙ moved_end undeclared rows₀ place l.moved (omega arith)

@@ -13,6 +13,7 @@ use Rattle.model.specs.Blocks.{undeclared, is_held}
 use Rattle.model.specs.Words.{Each}
 use Rattle.book.proofs.Lists.{length_keep, none_kept}
 use Rattle.arrivals.proofs.Lines.{InLine, taken_number, untaken_number, taken_before, before_taken, all_taken}
+use Rattle.model.specs.Book.{free}
 
 abbrev pub number_of : Declaration → ℕ
 number_of x = x.number

@@ -2,7 +2,6 @@
 ghost use Rattle.std.specs.Prelude.{◌≡◌, [], ◌∷◌, ◌++◌, ◌+◌, ◌<◌, length, take, drop};
 ghost use Rattle.model.specs.Lists.{keep};
 ghost use Rattle.model.specs.Blocks.{undeclared, is_held};
-ghost use Rattle.book.specs.Rows.{held_of};
 ghost use Rattle.declarations.specs.Declared.{Declared};
 ghost use Rattle.held.specs.Meeting.{earliest};
 
@@ -11,9 +10,9 @@ use declarations::{declaration_at, fit, no_declaration, put_declaration};
 use model::Declaration;
 
 // How many are held. They stand first, so that is also the first free place.
-pub fn count_held(rows: &[[u64; 7]]) -> usize
-    requires { Declared (held_of rows.now) }
-    ensures { result ≡ length (keep is_held (held_of rows.now)) }
+pub fn count_held(rows: &[Declaration]) -> usize
+    requires { Declared rows.now }
+    ensures { result ≡ length (keep is_held rows.now) }
 {
     let mut i = 0;
     while i < rows.len() {
@@ -26,8 +25,8 @@ pub fn count_held(rows: &[[u64; 7]]) -> usize
 }
 
 // The place of the earliest declaration that this one fits, or the number of places where there is none.
-pub fn earliest_fit(rows: &[[u64; 7]], x: Declaration) -> usize
-    ensures { result ≡ earliest x (held_of rows.now) }
+pub fn earliest_fit(rows: &[Declaration], x: Declaration) -> usize
+    ensures { result ≡ earliest x rows.now }
 {
     let mut i = 0;
     while i < rows.len() {
@@ -40,9 +39,9 @@ pub fn earliest_fit(rows: &[[u64; 7]], x: Declaration) -> usize
 }
 
 // The declaration at a place is taken out: those behind it move up by one place, and the last place becomes free.
-pub fn take_out(rows: &mut [[u64; 7]], place: usize)
+pub fn take_out(rows: &mut [Declaration], place: usize)
     requires { place < length rows.old }
-    ensures { held_of rows.new ≡ take place (held_of rows.old) ++ (drop (place + 1) (held_of rows.old) ++ (undeclared ∷ [])) }
+    ensures { rows.new ≡ take place rows.old ++ (drop (place + 1) rows.old ++ (undeclared ∷ [])) }
 {
     let mut at = place;
     while at + 1 < rows.len() {

@@ -4,7 +4,6 @@ ghost use Rattle.model.specs.Lists.{all};
 ghost use Rattle.model.specs.Limits.{is_price};
 ghost use Rattle.model.specs.Blocks.{is_block};
 ghost use Rattle.model.specs.SoundBlocks.{is_undeclared, is_declaration};
-ghost use Rattle.book.specs.Rows.{held_of};
 
 use declarations::declaration_at;
 use limits::{in_band, is_price};
@@ -95,9 +94,9 @@ fn is_formed(d: Day, x: Declaration) -> bool
 }
 
 // Each place is free, or has a well-formed declaration.
-pub fn all_formed(d: Day, rows: &[[u64; 7]]) -> bool
+pub fn all_formed(d: Day, rows: &[Declaration]) -> bool
     requires { is_price d.close ≡ true }
-    ensures { result ≡ all (λ x. is_undeclared x || is_declaration d x) (held_of rows.now) }
+    ensures { result ≡ all (λ x. is_undeclared x || is_declaration d x) rows.now }
 {
     let mut i = 0;
     while i < rows.len() {

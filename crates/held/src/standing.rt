@@ -4,14 +4,13 @@ ghost use Rattle.model.specs.Lists.{any};
 ghost use Rattle.model.specs.Arrival.{may_arrive, in_arrival};
 ghost use Rattle.model.specs.Sound.{has_places, between};
 ghost use Rattle.model.specs.Blocks.{is_held};
-ghost use Rattle.book.specs.Rows.{held_of};
 
 use declarations::declaration_at;
 use model::{Declaration, MOST_PLACES};
 
 // 1 to 4,096 places.
-pub fn has_places(rows: &[[u64; 7]]) -> bool
-    ensures { result ≡ has_places (held_of rows.now) }
+pub fn has_places(rows: &[Declaration]) -> bool
+    ensures { result ≡ has_places rows.now }
 {
     1 <= rows.len() && rows.len() <= MOST_PLACES
 }
@@ -36,8 +35,8 @@ fn may_arrive(x: Declaration, y: Declaration) -> bool
 }
 
 // Each place may be followed by the next one.
-pub fn is_in_arrival(rows: &[[u64; 7]]) -> bool
-    ensures { result ≡ in_arrival (λ x. x.number) (held_of rows.now) }
+pub fn is_in_arrival(rows: &[Declaration]) -> bool
+    ensures { result ≡ in_arrival (λ x. x.number) rows.now }
 {
     let mut i = 1;
     while i < rows.len() {
@@ -56,10 +55,10 @@ fn is_between(least: u64, most: u64, n: u64) -> bool
 }
 
 // None is held before 9:15 or from 15:30 on. In order of arrival one is held where the first place is taken.
-pub fn fits_hours(time: u64, rows: &[[u64; 7]]) -> bool
+pub fn fits_hours(time: u64, rows: &[Declaration]) -> bool
     requires in_bounds { 1 ≤ length rows.now }
-    requires rows_value { in_arrival (λ x. x.number) (held_of rows.now) ≡ true }
-    ensures { result ≡ (between 33_300 55_799 time || not (any is_held (held_of rows.now))) }
+    requires rows_value { in_arrival (λ x. x.number) rows.now ≡ true }
+    ensures { result ≡ (between 33_300 55_799 time || not (any is_held rows.now)) }
 {
     if is_between(33_300, 55_799, time) {
         return true;

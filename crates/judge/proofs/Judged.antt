@@ -11,7 +11,6 @@ use Rattle.model.specs.Book.{is_live, stands_on, queue}
 use Rattle.model.specs.Auction.{volume}
 use Rattle.model.specs.Pairing.{cut}
 use Rattle.model.specs.Words.{Each, granted}
-use Rattle.book.specs.Rows.{book_of}
 use Rattle.book.specs.Standing.{Fair, Standing}
 use Rattle.book.proofs.Lists.{both}
 use Rattle.book.proofs.Queues.{live_number, on_side, place_of}
@@ -23,7 +22,7 @@ use Rattle.judge.specs.declared.Claim.{Claim}
 use Rattle.judge.specs.declared.Verdict.{Verdict}
 use Rattle.judge.specs.declared.Verdict.TheVariants.{Yes}
 use Rattle.judge.specs.Judging.{claimed_for, granted_to, judge_call}
-use Rattle.judge.specs.Promises.{claims_of, JudgePromise}
+use Rattle.judge.specs.Promises.{JudgePromise}
 use Rattle.judge.specs.Verdicts.{Right, Judging}
 use Rattle.judge.proofs.Rightness.{refused, yes_sound, exactly}
 use Rattle.judge.proofs.Own.{own}
@@ -73,23 +72,23 @@ module _ (p : ℕ) (book : List Order) (s : Standing book) where
       (λ o. (stands_on 0 o ≡ true → Within 0 o) × (stands_on 1 o ≡ true → Within 1 o)) book (λ o x y. (x, y)) (on 0) (on 1))
 
 never_round :
-    (d : Day) (rows claims : List (List ℕ)) (price : ℕ)
+    (d : Day) (rows : List Order) (claims : List Claim) (price : ℕ)
     → JudgePromise d rows claims price Yes
-    → Each (λ o. is_live o ≡ true → (claimed_for o (claims_of claims) ≤ o.left) × (o.left ≤ 1_000_000)) (book_of rows)
+    → Each (λ o. is_live o ≡ true → (claimed_for o claims ≤ o.left) × (o.left ≤ 1_000_000)) rows
 never_round d rows claims price e =
-    let book : List Order = book_of rows in
-    let s = sound_stands d book (yes_sound d price book (claims_of claims) (sym e)) in
-    let r = yes_right d price book (claims_of claims) (sym e) in
-    both (λ o. is_live o ≡ true → claimed_for o (claims_of claims) ≡ granted_to price book o)
+    let book : List Order = rows in
+    let s = sound_stands d book (yes_sound d price book claims (sym e)) in
+    let r = yes_right d price book claims (sym e) in
+    both (λ o. is_live o ≡ true → claimed_for o claims ≡ granted_to price book o)
     (λ o. (is_live o ≡ true → granted_to price book o ≤ o.left) × Fair o)
-    (λ o. is_live o ≡ true → (claimed_for o (claims_of claims) ≤ o.left) × (o.left ≤ 1_000_000)) book
+    (λ o. is_live o ≡ true → (claimed_for o claims ≤ o.left) × (o.left ≤ 1_000_000)) book
     (λ o x y l. let a = x l in let b = y.0 l in (omega arith, y.1.left)) r.granted
     (both (λ o. is_live o ≡ true → granted_to price book o ≤ o.left) Fair _ book (λ o x y. (x, y)) (granted_within price book s) s.fair)
 
 -- ---- all
 
 pub judge_determined :
-    (d : Day) (rows claims : List (List ℕ)) (price : ℕ) (v w : Verdict)
+    (d : Day) (rows : List Order) (claims : List Claim) (price : ℕ) (v w : Verdict)
     → JudgePromise d rows claims price v
     → JudgePromise d rows claims price w
     → v ≡ w
@@ -105,6 +104,6 @@ judging =
       any_order = any_order;
       any_cut = any_cut;
       fixed = fixed;
-      answered = λ d rows claims price. (judge_call d price (book_of rows) (claims_of claims), refl, λ w e. e);
+      answered = λ d rows claims price. (judge_call d price rows claims, refl, λ w e. e);
       never_round = never_round;
     }

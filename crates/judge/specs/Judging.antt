@@ -13,6 +13,10 @@ use Rattle.judge.specs.declared.Claim.{Claim}
 use Rattle.judge.specs.declared.Verdict.{Verdict}
 use Rattle.judge.specs.declared.Verdict.TheVariants.{Refused, Yes, No}
 
+-- no claim: a place of a list at which none was noted
+abbrev pub no_claim : Claim
+no_claim = record { shares = 0; buyer = 0; seller = 0 }
+
 -- a live order of a side with this number
 unfoldable pub has_order : ℕ → List Order → ℕ → Bool
 has_order side book number = any (λ o. stands_on side o && eqb o.number number) book

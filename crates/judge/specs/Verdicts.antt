@@ -8,12 +8,11 @@ use Rattle.model.specs.Auction.{qualifying, auction_price}
 use Rattle.model.specs.Refusals.{unsound}
 use Rattle.model.specs.ClockCall.{auction_trades}
 use Rattle.model.specs.Words.{Each, Sound}
-use Rattle.book.specs.Rows.{book_of}
 use Rattle.judge.specs.declared.Claim.{Claim}
 use Rattle.judge.specs.declared.Verdict.{Verdict}
 use Rattle.judge.specs.declared.Verdict.TheVariants.{Refused, Yes}
 use Rattle.judge.specs.Judging.{has_order, claimed_for, granted_to, judge_call}
-use Rattle.judge.specs.Promises.{claims_of, JudgePromise}
+use Rattle.judge.specs.Promises.{JudgePromise}
 
 -- a trade joins a live buy with a live sell for at least one share
 pub record Joins (book : List Order) (c : Claim) : Type 0 where
@@ -71,10 +70,10 @@ pub record Judging : Type 0 where
       → (p ≡ q) × Each (λ o. is_live o ≡ true → claimed_for o cs ≡ claimed_for o ds) book
   -- any rows of any numbers get an answer, and one alone
   pub answered :
-      (d : Day) (rows claims : List (List ℕ)) (price : ℕ)
+      (d : Day) (rows : List Order) (claims : List Claim) (price : ℕ)
       → (v : Verdict) × JudgePromise d rows claims price v × ((w : Verdict) → JudgePromise d rows claims price w → w ≡ v)
   -- and no sum that passes the width of a number comes round to a yes: what is claimed in all for an order is no more than it has
   pub never_round :
-      (d : Day) (rows claims : List (List ℕ)) (price : ℕ)
+      (d : Day) (rows : List Order) (claims : List Claim) (price : ℕ)
       → JudgePromise d rows claims price Yes
-      → Each (λ o. is_live o ≡ true → (claimed_for o (claims_of claims) ≤ o.left) × (o.left ≤ 1_000_000)) (book_of rows)
+      → Each (λ o. is_live o ≡ true → (claimed_for o claims ≤ o.left) × (o.left ≤ 1_000_000)) rows

@@ -13,11 +13,10 @@ use lib.Dec.{eqb}
 use borrow.Author.Tests.{eq-eqb, ne_eqb, eqb-true, eqb-false}
 use Rattle.model.specs.declared.Order.{Order}
 use Rattle.model.specs.Lists.{keep}
-use Rattle.model.specs.Book.{is_live, stands_on, queue}
+use Rattle.model.specs.Book.{is_live, stands_on, queue, free}
 use Rattle.model.specs.Auction.{volume}
 use Rattle.model.specs.Pairing.{cut}
 use Rattle.model.specs.Words.{Each, Apart, granted}
-use Rattle.book.specs.Rows.{order_of, book_of}
 use Rattle.book.specs.Standing.{Fair, Ranked}
 use Rattle.book.proofs.Lists.{both, each, each_keep, keep_true, keep_false, map_same}
 use Rattle.book.proofs.Queues.{live_number}
@@ -71,16 +70,16 @@ module _ (v : Volumes) (o : Order) where
 
 -- ---- the loop: what is written, and what is still to come, is the whole
 
-pub record Granted (rows : List (List ℕ)) (whole slate : List ℕ) (v : Volumes) (i : ℕ) : Type 0 where
+pub record Granted (rows : List Order) (whole slate : List ℕ) (v : Volumes) (i : ℕ) : Type 0 where
   pub long : length slate ≡ length rows
   pub within : i ≤ length rows
-  pub same : take i slate ++ grants_by v (book_of (drop i rows)) ≡ whole
+  pub same : take i slate ++ grants_by v (drop i rows) ≡ whole
 
-module _ (rows : List (List ℕ)) (whole slate : List ℕ) (v : Volumes) (i : ℕ) (g : Granted rows whole slate v i) where
+module _ (rows : List Order) (whole slate : List ℕ) (v : Volumes) (i : ℕ) (g : Granted rows whole slate v i) where
   pub granted_more :
       {o : Order} {r : ℕ} {v' : Volumes} {slate' : List ℕ}
       → i < length rows
-      → o ≡ order_of (get_or rows i [])
+      → o ≡ get_or rows i free
       → r ≡ grant_of v o
       → v' ≡ volumes_past v o
       → slate' ≡ set slate i r
@@ -96,16 +95,16 @@ module _ (rows : List (List ℕ)) (whole slate : List ℕ) (v : Volumes) (i : �
       inside : i < length slate
       inside = omega (arith, g.long)
 
-      split : grants_by v (book_of (drop i rows)) ≡ r ∷ grants_by (volumes_past v o) (book_of (drop (i + 1) rows))
-      split = ap (grants_by v) (onward rows i o l e) ∙ unfold grants_by in ap (λ (n : ℕ). n ∷ grants_by (volumes_past v o) (book_of (drop (i + 1) rows))) (sym f)
+      split : grants_by v (drop i rows) ≡ r ∷ grants_by (volumes_past v o) (drop (i + 1) rows)
+      split = ap (grants_by v) (onward rows i o l e) ∙ unfold grants_by in ap (λ (n : ℕ). n ∷ grants_by (volumes_past v o) (drop (i + 1) rows)) (sym f)
 
       written :
-          take (i + 1) (set slate i r) ++ grants_by (volumes_past v o) (book_of (drop (i + 1) rows))
-          ≡ take i slate ++ grants_by v (book_of (drop i rows))
+          take (i + 1) (set slate i r) ++ grants_by (volumes_past v o) (drop (i + 1) rows)
+          ≡ take i slate ++ grants_by v (drop i rows)
       written =
-          ap (λ (n : ℕ). take n (set slate i r) ++ grants_by (volumes_past v o) (book_of (drop (i + 1) rows))) (add-one i)
-          ∙ ap (λ (l : List ℕ). l ++ grants_by (volumes_past v o) (book_of (drop (i + 1) rows))) (take-suc-set slate i r inside)
-          ∙ append_snoc (take i slate) r (grants_by (volumes_past v o) (book_of (drop (i + 1) rows)))
+          ap (λ (n : ℕ). take n (set slate i r) ++ grants_by (volumes_past v o) (drop (i + 1) rows)) (add-one i)
+          ∙ ap (λ (l : List ℕ). l ++ grants_by (volumes_past v o) (drop (i + 1) rows)) (take-suc-set slate i r inside)
+          ∙ append_snoc (take i slate) r (grants_by (volumes_past v o) (drop (i + 1) rows))
           ∙ ap (λ (l : List ℕ). take i slate ++ l) (sym split)
 
   pub granted_all : length rows ≤ i → slate ≡ whole
@@ -113,7 +112,7 @@ module _ (rows : List (List ℕ)) (whole slate : List ℕ) (v : Volumes) (i : �
   granted_all h =
       let all : take i slate ≡ slate = take_all i slate (omega (arith, g.long)) in
       let none : drop i rows ≡ [] = drop_of_length-le rows h in
-      sym all ∙ sym (append-nil (take i slate)) ∙ ap (λ (r : List (List ℕ)). take i slate ++ grants_by v (book_of r)) (sym none) ∙ g.same
+      sym all ∙ sym (append-nil (take i slate)) ∙ ap (λ (r : List Order). take i slate ++ grants_by v r) (sym none) ∙ g.same
 
 -- ---- it is what priority grants
 

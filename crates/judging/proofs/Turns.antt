@@ -17,14 +17,11 @@ use Rattle.model.specs.Lists.{all}
 use Rattle.model.specs.Book.{free, is_live}
 use Rattle.model.specs.Words.{Each}
 use Rattle.model.proofs.Bools.{not_both}
-use Rattle.book.specs.Rows.{order_of, book_of}
 use Rattle.book.specs.Standing.{Ranked}
 use Rattle.book.proofs.Lists.{each_at, at_each}
-use Rattle.book.proofs.Memory.{book_at}
 use Rattle.soundness.proofs.Says.{Says, says_all, says_eq, says_same}
 use Rattle.judge.specs.declared.Claim.{Claim}
-use Rattle.judge.specs.Judging.{claimed_for, granted_to, claims_right}
-use Rattle.judge.specs.Promises.{claim_of, claims_of}
+use Rattle.judge.specs.Judging.{claimed_for, granted_to, claims_right, no_claim}
 use Rattle.judge.specs.Verdicts.{Joins}
 use Rattle.judging.specs.Slates.{grants_at, claimed_at, Settles, may_fill, Taken}
 use Rattle.judge.proofs.Rightness.{says_claims}
@@ -33,20 +30,20 @@ use Rattle.judging.proofs.Settling.{claimed_nothing}
 
 -- ---- whether a place may be filled, as the code tests it
 
-module _ (side q : ℕ) (rows : List (List ℕ)) (slate : List ℕ) (at : ℕ) where
-  pub none_there : at ≡ 0 → false ≡ may_fill side q (book_of rows) slate at
+module _ (side q : ℕ) (rows : List Order) (slate : List ℕ) (at : ℕ) where
+  pub none_there : at ≡ 0 → false ≡ may_fill side q rows slate at
   unfolding may_fill
   none_there z = rw (eq-eqb at 0 z)
 
-  module _ {o : Order} (n : at ≡ 0 → ⊥) (e : o ≡ order_of (get_or rows (at - 1) [])) where
-    here : (b : Bool) → eqb o.side side ≡ b → eqb (get_or (book_of rows) (at - 1) free).side side ≡ b
-    here b f = ap (λ (x : Order). eqb x.side side) (sym (e ∙ book_at rows (at - 1))) ∙ f
+  module _ {o : Order} (n : at ≡ 0 → ⊥) (e : o ≡ get_or rows (at - 1) free) where
+    here : (b : Bool) → eqb o.side side ≡ b → eqb (get_or rows (at - 1) free).side side ≡ b
+    here b f = ap (λ (x : Order). eqb x.side side) (sym (e)) ∙ f
 
-    pub other_there : (o.side ≡ side → ⊥) → false ≡ may_fill side q (book_of rows) slate at
+    pub other_there : (o.side ≡ side → ⊥) → false ≡ may_fill side q rows slate at
     unfolding may_fill
     other_there d = rw (ne_eqb at 0 n, here false (ne_eqb o.side side d))
 
-    pub some_there : o.side ≡ side → leb q (get_or slate (at - 1) 0) ≡ may_fill side q (book_of rows) slate at
+    pub some_there : o.side ≡ side → leb q (get_or slate (at - 1) 0) ≡ may_fill side q rows slate at
     unfolding may_fill
     some_there s = rw (ne_eqb at 0 n, here true (eq-eqb o.side side s))
 
@@ -130,14 +127,14 @@ module _ (book : List Order) (whole : List Claim) (slate₀ : List ℕ) where
 
 -- a claim of a list in memory, and those behind it
 pub claim_next :
-    (claims : List (List ℕ)) (i : ℕ) {c : Claim}
+    (claims : List Claim) (i : ℕ) {c : Claim}
     → i < length claims
-    → c ≡ claim_of (get_or claims i [])
-    → drop i (claims_of claims) ≡ c ∷ drop (i + 1) (claims_of claims)
+    → c ≡ get_or claims i no_claim
+    → drop i claims ≡ c ∷ drop (i + 1) claims
 claim_next claims i {c} h e =
-    drop-cons (claims_of claims) i (claim_of []) (omega (arith, length-map claims claim_of))
-    ∙ ap (λ (x : Claim). x ∷ drop (suc i) (claims_of claims)) (get_or-map claim_of claims i [] ∙ sym e)
-    ∙ ap (λ (n : ℕ). c ∷ drop n (claims_of claims)) (sym (add-one i))
+    drop-cons claims i no_claim (omega arith)
+    ∙ ap (λ (x : Claim). x ∷ drop (suc i) claims) (sym e)
+    ∙ ap (λ (n : ℕ). c ∷ drop n claims) (sym (add-one i))
 
 -- ---- the grants as a slate
 

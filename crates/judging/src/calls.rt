@@ -1,10 +1,9 @@
 // The judge's call: 15 where the day is not sound, no where the price is not the one that is left, and else what the claims are.
 ghost use Rattle.std.specs.Prelude.{◌≡◌, ◌≤◌, length, replicate};
-ghost use Rattle.book.specs.Rows.{book_of};
 ghost use Rattle.book.specs.Standing.{Ranked};
 ghost use Rattle.lookup.specs.Piles.{none_yet, Piled};
 ghost use Rattle.judge.specs.Judging.{claims_right};
-ghost use Rattle.judge.specs.Promises.{claims_of, JudgePromise};
+ghost use Rattle.judge.specs.Promises.{JudgePromise};
 ghost use Rattle.judging.specs.Prices.{price_verdict};
 ghost use Rattle.judging.specs.Slates.{grants_at};
 
@@ -13,14 +12,14 @@ use crate::grants::grant_rows;
 use auction::depth::volume_at;
 use auction::price::auction_price;
 use figures::reference_of;
-use judge::Verdict;
+use judge::{Claim, Verdict};
 use lookup::{no_tops, nothing_under, pile_orders};
-use model::{Day, MOST_PLACES};
+use model::{Day, MOST_PLACES, Order};
 use soundness::is_sound;
 
 // What can be said before the claims are looked at: yes where they decide.
-pub fn price_verdict(d: Day, rows: &[[u64; 5]], price: u64) -> Verdict
-    ensures { result ≡ price_verdict d price (book_of rows.now) }
+pub fn price_verdict(d: Day, rows: &[Order], price: u64) -> Verdict
+    ensures { result ≡ price_verdict d price rows.now }
 {
     if !is_sound(d, rows) {
         return Verdict::Refused(15);
@@ -39,13 +38,13 @@ pub fn slate_room() -> [u64; MOST_PLACES]
 }
 
 // Before the first claim: every order on its pile, and on the slate what is granted at the price.
-pub fn set_up(rows: &[[u64; 5]], tops: &mut [u16], under: &mut [u16], slate: &mut [u64], price: u64)
-    requires ranked { Ranked (book_of rows.now) }
+pub fn set_up(rows: &[Order], tops: &mut [u16], under: &mut [u16], slate: &mut [u64], price: u64)
+    requires ranked { Ranked rows.now }
     requires tops_value { tops.old ≡ none_yet 65_536 }
     requires rows_in_bounds { length rows.now ≤ length under.old }
     requires slate_len { length slate.old ≡ length rows.now }
-    ensures piled { Piled (book_of rows.now) (length (book_of rows.now)) tops.new under.new }
-    ensures slate_after { slate.new ≡ grants_at price (book_of rows.now) }
+    ensures piled { Piled rows.now (length rows.now) tops.new under.new }
+    ensures slate_after { slate.new ≡ grants_at price rows.now }
 {
     pile_orders(rows, &mut *tops, &mut *under);
     grant_rows(rows, &mut *slate, volume_at(rows, price));
@@ -53,27 +52,27 @@ pub fn set_up(rows: &[[u64; 5]], tops: &mut [u16], under: &mut [u16], slate: &mu
 
 // Whether every claim joins, and each order's claims add up to what is granted at the price.
 fn claims_decide(
-    rows: &[[u64; 5]],
+    rows: &[Order],
     tops: &mut [u16],
     under: &mut [u16],
     slate: &mut [u64],
-    claims: &[[u64; 3]],
+    claims: &[Claim],
     price: u64,
 ) -> bool
-    requires ranked { Ranked (book_of rows.now) }
+    requires ranked { Ranked rows.now }
     requires tops_value { tops.old ≡ none_yet 65_536 }
     requires rows_in_bounds { length rows.now ≤ length under.old }
     requires slate_len { length slate.old ≡ length rows.now }
-    ensures { result ≡ claims_right price (book_of rows.now) (claims_of claims.now) }
+    ensures { result ≡ claims_right price rows.now claims.now }
 {
     set_up(rows, &mut *tops, &mut *under, &mut *slate, price);
     take_claims(rows, tops, under, &mut *slate, claims)
 }
 
 // The same, with room for piles and slate.
-fn claims_right(rows: &[[u64; 5]], claims: &[[u64; 3]], price: u64) -> bool
-    requires { Ranked (book_of rows.now) }
-    ensures { result ≡ claims_right price (book_of rows.now) (claims_of claims.now) }
+fn claims_right(rows: &[Order], claims: &[Claim], price: u64) -> bool
+    requires { Ranked rows.now }
+    ensures { result ≡ claims_right price rows.now claims.now }
 {
     let n = rows.len();
     let mut tops = no_tops();
@@ -89,7 +88,7 @@ fn claims_right(rows: &[[u64; 5]], claims: &[[u64; 3]], price: u64) -> bool
     )
 }
 
-pub fn judge_call(d: Day, rows: &[[u64; 5]], claims: &[[u64; 3]], price: u64) -> Verdict
+pub fn judge_call(d: Day, rows: &[Order], claims: &[Claim], price: u64) -> Verdict
     ensures { JudgePromise d rows.now claims.now price result }
 {
     let told = price_verdict(d, rows, price);

@@ -1,33 +1,28 @@
 // Claims taken off a slate, one after the other. Shares are only ever taken off, never added up, so that no sum can come round.
 ghost use Rattle.std.specs.Prelude.{◌≡◌, ◌↔◌, true, [], ◌-◌, ◌≤◌, ◌<◌, length, get_or, set, eqb};
 ghost use Rattle.model.specs.Lists.{all};
-ghost use Rattle.book.specs.Rows.{book_of};
 ghost use Rattle.book.specs.Standing.{Standing};
 ghost use Rattle.lookup.specs.Piles.{Piled};
-ghost use Rattle.judge.specs.Promises.{claim_of, claims_of};
 ghost use Rattle.judging.specs.Slates.{Settles, may_fill, Taken};
+ghost use Rattle.judge.specs.Judging.{no_claim};
 
 use book::order_at;
 use judge::Claim;
 use lookup::place_by;
+use model::Order;
 
-fn claim_at(claims: &[[u64; 3]], i: usize) -> Claim
+fn claim_at(claims: &[Claim], i: usize) -> Claim
     requires { i < length claims.now }
-    ensures { result ≡ claim_of (get_or claims.now i []) }
+    ensures { result ≡ get_or claims.now i no_claim }
 {
-    let row = claims[i];
-    Claim {
-        shares: row[0],
-        buyer: row[1],
-        seller: row[2],
-    }
+    claims[i]
 }
 
 // Whether a place, counted from 1, has an order of this side of which so many shares are still to be filled.
-fn may_fill(rows: &[[u64; 5]], slate: &[u64], at: usize, side: u64, shares: u64) -> bool
+fn may_fill(rows: &[Order], slate: &[u64], at: usize, side: u64, shares: u64) -> bool
     requires at_in_bounds { at ≤ length rows.now }
     requires slate_len { length slate.now ≡ length rows.now }
-    ensures { result ≡ may_fill side shares (book_of rows.now) slate.now at }
+    ensures { result ≡ may_fill side shares rows.now slate.now at }
 {
     if at == 0 {
         return false;
@@ -51,17 +46,11 @@ fn take_off(slate: &mut [u64], at: usize, shares: u64)
 
 // Takes a claim's shares off its buyer and off its seller: false, and nothing is taken, where it joins no two live orders or one of
 // them has not so many left.
-pub fn take_claim(
-    rows: &[[u64; 5]],
-    tops: &[u16],
-    under: &[u16],
-    slate: &mut [u64],
-    c: Claim,
-) -> bool
-    requires standing { Standing (book_of rows.now) }
-    requires piled { Piled (book_of rows.now) (length (book_of rows.now)) tops.now under.now }
+pub fn take_claim(rows: &[Order], tops: &[u16], under: &[u16], slate: &mut [u64], c: Claim) -> bool
+    requires standing { Standing rows.now }
+    requires piled { Piled rows.now (length rows.now) tops.now under.now }
     requires slate_len { length slate.old ≡ length rows.now }
-    ensures { Taken (book_of rows.now) slate.old c result slate.new }
+    ensures { Taken rows.now slate.old c result slate.new }
 {
     if c.shares == 0 {
         return false;
@@ -95,16 +84,16 @@ pub fn all_filled(slate: &[u64]) -> bool
 
 // Whether the claims are those that the slate asks for.
 pub fn take_claims(
-    rows: &[[u64; 5]],
+    rows: &[Order],
     tops: &[u16],
     under: &[u16],
     slate: &mut [u64],
-    claims: &[[u64; 3]],
+    claims: &[Claim],
 ) -> bool
-    requires standing { Standing (book_of rows.now) }
-    requires piled { Piled (book_of rows.now) (length (book_of rows.now)) tops.now under.now }
+    requires standing { Standing rows.now }
+    requires piled { Piled rows.now (length rows.now) tops.now under.now }
     requires slate_len { length slate.old ≡ length rows.now }
-    ensures { (result ≡ true) ↔ Settles (book_of rows.now) slate.old (claims_of claims.now) }
+    ensures { (result ≡ true) ↔ Settles rows.now slate.old claims.now }
 {
     let mut i = 0;
     while i < claims.len() {

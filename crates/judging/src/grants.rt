@@ -1,6 +1,5 @@
 // What priority grants each order: along a book in order, the orders of a side get what they have until the volume is used up.
 ghost use Rattle.std.specs.Prelude.{◌≡◌, length};
-ghost use Rattle.book.specs.Rows.{book_of};
 ghost use Rattle.judging.specs.Slates.{grant_of, volumes_past, grants_by};
 
 use crate::Volumes;
@@ -40,9 +39,9 @@ fn volumes_past(v: Volumes, o: Order) -> Volumes
 }
 
 // The slate at the start: the grant of each place.
-pub fn grant_rows(rows: &[[u64; 5]], slate: &mut [u64], shares: u64)
+pub fn grant_rows(rows: &[Order], slate: &mut [u64], shares: u64)
     requires { length slate.old ≡ length rows.now }
-    ensures { slate.new ≡ grants_by (record { buys = shares; sells = shares }) (book_of rows.now) }
+    ensures { slate.new ≡ grants_by (record { buys = shares; sells = shares }) rows.now }
 {
     let mut v = Volumes {
         buys: shares,

@@ -13,7 +13,6 @@ use Rattle.model.specs.declared.ListReply.{ListReply}
 use Rattle.model.specs.Calls.{OpenOutcome, CancelOutcome, open_call, order_call, cancel_call}
 use Rattle.model.specs.ClockCall.{clock_call}
 use Rattle.model.specs.AuctionCalls.{ListOutcome, report_call, list_call}
-use Rattle.book.specs.Rows.{book_of, trades_of}
 use Rattle.book.specs.Promises.{open_left, call_left, cancel_left, list_left}
 use Rattle.model.specs.declared.Event as Event
 use Rattle.lent.specs.declared.Answer as Answer
@@ -21,66 +20,68 @@ use Rattle.lent.specs.declared.OnDay.{OnDay}
 use Rattle.lent.specs.declared.Question as Question
 use Rattle.lent.specs.declared.Told as Told
 use Rattle.lent.specs.Calls.{answered, call_of, event_call, question_call, question_left}
+use Rattle.model.specs.declared.Order.{Order}
+use Rattle.model.specs.declared.Trade.{Trade}
 
-module _ (asked : OnDay) (rows rows' trades : List (List ℕ)) where
+module _ (asked : OnDay) (rows rows' : List Order) (trades : List Trade) where
   pub opened :
       {close mark : ℕ} {r : OpenReply}
       → asked.event ≡ Event.TheVariants.Open close mark
-      → open_left r rows' ≡ open_call close mark (book_of rows)
-      → call_left (Answer.TheVariants.Open r) rows' trades ≡ event_call asked (book_of rows) (trades_of trades)
+      → open_left r rows' ≡ open_call close mark rows
+      → call_left (Answer.TheVariants.Open r) rows' trades ≡ event_call asked rows trades
   unfolding call_of
   opened e p =
-      ap (λ (o : OpenOutcome). record { answer = Answer.TheVariants.Open o.reply; book = o.book; trades = trades_of trades }) p
-      ∙ ap (λ (v : Event.Event). call_of v asked.day (book_of rows) (trades_of trades)) (sym e)
+      ap (λ (o : OpenOutcome). record { answer = Answer.TheVariants.Open o.reply; book = o.book; trades = trades }) p
+      ∙ ap (λ (v : Event.Event). call_of v asked.day rows trades) (sym e)
 
   pub cancelled :
       {account number : ℕ} {r : CancelAnswer}
       → asked.event ≡ Event.TheVariants.Cancel account number
-      → cancel_left r rows' ≡ cancel_call asked.day account number (book_of rows)
-      → call_left (Answer.TheVariants.Cancel r) rows' trades ≡ event_call asked (book_of rows) (trades_of trades)
+      → cancel_left r rows' ≡ cancel_call asked.day account number rows
+      → call_left (Answer.TheVariants.Cancel r) rows' trades ≡ event_call asked rows trades
   unfolding call_of
   cancelled e p =
-      ap (λ (o : CancelOutcome). record { answer = Answer.TheVariants.Cancel o.answer; book = o.book; trades = trades_of trades }) p
-      ∙ ap (λ (v : Event.Event). call_of v asked.day (book_of rows) (trades_of trades)) (sym e)
+      ap (λ (o : CancelOutcome). record { answer = Answer.TheVariants.Cancel o.answer; book = o.book; trades = trades }) p
+      ∙ ap (λ (v : Event.Event). call_of v asked.day rows trades) (sym e)
 
-  module _ (trades' : List (List ℕ)) where
+  module _ (trades' : List Trade) where
     pub moved :
         {time : ℕ} {r : ClockAnswer}
         → asked.event ≡ Event.TheVariants.Clock time
-        → call_left r rows' trades' ≡ clock_call asked.day time (book_of rows) (trades_of trades)
-        → call_left (Answer.TheVariants.Clock r) rows' trades' ≡ event_call asked (book_of rows) (trades_of trades)
+        → call_left r rows' trades' ≡ clock_call asked.day time rows trades
+        → call_left (Answer.TheVariants.Clock r) rows' trades' ≡ event_call asked rows trades
     unfolding call_of
     moved e p =
         ap (answered Answer.TheVariants.Clock) p
-        ∙ ap (λ (v : Event.Event). call_of v asked.day (book_of rows) (trades_of trades)) (sym e)
+        ∙ ap (λ (v : Event.Event). call_of v asked.day rows trades) (sym e)
 
     pub entered :
         {a : Asked} {r : OrderAnswer}
         → asked.event ≡ Event.TheVariants.Order a
-        → call_left r rows' trades' ≡ order_call asked.day a (book_of rows) (trades_of trades)
-        → call_left (Answer.TheVariants.Order r) rows' trades' ≡ event_call asked (book_of rows) (trades_of trades)
+        → call_left r rows' trades' ≡ order_call asked.day a rows trades
+        → call_left (Answer.TheVariants.Order r) rows' trades' ≡ event_call asked rows trades
     unfolding call_of
     entered e p =
         ap (answered Answer.TheVariants.Order) p
-        ∙ ap (λ (v : Event.Event). call_of v asked.day (book_of rows) (trades_of trades)) (sym e)
+        ∙ ap (λ (v : Event.Event). call_of v asked.day rows trades) (sym e)
 
-module _ (question : Question.Question) (rows : List (List ℕ)) (prices : List ℕ) where
+module _ (question : Question.Question) (rows : List Order) (prices : List ℕ) where
   pub reported :
       {d : Day} {r : ReportReply}
       → question ≡ Question.TheVariants.Report d
-      → r ≡ report_call d (book_of rows)
-      → question_left (Told.TheVariants.Report r) prices ≡ question_call question (book_of rows) prices
+      → r ≡ report_call d rows
+      → question_left (Told.TheVariants.Report r) prices ≡ question_call question rows prices
   unfolding question_call
   reported e p =
       ap (λ (r : ReportReply). question_left (Told.TheVariants.Report r) prices) p
-      ∙ ap (λ (v : Question.Question). question_call v (book_of rows) prices) (sym e)
+      ∙ ap (λ (v : Question.Question). question_call v rows prices) (sym e)
 
   pub listed :
       {d : Day} {asked : ℕ} {r : ListReply} {prices' : List ℕ}
       → question ≡ Question.TheVariants.List d asked
-      → list_left r prices' ≡ list_call d asked (book_of rows) prices
-      → question_left (Told.TheVariants.List r) prices' ≡ question_call question (book_of rows) prices
+      → list_left r prices' ≡ list_call d asked rows prices
+      → question_left (Told.TheVariants.List r) prices' ≡ question_call question rows prices
   unfolding question_call
   listed e p =
       ap (λ (o : ListOutcome). question_left (Told.TheVariants.List o.reply) o.prices) p
-      ∙ ap (λ (v : Question.Question). question_call v (book_of rows) prices) (sym e)
+      ∙ ap (λ (v : Question.Question). question_call v rows prices) (sym e)

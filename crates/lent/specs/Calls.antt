@@ -5,7 +5,6 @@ use Rattle.model.specs.declared.Trade.{Trade}
 use Rattle.model.specs.Calls.{Outcome, open_call, order_call, cancel_call}
 use Rattle.model.specs.ClockCall.{clock_call}
 use Rattle.model.specs.AuctionCalls.{report_call, list_call}
-use Rattle.book.specs.Rows.{trades_of}
 use Rattle.model.specs.declared.Day.{Day}
 use Rattle.model.specs.declared.Event as Event
 use Rattle.lent.specs.declared.OnDay.{OnDay}
@@ -42,13 +41,13 @@ abbrev pub event_call : OnDay → List Order → List Trade → Outcome Answer.A
 event_call asked book lent = call_of asked.event asked.day book lent
 
 -- what an event left behind: its answer, the book, and the rows of the trade list
-abbrev pub event_left : Answer.Answer → List Order → List (List ℕ) → Outcome Answer.Answer
-event_left answer book trades = record { answer = answer; book = book; trades = trades_of trades }
+abbrev pub event_left : Answer.Answer → List Order → List Trade → Outcome Answer.Answer
+event_left answer book trades = record { answer = answer; book = book; trades = trades }
 
 -- what a call with an event promises, of the book and the rows of the trade list as they were and as they are left
-abbrev pub EventPromise : List Order → List (List ℕ) → OnDay → Answer.Answer → List Order → List (List ℕ) → Type 0
+abbrev pub EventPromise : List Order → List Trade → OnDay → Answer.Answer → List Order → List Trade → Type 0
 EventPromise book trades asked answer book' trades' =
-    event_left answer book' trades' ≡ event_call asked book (trades_of trades)
+    event_left answer book' trades' ≡ event_call asked book trades
 
 -- ---- the calls that only ask
 

@@ -1,3 +1,2 @@
--- What the calls on a lent slice of order records promise, and the copies that they make.
-pub mod Copying
+-- What the calls on a lent slice of order records promise.
 pub mod Calls

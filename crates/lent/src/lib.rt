@@ -1,17 +1,12 @@
-// The book lent as a slice of order records. Two thin functions read and set one place; all else copies the places to rows,
-// lets the calls on rows decide, and copies them back.
+// The calls by what is asked of a day: an event or a question, on a book lent as a slice of order records.
 #![tactic(auto)]
 
 pub mod auctions;
-pub mod copying;
 pub mod events;
 pub mod sixteen;
 
-ghost use Rattle.std.specs.Prelude.{◌≡◌, ◌<◌, length, get_or, set};
-ghost use Rattle.model.specs.Book.{free};
-
 use model::{
-    CancelAnswer, ClockAnswer, Day, Event, ListReply, OpenReply, Order, OrderAnswer, ReportReply,
+    CancelAnswer, ClockAnswer, Day, Event, ListReply, OpenReply, OrderAnswer, ReportReply,
 };
 
 // An event, with the day that it comes to. An opening reads nothing of an old day.
@@ -40,20 +35,4 @@ pub enum Question {
 pub enum Told {
     Report(ReportReply),
     List(ListReply),
-}
-
-// The order at a place.
-pub fn place(book: &[Order], i: usize) -> Order
-    requires { i < length book.now }
-    ensures { result ≡ get_or book.now i free }
-{
-    book[i]
-}
-
-// Sets a place.
-pub fn put(book: &mut [Order], i: usize, o: Order)
-    requires { i < length book.old }
-    ensures { book.new ≡ set book.old i o }
-{
-    book[i] = o;
 }

@@ -5,7 +5,7 @@ ghost use Rattle.lent.specs.Calls.{EventPromise, QuestionPromise};
 use crate::auctions::ask_auction;
 use crate::events::take_event;
 use crate::{Answer, OnDay, Question, Told};
-use model::Order;
+use model::{Order, Trade};
 
 // What is handed back.
 #[derive(Clone, Copy)]
@@ -14,7 +14,7 @@ pub struct HandedBack {
     pub answer: Answer,
 }
 
-pub fn take_on_sixteen(book: [Order; 16], trades: &mut [[u64; 6]], asked: OnDay) -> HandedBack
+pub fn take_on_sixteen(book: [Order; 16], trades: &mut [Trade], asked: OnDay) -> HandedBack
     ensures { EventPromise book trades.old asked result.answer result.book trades.new }
 {
     let mut places = book;

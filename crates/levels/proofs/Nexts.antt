@@ -16,11 +16,9 @@ use Rattle.model.specs.Figures.{no_level, no_levels}
 use Rattle.model.specs.Screen.{levels_of}
 use Rattle.model.specs.Words.{Each}
 use Rattle.book.specs.declared.Stretch.{Stretch}
-use Rattle.book.specs.Rows.{order_of, book_of}
 use Rattle.book.specs.Standing.{Fair, Ranked}
 use Rattle.book.specs.Lines.{line, StretchOf}
 use Rattle.book.proofs.Lists.{each_at, each_take, each_drop}
-use Rattle.book.proofs.Memory.{book_at}
 use Rattle.book.proofs.Lines.{line_end, line_cons, line_length}
 use Rattle.auction.specs.declared.Tier.{Tier}
 use Rattle.auction.specs.Tiers.{run_of, alike, tier_from}
@@ -39,35 +37,35 @@ run_most p (o ∷ os) f = go (eqb o.price p) refl (run_most p os f.1)
     go true e h = omega (arith, run_on p o os (eqb-true o.price p e), f.0.left)
     go false e h = omega (arith, run_off p o os (eqb-false o.price p e))
 
-line_most : (rows : List (List ℕ)) (at end p : ℕ) → Ranked (book_of rows) → end ≤ length rows → run_of p (line at end rows) ≤ 4_096_000_000
+line_most : (rows : List Order) (at end p : ℕ) → Ranked rows → end ≤ length rows → run_of p (line at end rows) ≤ 4_096_000_000
 line_most rows at end p r h =
     let fair : Each Fair (line at end rows) =
-    unfold line in each_drop Fair at (take end (book_of rows)) (each_take Fair end (book_of rows) r.stands.fair)
+    unfold line in each_drop Fair at (take end rows) (each_take Fair end rows r.stands.fair)
     in
-    omega (arith, run_most p (line at end rows) fair, line_length at end rows h, length-map rows order_of, r.few)
+    omega (arith, run_most p (line at end rows) fair, line_length at end rows h, r.few)
 
 -- an order and a run of others
 pub run_fits :
-    (rows : List (List ℕ)) (from end p : ℕ)
-    → Ranked (book_of rows)
+    (rows : List Order) (from end p : ℕ)
+    → Ranked rows
     → end ≤ length rows
     → (end ≤ length rows) × (run_of p (line from end rows) ≤ 4_096_000_000)
 run_fits rows from end p r h = (h, line_most rows from end p r h)
 
 pub sum_fits :
-    (rows : List (List ℕ)) (at from end p : ℕ) {o : Order} {t : Tier}
-    → Ranked (book_of rows)
+    (rows : List Order) (at from end p : ℕ) {o : Order} {t : Tier}
+    → Ranked rows
     → end ≤ length rows
     → at < end
-    → o ≡ order_of (get_or rows at [])
+    → o ≡ get_or rows at free
     → t ≡ tier_from from p (line from end rows)
     → o.left + t.shares ≤ 4_097_000_000
 unfolding tier_from
 sum_fits rows at from end p {o} {t} r h l e g =
-    let fair : Fair (get_or (book_of rows) at free) =
-    each_at Fair (book_of rows) free r.stands.fair at (omega (arith, length-map rows order_of))
+    let fair : Fair (get_or rows at free) =
+    each_at Fair rows free r.stands.fair at (omega arith)
     in
-    let same : o ≡ get_or (book_of rows) at free = e ∙ book_at rows at in
+    let same : o ≡ get_or rows at free = e in
     omega (
       arith,
       ap (λ (x : Order). x.left) same,
@@ -83,13 +81,13 @@ unfolding next_from first_level
 level_of at [] = refl
 level_of at (o ∷ os) = refl
 
-module _ (rows : List (List ℕ)) (at end : ℕ) where
+module _ (rows : List Order) (at end : ℕ) where
   pub next_none : end ≤ at → record { level = record { price = 0; shares = 0 }; behind = at } ≡ next_from at (line at end rows)
   unfolding next_from no_level
   next_none h = rw (line_end at end rows h)
 
   module _ (short : end ≤ length rows) where
-    module _ (l : at < end) {o : Order} (e : o ≡ order_of (get_or rows at [])) where
+    module _ (l : at < end) {o : Order} (e : o ≡ get_or rows at free) where
       begins : line at end rows ≡ o ∷ line (at + 1) end rows
       begins = line_cons at end rows l short e
 
@@ -102,7 +100,7 @@ module _ (rows : List (List ℕ)) (at end : ℕ) where
 
     behind_some : (o : Order) → line (next_from at (o ∷ line (at + 1) end rows)).behind end rows ≡ behind_first (o ∷ line (at + 1) end rows)
     unfolding next_from behind_first line
-    behind_some o = sym (drop-drop (alike o.price (line (at + 1) end rows)) (at + 1) (take end (book_of rows)))
+    behind_some o = sym (drop-drop (alike o.price (line (at + 1) end rows)) (at + 1) (take end rows))
 
     behind_end : line at end rows ≡ [] → line (next_from at []).behind end rows ≡ behind_first []
     unfolding next_from behind_first
@@ -110,7 +108,7 @@ module _ (rows : List (List ℕ)) (at end : ℕ) where
 
     behind_is : line (next_from at (line at end rows)).behind end rows ≡ behind_first (line at end rows)
     behind_is = elim (dec_lt at end) [
-      | yes l ↦ rw (line_cons at end rows {o = order_of (get_or rows at [])} l short refl) (behind_some (order_of (get_or rows at [])))
+      | yes l ↦ rw (line_cons at end rows {o = get_or rows at free} l short refl) (behind_some (get_or rows at free))
       | no l ↦ let e : line at end rows ≡ [] = line_end at end rows (omega arith) in at_end (line at end rows) e e
     ]
       where
@@ -128,10 +126,10 @@ unfolding shown
 shown_all os ls = refl
 
 -- what the prices still to come make of the lines is what all make of empty lines
-pub record Showing (side : ℕ) (rows : List (List ℕ)) (end at : ℕ) (levels : Levels) (n : ℕ) : Type 0 where
-  pub rest : shown (5 - n) (line at end rows) levels ≡ shown 5 (queue side (book_of rows)) no_levels
+pub record Showing (side : ℕ) (rows : List Order) (end at : ℕ) (levels : Levels) (n : ℕ) : Type 0 where
+  pub rest : shown (5 - n) (line at end rows) levels ≡ shown 5 (queue side rows) no_levels
 
-module _ (side : ℕ) (rows : List (List ℕ)) where
+module _ (side : ℕ) (rows : List Order) where
   pub showing_start : {r : Stretch} {ls : Levels} → StretchOf side rows r → ls ≡ no_levels → Showing side rows r.to r.from ls 0
   showing_start s e = record { rest = rw (s.orders, e) refl }
 
@@ -159,10 +157,10 @@ module _ (side : ℕ) (rows : List (List ℕ)) where
               ∙ k.rest);
         }
 
-    pub showing_end : 5 ≤ n → Ranked (book_of rows) → levels ≡ levels_of side (book_of rows)
+    pub showing_end : 5 ≤ n → Ranked rows → levels ≡ levels_of side rows
     showing_end h r =
         let z : 5 - n ≡ 0 = omega arith in
         sym (shown_all (line at end rows) levels)
         ∙ ap (λ (i : ℕ). shown i (line at end rows) levels) (sym z)
         ∙ k.rest
-        ∙ levels_shown side (book_of rows) no_levels r.stands
+        ∙ levels_shown side rows no_levels r.stands

@@ -4,7 +4,6 @@
 
 ghost use Rattle.std.specs.Prelude.{◌≡◌, ◌≤◌, length};
 ghost use Rattle.model.specs.Screen as screen;
-ghost use Rattle.book.specs.Rows.{book_of};
 ghost use Rattle.book.specs.Standing.{Ranked};
 ghost use Rattle.book.specs.Lines.{line};
 ghost use Rattle.levels.specs.Fronts.{next_from, moved_up};
@@ -13,7 +12,7 @@ use auction::tiers::run_from;
 use book::order_at;
 use book::seats::places_of;
 use figures::no_levels;
-use model::{Level, Levels};
+use model::{Level, Levels, Order};
 
 // A price with its shares, and the place where the next price stands.
 #[derive(Clone, Copy)]
@@ -23,8 +22,8 @@ pub struct Next {
 }
 
 // The price at a place, up to the end of its side, with all shares that stand at it; zeros behind the last order.
-fn next_from(rows: &[[u64; 5]], at: usize, end: usize) -> Next
-    requires ranked { Ranked (book_of rows.now) }
+fn next_from(rows: &[Order], at: usize, end: usize) -> Next
+    requires ranked { Ranked rows.now }
     requires end_in_bounds { end ≤ length rows.now }
     ensures { result ≡ next_from at (line at end rows.now) }
 {
@@ -69,10 +68,10 @@ fn moved_up(levels: Levels, last: Level) -> Levels
 // How many prices a screen shows of a side.
 const PRICES: usize = 5;
 
-pub fn levels_of(rows: &[[u64; 5]], side: u64) -> Levels
-    requires ranked { Ranked (book_of rows.now) }
+pub fn levels_of(rows: &[Order], side: u64) -> Levels
+    requires ranked { Ranked rows.now }
     requires side_bound { side ≤ 1 }
-    ensures { result ≡ screen.levels_of side (book_of rows.now) }
+    ensures { result ≡ screen.levels_of side rows.now }
 {
     let line = places_of(rows, side);
     let end = line.to;

@@ -1,4 +1,5 @@
 -- One line in any memory: when the memory fits, when 15 is due, and what is left then. Assumes nothing.
+use Rattle.model.specs.declared.Order as Orders
 use Prim.Native.Nat.{ℕ, ◌≤◌}
 use mathlib.Core.Path.{◌≡◌, refl, sym, ap}
 use mathlib.Core.Bool.{Bool, true, false, not, ◌&&◌}
@@ -27,7 +28,6 @@ use Rattle.model.specs.Session as Session
 use Rattle.model.specs.Session.{Desk, clock_answer, order_answer, cancel_answer, on_desk, event_answer, answer, lent_trades}
 use Rattle.model.proofs.Bools.{not_both, and_left, and_right, and_no, and_yes}
 use Rattle.model.proofs.Rules.{hit}
-use Rattle.book.specs.Rows.{book_of, trades_of}
 use Rattle.book.specs.Promises.{cancel_refused}
 use Rattle.printing.specs.Printing.{Wrote}
 use Rattle.desk.proofs.Lent.{answered}
@@ -65,7 +65,7 @@ module _ (places trades output : ℕ) where
 
 -- ---- whether 15 is due
 
-module _ (c : Command) (k : Desk.Desk) (rows : List (List ℕ)) where
+module _ (c : Command) (k : Desk.Desk) (rows : List Orders.Order) where
   pub asks_nothing : asks_day c ≡ false → false ≡ asks_unsound c (desk_of k rows)
   unfolding asks_unsound
   asks_nothing e = and_no _ e
@@ -78,7 +78,7 @@ module _ (c : Command) (k : Desk.Desk) (rows : List (List ℕ)) where
       {d : Day} {s : Bool}
       → asks_day c ≡ true
       → k ≡ Desk.TheVariants.Open d
-      → s ≡ (has_places (book_of rows) && sound d (book_of rows))
+      → s ≡ (has_places rows && sound d rows)
       → not s ≡ asks_unsound c (desk_of k rows)
   unfolding asks_unsound unsound
   asks_it e f g = and_yes _ e (rw f (ap not g))
@@ -124,10 +124,10 @@ unfolding asks_unsound
 none_due c u = not_both (and_right (asks_day c) false u) refl
 
 -- the desk stays, and so does all memory but the text
-module _ (rows trades : List (List ℕ)) {out out' : List ℕ} (r : Answered) (h : 110 ≤ length out) (w : Wrote out 0 (refusal_line 15) out' r.next) where
+module _ (rows : List Orders.Order) (trades : List Trade) {out out' : List ℕ} (r : Answered) (h : 110 ≤ length out) (w : Wrote out 0 (refusal_line 15) out' r.next) where
   module _ (d : Day) (e : r.desk ≡ Desk.TheVariants.Open d) where
     abbrev s : Desk
-    s = record { day = d; book = book_of rows }
+    s = record { day = d; book = rows }
 
     stays : {a : Session.Answered} → a ≡ answered (refusal_line 15) (some s) → Leaves a rows out 0 rows out' r
     stays g = leaves g w (line_within w (refusal_fits 15) h) (rw e) (λ _. refl)
@@ -138,11 +138,11 @@ module _ (rows trades : List (List ℕ)) {out out' : List ℕ} (r : Answered) (h
     on_open (Asks (Open close mark)) u = absurd (not_both u refl)
     on_open (Asks (Clock t)) u = record {
       leaves = stays (clock_said s u t);
-      list = sym (ap (λ (o : Outcome ClockAnswer). o.trades) (clock_15 s u t (trades_of trades)));
+      list = sym (ap (λ (o : Outcome ClockAnswer). o.trades) (clock_15 s u t trades));
     }
     on_open (Asks (Order a)) u = record {
       leaves = stays (order_said s u a);
-      list = sym (ap (λ (o : Outcome OrderAnswer). o.trades) (order_15 s u a (trades_of trades)));
+      list = sym (ap (λ (o : Outcome OrderAnswer). o.trades) (order_15 s u a trades));
     }
     on_open (Asks (Cancel account number)) u = record { leaves = stays (cancel_said s u account number); list = refl }
 

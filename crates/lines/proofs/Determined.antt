@@ -1,5 +1,5 @@
 -- No two differing outcomes meet the promise of a line's answer: what is handed back, the output, and every place of lent
--- memory. A row of memory has its five or four numbers; that is all that is asked of the rows. Assumes nothing.
+-- memory. Assumes nothing.
 use Prim.Native.Nat.{ℕ}
 use mathlib.Core.Path.{◌≡◌, refl, sym, ap, ◌∙◌}
 use mathlib.Core.List.{List}
@@ -11,14 +11,13 @@ use Rattle.model.specs.declared.Command.{Command}
 use Rattle.model.specs.Lines.{Line, line_command}
 use Rattle.model.specs.Session.{Desk}
 use Rattle.model.proofs.Bools.{true_or_false}
-use Rattle.book.specs.Rows.{book_of}
-use Rattle.day.proofs.Determined.{Places, Trades, same_places, same_trades}
 use Rattle.desk.specs.declared.Desk as Desk
 use Rattle.desk.specs.declared.Answered.{Answered}
 use Rattle.lines.specs.declared.LineAnswer.{LineAnswer}
 use Rattle.lines.specs.declared.LineAnswer.TheVariants.{Given}
 use Rattle.desk.specs.Desks.{desk_of, Answering}
 use Rattle.lines.specs.OneLine.{fits, OneLine}
+use Rattle.model.specs.declared.Trade.{Trade}
 
 -- ---- what an open day's desk says, else what stood there before
 
@@ -31,10 +30,10 @@ book_or book none = book
 book_or book (some s) = s.book
 
 by_desk :
-    (book : List Order) {k : Option Desk} (desk : Desk.Desk) (rows : List (List ℕ))
+    (book : List Order) {k : Option Desk} (desk : Desk.Desk) (rows : List Order)
     → desk_of desk rows ≡ k
-    → (desk ≡ Desk.TheVariants.Closed → book_of rows ≡ book)
-    → (desk ≡ as_held k) × (book_of rows ≡ book_or book k)
+    → (desk ≡ Desk.TheVariants.Closed → rows ≡ book)
+    → (desk ≡ as_held k) × (rows ≡ book_or book k)
 by_desk book Desk.TheVariants.Closed rows e h = (ap as_held e, h refl ∙ ap (book_or book) e)
 by_desk book (Desk.TheVariants.Open d) rows e h = (ap as_held e, ap (book_or book) e)
 
@@ -46,39 +45,34 @@ same_answer r s e f =
     ∙ ap (λ (x : ℕ). record { desk = s.desk; next = x }) f
 
 module _
-    (c : Command) (desk : Desk.Desk) (rows trades : List (List ℕ)) (before : List ℕ) (at : ℕ)
-    (m n ts us : List (List ℕ)) (after last : List ℕ) (r s : Answered)
-    (pm : Places m) (pn : Places n) (pt : Trades ts) (pu : Trades us)
+    (c : Command) (desk : Desk.Desk) (rows : List Order) (trades : List Trade) (before : List ℕ) (at : ℕ)
+    (m n : List Order) (ts us : List Trade) (after last : List ℕ) (r s : Answered)
     (a : Answering c desk rows trades before at m ts after r)
     (b : Answering c desk rows trades before at n us last s) where
   pub answer_determined : (r ≡ s) × (m ≡ n) × (ts ≡ us) × (after ≡ last)
   answer_determined =
-      let x = by_desk (book_of rows) r.desk m a.leaves.desk a.leaves.idle in
-      let y = by_desk (book_of rows) s.desk n b.leaves.desk b.leaves.idle in
+      let x = by_desk rows r.desk m a.leaves.desk a.leaves.idle in
+      let y = by_desk rows s.desk n b.leaves.desk b.leaves.idle in
       let g : r.next ≡ s.next = a.leaves.text.place ∙ sym b.leaves.text.place in (
         same_answer r s (x.0 ∙ sym y.0) g,
-        same_places m n pm pn (x.1 ∙ sym y.1),
-        same_trades ts us pt pu (a.list ∙ sym b.list),
+        x.1 ∙ sym y.1,
+        a.list ∙ sym b.list,
         a.leaves.text.bytes ∙ sym b.leaves.text.bytes,
       )
 
 -- ---- one line in any memory
 
 pub line_determined :
-    (l : Line) (desk : Desk.Desk) (rows trades : List (List ℕ)) (out : List ℕ) (m n ts us : List (List ℕ)) (after last : List ℕ) (r s : LineAnswer)
-    → Places m
-    → Places n
-    → Trades ts
-    → Trades us
+    (l : Line) (desk : Desk.Desk) (rows : List Order) (trades : List Trade) (out : List ℕ) (m n : List Order) (ts us : List Trade) (after last : List ℕ) (r s : LineAnswer)
     → OneLine l desk rows trades out m ts after r
     → OneLine l desk rows trades out n us last s
     → (r ≡ s) × (m ≡ n) × (ts ≡ us) × (after ≡ last)
-line_determined l desk rows trades out m n ts us after last r s pm pn pt pu x y =
+line_determined l desk rows trades out m n ts us after last r s x y =
     ⊎_elim
     (λ t.
     let a = x.given t in
     let b = y.given t in
-    let e = answer_determined (line_command l) desk rows trades out 0 m n ts us after last a.0 b.0 pm pn pt pu a.2 b.2 in
+    let e = answer_determined (line_command l) desk rows trades out 0 m n ts us after last a.0 b.0 a.2 b.2 in
     (a.1 ∙ ap Given e.0 ∙ sym b.1, e.1, e.2, e.3))
     (λ t.
     let a = x.unfit t in

@@ -6,13 +6,15 @@ use Rattle.desk.specs.declared.Answered.{Answered}
 use Rattle.lines.specs.declared.LineAnswer.{LineAnswer}
 use Rattle.lines.specs.declared.LineAnswer.TheVariants.{Unfit, Given}
 use Rattle.desk.specs.Desks.{Answering}
+use Rattle.model.specs.declared.Order.{Order}
+use Rattle.model.specs.declared.Trade.{Trade}
 
 -- the memory that the program lends: 1,024 places, 2,048 trades, and an output that holds the longest answer
 unfoldable pub fits : ℕ → ℕ → ℕ → Bool
 fits places trades output = eqb places 1_024 && (eqb trades 2_048 && leb 262_254 output)
 
 -- in such memory the line is answered at the output's front; any other memory is left as it is
-pub record OneLine (l : Line) (desk : Desk) (rows trades : List (List ℕ)) (out : List ℕ) (rows' trades' : List (List ℕ)) (out' : List ℕ) (r : LineAnswer) : Type 0 where
+pub record OneLine (l : Line) (desk : Desk) (rows : List Order) (trades : List Trade) (out : List ℕ) (rows' : List Order) (trades' : List Trade) (out' : List ℕ) (r : LineAnswer) : Type 0 where
   pub given :
       fits (length rows) (length trades) (length out) ≡ true
       → (a : Answered) × (r ≡ Given a) × Answering (line_command l) desk rows trades out 0 rows' trades' out' a

@@ -7,7 +7,7 @@ ghost use Rattle.lines.specs.OneLine.{fits, OneLine};
 
 use desk::answering::{answer_command, refuse};
 use desk::{Answered, Desk, LENT_PLACES, LENT_TRADES, LONGEST_ANSWER};
-use model::{Command, Event};
+use model::{Command, Event, Order, Trade};
 use parsing::command_of;
 use soundness::is_sound;
 
@@ -44,7 +44,7 @@ fn asks_day(c: Command) -> bool
 }
 
 // Whether 15 is due.
-fn asks_unsound(desk: Desk, rows: &[[u64; 5]], c: Command) -> bool
+fn asks_unsound(desk: Desk, rows: &[Order], c: Command) -> bool
     ensures { result ≡ asks_unsound c (desk_of desk rows.now) }
 {
     if !asks_day(c) {
@@ -59,8 +59,8 @@ fn asks_unsound(desk: Desk, rows: &[[u64; 5]], c: Command) -> bool
 // A line without its newline. The answer is put at the output's front.
 pub fn answer_line(
     desk: Desk,
-    rows: &mut [[u64; 5]],
-    trades: &mut [[u64; 6]],
+    rows: &mut [Order],
+    trades: &mut [Trade],
     line: &[u8],
     out: &mut [u8],
 ) -> LineAnswer

@@ -13,8 +13,6 @@ use borrow.Author.Tests.{eq-eqb, ne_eqb}
 use Rattle.model.specs.declared.Order.{Order}
 use Rattle.model.specs.Book.{free, is_live}
 use Rattle.model.proofs.Bools.{and_both, not_both}
-use Rattle.book.specs.Rows.{order_of, book_of}
-use Rattle.book.proofs.Memory.{book_at}
 use Rattle.lookup.specs.Piles.{last_of, on_pile, none_yet, tops_with, under_with, Piled}
 use Rattle.lookup.proofs.Lasts.{last_zero, last_here, last_past}
 
@@ -138,22 +136,22 @@ under_length o i tops under = go (is_live o)
 
 -- ---- as the code has it
 
-module _ (rows : List (List ℕ)) (i : ℕ) (tops under : List ℕ) where
+module _ (rows : List Order) (i : ℕ) (tops under : List ℕ) where
   pub piled_on :
-      Piled (book_of rows) i tops under
+      Piled rows i tops under
       → {o : Order} {tops' under' : List ℕ}
-      → o ≡ order_of (get_or rows i [])
+      → o ≡ get_or rows i free
       → i < length rows
       → (tops' ≡ tops_with o i tops) × (under' ≡ under_with o i tops under)
-      → (length tops' ≡ length tops) × (length under' ≡ length under) × Piled (book_of rows) (i + 1) tops' under'
+      → (length tops' ≡ length tops) × (length under' ≡ length under) × Piled rows (i + 1) tops' under'
   piled_on p {o} {tops'} {under'} e l w =
-      let q = piled_more (book_of rows) i tops under p o (e ∙ book_at rows i) (omega (arith, l, length-map rows order_of)) tops' under' w.0 w.1 in
+      let q = piled_more rows i tops under p o (e) (omega (arith, l)) tops' under' w.0 w.1 in
       (q.wide ∙ sym p.wide, ap length w.1 ∙ under_length o i tops under, q)
 
   -- all of them
-  pub piled_all : length rows ≤ i → i ≤ length rows → Piled (book_of rows) i tops under → Piled (book_of rows) (length (book_of rows)) tops under
+  pub piled_all : length rows ≤ i → i ≤ length rows → Piled rows i tops under → Piled rows (length rows) tops under
   piled_all h k p =
-      let e : i ≡ length (book_of rows) = omega (arith, length-map rows order_of) in
+      let e : i ≡ length rows = omega arith in
       rw (sym e) p
 
 module _ (o : Order) (i : ℕ) (tops under : List ℕ) where

@@ -9,8 +9,6 @@ use borrow.Author.Tests.{eq-eqb, ne_eqb, eqb-true}
 use Rattle.model.specs.declared.Order.{Order}
 use Rattle.model.specs.Book.{free, is_live}
 use Rattle.model.proofs.Bools.{and_left, and_right, and_both}
-use Rattle.book.specs.Rows.{order_of, book_of}
-use Rattle.book.proofs.Memory.{book_at}
 use Rattle.lookup.specs.Piles.{last_of, bears, place_by, on_pile, Piled}
 use Rattle.lookup.proofs.Lasts.{last_zero, last_here, last_past, last_most, last_passes, last_of_last}
 
@@ -92,29 +90,29 @@ module _ (n : ℕ) (book : List Order) where
 -- ---- as the code has it, which counts from 1
 
 module _
-    (n : ℕ) (rows : List (List ℕ)) (at : ℕ) (h : 0 < at) (s : Sought n (book_of rows) at)
-    (o : Order) (e : o ≡ order_of (get_or rows (at - 1) [])) where
+    (n : ℕ) (rows : List Order) (at : ℕ) (h : 0 < at) (s : Sought n rows at)
+    (o : Order) (e : o ≡ get_or rows (at - 1) free) where
   counted : at ≡ suc (at - 1)
   counted = omega arith
 
-  here : Sought n (book_of rows) (suc (at - 1))
+  here : Sought n rows (suc (at - 1))
   here = rw counted at s
 
-  pub found_there : o.number ≡ n → at ≡ place_by n (book_of rows)
-  found_there f = counted ∙ found_here n (book_of rows) (at - 1) here o (e ∙ book_at rows (at - 1)) f
+  pub found_there : o.number ≡ n → at ≡ place_by n rows
+  found_there f = counted ∙ found_here n rows (at - 1) here o (e) f
 
   pub further_down :
       (tops under : List ℕ) {next : ℕ}
-      → Piled (book_of rows) (length (book_of rows)) tops under
+      → Piled rows (length rows) tops under
       → (o.number ≡ n → ⊥)
       → next ≡ get_or under (at - 1) 0
-      → Sought n (book_of rows) next × (next < at)
+      → Sought n rows next × (next < at)
   further_down tops under p f g =
-      let r = next_down n (book_of rows) (at - 1) here o (e ∙ book_at rows (at - 1)) tops under p f g in
+      let r = next_down n rows (at - 1) here o (e) tops under p f g in
       (r.0, omega (arith, r.1))
 
 -- a place that is found is one of the book's
-pub place_within : (n : ℕ) (rows : List (List ℕ)) {at : ℕ} → at ≡ place_by n (book_of rows) → at ≤ length rows
+pub place_within : (n : ℕ) (rows : List Order) {at : ℕ} → at ≡ place_by n rows → at ≤ length rows
 unfolding place_by
 place_within n rows e =
-    omega (arith, e, last_most (bears n) (book_of rows) (length (book_of rows)), length-map rows order_of)
+    omega (arith, e, last_most (bears n) rows (length rows))

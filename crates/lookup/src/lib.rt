@@ -3,7 +3,6 @@
 #![tactic(auto)]
 
 ghost use Rattle.std.specs.Prelude.{◌≡◌, ◌≤◌, ◌<◌, length};
-ghost use Rattle.book.specs.Rows.{book_of};
 ghost use Rattle.lookup.specs.Piles.{none_yet, tops_with, under_with, Piled, place_by};
 
 use book::order_at;
@@ -49,11 +48,11 @@ fn pile_order(tops: &mut [u16], under: &mut [u16], o: Order, i: usize)
 }
 
 // Every order on its pile.
-pub fn pile_orders(rows: &[[u64; 5]], tops: &mut [u16], under: &mut [u16])
+pub fn pile_orders(rows: &[Order], tops: &mut [u16], under: &mut [u16])
     requires rows_len_bound { length rows.now ≤ 4_096 }
     requires tops_value { tops.old ≡ none_yet 65_536 }
     requires rows_in_bounds { length rows.now ≤ length under.old }
-    ensures { Piled (book_of rows.now) (length (book_of rows.now)) tops.new under.new }
+    ensures { Piled rows.now (length rows.now) tops.new under.new }
 {
     let mut i = 0;
     while i < rows.len() {
@@ -64,9 +63,9 @@ pub fn pile_orders(rows: &[[u64; 5]], tops: &mut [u16], under: &mut [u16])
 }
 
 // The place of the live order with this number, or 0: from the top of its pile downwards.
-pub fn place_by(rows: &[[u64; 5]], tops: &[u16], under: &[u16], number: u64) -> usize
-    requires { Piled (book_of rows.now) (length (book_of rows.now)) tops.now under.now }
-    ensures { result ≡ place_by number (book_of rows.now) }
+pub fn place_by(rows: &[Order], tops: &[u16], under: &[u16], number: u64) -> usize
+    requires { Piled rows.now (length rows.now) tops.now under.now }
+    ensures { result ≡ place_by number rows.now }
 {
     let pile = (number % 65_536) as usize;
     let mut at = wide(tops[pile]);

@@ -19,7 +19,6 @@ use Rattle.model.specs.Book.{queue, best, other}
 use Rattle.model.specs.Matching.{sweep, at_five_best, filled, last_price}
 use Rattle.model.specs.Figures.{next_number}
 use Rattle.model.specs.Entry.{best_within, entry_price, opposite, entry_trades, rest_price}
-use Rattle.book.specs.Rows.{trade_rows}
 use Rattle.book.specs.Standing.{Standing, Ranked}
 use Rattle.book.specs.Writing.{fitted}
 use Rattle.book.proofs.Written.{fitted_nil}
@@ -88,32 +87,32 @@ module _ (d : Day) (a : Asked) (book : List Order) (phase : ℕ) (now : phase �
   -- ---- what `enter_trades` gives
 
   -- the tally, and the trade list
-  abbrev Entered : Swept → List (List ℕ) → List (List ℕ) → Type 0
-  Entered s l₀ l = (s ≡ comes_to (entry_trades d a book)) × (l ≡ fitted (trade_rows (entry_trades d a book)) l₀)
+  abbrev Entered : Swept → List Trade → List Trade → Type 0
+  Entered s l₀ l = (s ≡ comes_to (entry_trades d a book)) × (l ≡ fitted (entry_trades d a book) l₀)
 
-  none_entered : (s : Swept) (l : List (List ℕ)) → entry_trades d a book ≡ [] → s ≡ comes_to [] → Entered s l l
+  none_entered : (s : Swept) (l : List Trade) → entry_trades d a book ≡ [] → s ≡ comes_to [] → Entered s l l
   none_entered s l z e =
-      (e ∙ ap comes_to (sym z), sym (ap (λ (ts : List Trade). fitted (trade_rows ts) l) z ∙ fitted_nil l))
+      (e ∙ ap comes_to (sym z), sym (ap (λ (ts : List Trade). fitted ts l) z ∙ fitted_nil l))
 
-  pub outside : (s : Swept) (l : List (List ℕ)) → (phase ≡ 4 → ⊥) → s ≡ comes_to [] → Entered s l l
+  pub outside : (s : Swept) (l : List Trade) → (phase ≡ 4 → ⊥) → s ≡ comes_to [] → Entered s l l
   outside s l n = none_entered s l (other_phase n)
 
   module _ {own opp : ℕ} (eo : own ≡ best a.side book) (ex : opp ≡ best (other a.side) book) (price : ℕ) (p : price ≡ entry_at a own opp) where
     priced : price ≡ entry_price a book
     priced = p ∙ ap (λ (n : ℕ). entry_at a n opp) eo ∙ ap (λ (n : ℕ). entry_at a (best a.side book) n) ex ∙ sym (entry_price_lem a book)
 
-    pub unpriced : (s : Swept) (l : List (List ℕ)) → price ≡ 0 → s ≡ comes_to [] → Entered s l l
+    pub unpriced : (s : Swept) (l : List Trade) → price ≡ 0 → s ≡ comes_to [] → Entered s l l
     unpriced s l z = none_entered s l (no_price (sym priced ∙ z))
 
     pub entered :
-        (most : ℕ) (s : Swept) (l₀ l : List (List ℕ)) (t : Taker)
+        (most : ℕ) (s : Swept) (l₀ l : List Trade) (t : Taker)
         → Ranked book
         → phase ≡ 4
         → (price ≡ 0 → ⊥)
         → t ≡ record { side = a.side; number = d.issued + 1; limit = price }
         → most ≡ most_prices a.kind
         → (s ≡ comes_to (sweep t a.quantity (at_best most (queue (other a.side) book))))
-        × (l ≡ fitted (trade_rows (sweep t a.quantity (at_best most (queue (other a.side) book)))) l₀)
+        × (l ≡ fitted (sweep t a.quantity (at_best most (queue (other a.side) book))) l₀)
         → Entered s l₀ l
     unfolding next_number most_prices
     entered most s l₀ l t ranked f n e m r =
@@ -130,4 +129,4 @@ module _ (d : Day) (a : Asked) (book : List Order) (phase : ℕ) (now : phase �
         (add-one d.issued))
         ∙ sym (as_sweep f (λ z. n (priced ∙ z)))
         in
-        (r.0 ∙ ap comes_to all, r.1 ∙ ap (λ (ts : List Trade). fitted (trade_rows ts) l₀) all)
+        (r.0 ∙ ap comes_to all, r.1 ∙ ap (λ (ts : List Trade). fitted ts l₀) all)

@@ -14,7 +14,6 @@ use Rattle.model.specs.declared.Trade.{Trade}
 use Rattle.model.specs.declared.Taker.{Taker}
 use Rattle.model.specs.Book.{queue, other}
 use Rattle.model.specs.Matching.{trade_with, sweep}
-use Rattle.book.specs.Rows.{book_of, trade_row, trade_rows}
 use Rattle.model.specs.Words.{Each}
 use Rattle.book.specs.Standing.{Standing}
 use Rattle.book.specs.Writing.{fitted}
@@ -46,8 +45,8 @@ price_first s r n = rw (ne_eqb r.price s.last n, eq-eqb r.price r.price refl)
 -- ---- what holds at every turn
 
 -- the orders that a taker may meet
-abbrev pub against : Taker → List (List ℕ) → List Order
-against t rows = queue (other t.side) (book_of rows)
+abbrev pub against : Taker → List Order → List Order
+against t rows = queue (other t.side) rows
 
 -- the trades still to come: at the last price, and at as many more as are left
 abbrev pub coming : Taker → ℕ → Swept → ℕ → List Order → List Trade
@@ -61,21 +60,21 @@ NewPrice p (o ∷ os) = o.price ≡ p → ⊥
 module _ (t : Taker) (most : ℕ) where
   -- from one point of the way to a later one: a tally, the quantity left, the orders from there on, and the trade list
   pub record Same
-      (s₀ : Swept) (left₀ : ℕ) (os₀ : List Order) (out₀ : List (List ℕ))
-      (s : Swept) (left : ℕ) (os : List Order) (out : List (List ℕ)) : Type 0 where
+      (s₀ : Swept) (left₀ : ℕ) (os₀ : List Order) (out₀ : List Trade)
+      (s : Swept) (left : ℕ) (os : List Order) (out : List Trade) : Type 0 where
     pub adds_up : counted s (coming t most s left os) ≡ counted s₀ (coming t most s₀ left₀ os₀)
     pub laid :
-        sets out s.trades (trade_rows (coming t most s left os))
-        ≡ sets out₀ s₀.trades (trade_rows (coming t most s₀ left₀ os₀))
+        sets out s.trades (coming t most s left os)
+        ≡ sets out₀ s₀.trades (coming t most s₀ left₀ os₀)
     pub long : length out ≡ length out₀
     pub filled : s.filled + left ≡ s₀.filled + left₀
     pub count : s.trades + length os ≡ s₀.trades + length os₀
 
-  pub here : {s : Swept} {left : ℕ} {os : List Order} {out : List (List ℕ)} → Same s left os out s left os out
+  pub here : {s : Swept} {left : ℕ} {os : List Order} {out : List Trade} → Same s left os out s left os out
   here = record { adds_up = refl; laid = refl; long = refl; filled = refl; count = refl }
 
   pub then :
-      {s₀ s₁ s₂ : Swept} {left₀ left₁ left₂ : ℕ} {os₀ os₁ os₂ : List Order} {out₀ out₁ out₂ : List (List ℕ)}
+      {s₀ s₁ s₂ : Swept} {left₀ left₁ left₂ : ℕ} {os₀ os₁ os₂ : List Order} {out₀ out₁ out₂ : List Trade}
       → Same s₀ left₀ os₀ out₀ s₁ left₁ os₁ out₁
       → Same s₁ left₁ os₁ out₁ s₂ left₂ os₂ out₂
       → Same s₀ left₀ os₀ out₀ s₂ left₂ os₂ out₂
@@ -88,7 +87,7 @@ module _ (t : Taker) (most : ℕ) where
         count = b.count ∙ a.count;
       }
 
-  module _ (s : Swept) (left : ℕ) (out : List (List ℕ)) where
+  module _ (s : Swept) (left : ℕ) (out : List Trade) where
     -- nobody is left
     pub nobody : {os : List Order} → os ≡ [] → coming t most s left os ≡ []
     nobody z =
@@ -157,7 +156,7 @@ module _ (t : Taker) (most : ℕ) where
               rw f
               (record {
                 adds_up = tallied;
-                laid = ap (λ (ts : List Trade). sets out s.trades (trade_rows ts)) (then_coming ∙ sym now_coming);
+                laid = ap (λ (ts : List Trade). sets out s.trades ts) (then_coming ∙ sym now_coming);
                 long = refl;
                 filled = refl;
                 count = refl;
@@ -169,7 +168,7 @@ module _ (t : Taker) (most : ℕ) where
         less = trade_takes t left o r q
 
         pub one_more :
-            {s₀ : Swept} {left₀ : ℕ} {os₀ : List Order} {out₀ : List (List ℕ)}
+            {s₀ : Swept} {left₀ : ℕ} {os₀ : List Order} {out₀ : List Trade}
             → Same s₀ left₀ os₀ out₀ s left os out
             → s₀ ≡ comes_to []
             → length os₀ < 2 ^ 64
@@ -214,9 +213,9 @@ module _ (t : Taker) (most : ℕ) where
               ∙ ap (counted s) (sym (turn w))
 
           pub trade_made :
-              {s' : Swept} {out' : List (List ℕ)}
+              {s' : Swept} {out' : List Trade}
               → wants t left o.price ≡ true
-              → out' ≡ set out s.trades (trade_row r)
+              → out' ≡ set out s.trades r
               → s' ≡ one_trade s r
               → Same s left os out s' (left - r.quantity) behind out'
           unfolding one_trade
@@ -227,17 +226,17 @@ module _ (t : Taker) (most : ℕ) where
                 laid =
                     ap
                     (λ (n : ℕ).
-                    sets (set out s.trades (trade_row r)) n (trade_rows (coming t most s (left - r.quantity) behind)))
+                    sets (set out s.trades r) n (coming t most s (left - r.quantity) behind))
                     (add-one s.trades)
-                    ∙ ap (λ (ts : List Trade). sets out s.trades (trade_rows ts)) (sym (turn w));
-                long = length-set out s.trades (trade_row r);
+                    ∙ ap (λ (ts : List Trade). sets out s.trades ts) (sym (turn w));
+                long = length-set out s.trades r;
                 filled = omega (arith, less q);
                 count = omega (arith, ap length e);
               })
 
 -- ---- where it ends
 
-module _ (t : Taker) (most quantity : ℕ) (rows lent : List (List ℕ)) (standing : Standing (book_of rows)) where
+module _ (t : Taker) (most quantity : ℕ) (rows : List Order) (lent : List Trade) (standing : Standing rows) where
   abbrev side : ℕ
   side = other t.side
 
@@ -245,10 +244,10 @@ module _ (t : Taker) (most quantity : ℕ) (rows lent : List (List ℕ)) (standi
   priced =
       each (Stands side) (λ (o : Order). o.price ≡ 0 → ⊥) (against t rows)
       (λ o h z. omega (arith, h.0.priced (on_live side o h.1), z))
-      (queue_stands side (book_of rows) standing.fair)
+      (queue_stands side rows standing.fair)
 
   best : cut_levels most (against t rows) ≡ at_best most (against t rows)
-  best = cut_best side 0 most (against t rows) (queue_worsens side (book_of rows) standing)
+  best = cut_best side 0 most (against t rows) (queue_worsens side rows standing)
 
   first : coming t most unswept quantity (against t rows) ≡ sweep t quantity (cut_levels most (against t rows))
   first =
@@ -265,12 +264,12 @@ module _ (t : Taker) (most quantity : ℕ) (rows lent : List (List ℕ)) (standi
       go (o ∷ os) f = f.0
 
   pub outcome :
-      {s₀ s : Swept} {left : ℕ} {os₀ os : List Order} {out : List (List ℕ)}
+      {s₀ s : Swept} {left : ℕ} {os₀ os : List Order} {out : List Trade}
       → s₀ ≡ comes_to []
       → os₀ ≡ against t rows
       → Same t most s₀ quantity os₀ lent s left os out
       → coming t most s left os ≡ []
-      → (s ≡ comes_to (swept t most quantity rows)) × (out ≡ fitted (trade_rows (swept t most quantity rows)) lent)
+      → (s ≡ comes_to (swept t most quantity rows)) × (out ≡ fitted (swept t most quantity rows) lent)
   outcome {s₀} {s} {left} {os₀} {os} {out} z e a done =
       let begin : s₀ ≡ unswept = z ∙ nothing_yet in
       let whole : coming t most s₀ quantity os₀ ≡ sweep t quantity (cut_levels most (against t rows)) = rw (begin, e) first in
@@ -280,13 +279,13 @@ module _ (t : Taker) (most quantity : ℕ) (rows lent : List (List ℕ)) (standi
             ∙ a.adds_up
             ∙ ap (λ (x : Swept). counted x (coming t most s₀ quantity os₀)) begin
             ∙ ap (counted unswept) whole
-            ∙ sweep_counts t quantity most side (book_of rows) standing priced
+            ∙ sweep_counts t quantity most side rows standing priced
             ∙ ap (λ (q : List Order). comes_to (sweep t quantity q)) best,
-        ap (λ (ts : List Trade). sets out s.trades (trade_rows ts)) (sym done)
+        ap (λ (ts : List Trade). sets out s.trades ts) (sym done)
             ∙ a.laid
-            ∙ ap (λ (n : ℕ). sets lent n (trade_rows (coming t most s₀ quantity os₀))) none
-            ∙ ap (λ (ts : List Trade). sets lent 0 (trade_rows ts)) (whole ∙ ap (sweep t quantity) best)
-            ∙ sets_fitted (trade_rows (swept t most quantity rows)) lent,
+            ∙ ap (λ (n : ℕ). sets lent n (coming t most s₀ quantity os₀)) none
+            ∙ ap (λ (ts : List Trade). sets lent 0 ts) (whole ∙ ap (sweep t quantity) best)
+            ∙ sets_fitted (swept t most quantity rows) lent,
       )
 
 -- ---- the next order begins another price

@@ -6,7 +6,6 @@ use Rattle.model.specs.declared.Taker.{Taker}
 use Rattle.model.specs.Lists.{keep, among, once}
 use Rattle.model.specs.Book.{other, queue}
 use Rattle.model.specs.Matching.{meets, sweep, filled, levels, last_price}
-use Rattle.book.specs.Rows.{book_of}
 use Rattle.matching.specs.declared.Swept.{Swept}
 
 -- the n best prices of a queue, and its orders that stand at them
@@ -14,8 +13,8 @@ unfoldable pub at_best : ℕ → List Order → List Order
 at_best n os = keep (λ o. among (take n (once (map (λ o. o.price) os))) o.price) os
 
 -- the trades of a taker with the n best prices of the other side
-abbrev pub swept : Taker → ℕ → ℕ → List (List ℕ) → List Trade
-swept t n quantity rows = sweep t quantity (at_best n (queue (other t.side) (book_of rows)))
+abbrev pub swept : Taker → ℕ → ℕ → List Order → List Trade
+swept t n quantity rows = sweep t quantity (at_best n (queue (other t.side) rows))
 
 -- what a run of trades comes to
 unfoldable pub comes_to : List Trade → Swept

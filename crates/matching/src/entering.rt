@@ -5,7 +5,6 @@ ghost use Rattle.model.specs.Book.{best};
 ghost use Rattle.model.specs.Book as sides;
 ghost use Rattle.model.specs.Matching as matching;
 ghost use Rattle.model.specs.Entry.{entry_trades};
-ghost use Rattle.book.specs.Rows.{book_of, trade_rows};
 ghost use Rattle.book.specs.Standing.{Ranked};
 ghost use Rattle.book.specs.Writing.{fitted};
 ghost use Rattle.matching.specs.Sweeping.{comes_to};
@@ -13,7 +12,7 @@ ghost use Rattle.matching.specs.Entering.{best_for, entry_at, rest_at, most_pric
 
 use crate::Swept;
 use crate::sweeping::{nothing_yet, sweep};
-use model::{Asked, CONTINUOUS, Day, Taker};
+use model::{Asked, CONTINUOUS, Day, Order, Taker, Trade};
 
 // A book has no more prices than places.
 const MOST_PRICES: u64 = 4_096;
@@ -79,20 +78,20 @@ fn most_prices(kind: u64) -> u64
 // gets the first. The best prices of its own side and of the other are handed in.
 pub fn enter_trades(
     d: Day,
-    rows: &[[u64; 5]],
-    trades: &mut [[u64; 6]],
+    rows: &[Order],
+    trades: &mut [Trade],
     a: Asked,
     phase: u64,
     own: u64,
     other: u64,
 ) -> Swept
-    requires ranked { Ranked (book_of rows.now) }
+    requires ranked { Ranked rows.now }
     requires phase_value { phase ≡ phase_now d }
-    requires own_value { own ≡ best a.side (book_of rows.now) }
-    requires other_value { other ≡ best (sides.other a.side) (book_of rows.now) }
+    requires own_value { own ≡ best a.side rows.now }
+    requires other_value { other ≡ best (sides.other a.side) rows.now }
     requires issued_bound { d.issued ≤ 999_999 }
-    ensures value { result ≡ comes_to (entry_trades d a (book_of rows.now)) }
-    ensures trades_after { trades.new ≡ fitted (trade_rows (entry_trades d a (book_of rows.now))) trades.old }
+    ensures value { result ≡ comes_to (entry_trades d a rows.now) }
+    ensures trades_after { trades.new ≡ fitted (entry_trades d a rows.now) trades.old }
 {
     if phase != CONTINUOUS {
         return nothing_yet();

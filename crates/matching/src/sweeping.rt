@@ -2,7 +2,6 @@
 ghost use Rattle.std.specs.Prelude.{◌≡◌, ◌+◌, ◌<◌, ◌^◌, []};
 ghost use Rattle.model.specs.Book.{other};
 ghost use Rattle.model.specs.Matching as matching;
-ghost use Rattle.book.specs.Rows.{book_of, trade_rows};
 ghost use Rattle.book.specs.Standing.{Ranked};
 ghost use Rattle.book.specs.Writing.{fitted};
 ghost use Rattle.matching.specs.Sweeping as sweeping;
@@ -108,16 +107,10 @@ fn with_trade(s: Swept, t: Trade) -> Swept
 }
 
 // The trades of a taker with the `most` best prices of the other side. All are counted; a list that is too short gets the first.
-pub fn sweep(
-    rows: &[[u64; 5]],
-    trades: &mut [[u64; 6]],
-    t: Taker,
-    quantity: u64,
-    most: u64,
-) -> Swept
-    requires { Ranked (book_of rows.now) }
+pub fn sweep(rows: &[Order], trades: &mut [Trade], t: Taker, quantity: u64, most: u64) -> Swept
+    requires { Ranked rows.now }
     ensures value { result ≡ comes_to (swept t most quantity rows.now) }
-    ensures trades_after { trades.new ≡ fitted (trade_rows (swept t most quantity rows.now)) trades.old }
+    ensures trades_after { trades.new ≡ fitted (swept t most quantity rows.now) trades.old }
 {
     let line = places_of(rows, other_side(t.side));
     let end = line.to;

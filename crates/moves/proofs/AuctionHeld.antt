@@ -24,13 +24,11 @@ use Rattle.model.specs.Sound.{crosses}
 use Rattle.model.specs.Pairing.{trades_at}
 use Rattle.model.specs.Calls.{cleared}
 use Rattle.model.specs.ClockCall.{auction_trades, Held, auction, resume, lapse, pass, start}
-use Rattle.book.specs.Rows.{order_of, book_of, rows_of, trade_of, trade_row, trades_of, trade_rows}
 use Rattle.model.proofs.Bools.{not_false_true}
 use Rattle.model.specs.Words.{Each}
 use Rattle.book.specs.Standing.{Standing, Ranked}
 use Rattle.book.specs.Writing.{fitted}
 use Rattle.book.proofs.Lists.{each}
-use Rattle.book.proofs.Memory.{book_rows}
 use Rattle.book.proofs.Arranging.{cleared_frees, arranged_length}
 use Rattle.book.proofs.Written.{fitted_nil, fitted_all, fitted_trades}
 use Rattle.pairing.proofs.Auctioned.{volume_filled}
@@ -74,7 +72,7 @@ module _ (d : Day) (book : List Order) (s : Standing book) {c : Bool} (e : c ≡
   unfolding dealt filled total
   none_dealt = rw none
 
-  pub none_written : (lent : List (List ℕ)) → lent ≡ fitted (trade_rows (auction_trades d book)) lent
+  pub none_written : (lent : List Trade) → lent ≡ fitted (auction_trades d book) lent
   none_written lent = rw none (sym (fitted_nil lent))
 
 pub made_of : (d : Day) (book : List Order) {r : Dealt} → r ≡ dealt (auction_trades d book) → r.made ≡ length (auction_trades d book)
@@ -84,20 +82,19 @@ made_of d book e = rw e
 -- ---- the book after them
 
 pub auction_settled :
-    (d : Day) (rows : List (List ℕ)) (s : Standing (book_of rows)) {after : List Order} {r : Dealt}
-    → r ≡ dealt (auction_trades d (book_of rows))
-    → ((p : ℕ) → volume (book_of rows) p ≡ r.shares → after ≡ arranged (length rows) (settle (trades_at p (book_of rows)) (book_of rows)))
-    → after ≡ arranged (length (book_of rows)) (settle (auction_trades d (book_of rows)) (book_of rows))
+    (d : Day) (rows : List Order) (s : Standing rows) {after : List Order} {r : Dealt}
+    → r ≡ dealt (auction_trades d rows)
+    → ((p : ℕ) → volume rows p ≡ r.shares → after ≡ arranged (length rows) (settle (trades_at p rows) rows))
+    → after ≡ arranged (length rows) (settle (auction_trades d rows) rows)
 unfolding dealt
 auction_settled d rows s {after} {r} e f =
-    let book = book_of rows in
-    let p = auction_price d (book_of rows) in
-    f (auction_price d (book_of rows))
-    (sym (volume_filled (auction_price d (book_of rows)) (book_of rows) s)
-    ∙ ap filled (sym (auction_trades_are (book_of rows) s d))
+    let book = rows in
+    let p = auction_price d rows in
+    f (auction_price d rows)
+    (sym (volume_filled (auction_price d rows) rows s)
+    ∙ ap filled (sym (auction_trades_are rows s d))
     ∙ sym (ap (λ (x : Dealt). x.shares) e))
-    ∙ ap (λ (ts : List Trade). arranged (length rows) (settle ts (book_of rows))) (sym (auction_trades_are (book_of rows) s d))
-    ∙ ap (λ (n : ℕ). arranged n (settle (auction_trades d (book_of rows)) (book_of rows))) (sym (length-map rows order_of))
+    ∙ ap (λ (ts : List Trade). arranged (length rows) (settle ts rows)) (sym (auction_trades_are rows s d))
 
 -- ---- room in the day's figures
 
@@ -141,74 +138,74 @@ module _ (h : Held) (u : Underway h) where
 
 -- ---- what it comes to, at the front of a list
 
-module _ (d : Day) (rows lent : List (List ℕ)) (fits : length (auction_trades d (book_of rows)) ≤ length lent) where
+module _ (d : Day) (rows : List Order) (lent : List Trade) (fits : length (auction_trades d rows) ≤ length lent) where
   abbrev new : List Trade
-  new = auction_trades d (book_of rows)
+  new = auction_trades d rows
 
-  pub start_ranked : Underway (start d (book_of rows)) → Ranked (book_of rows)
+  pub start_ranked : Underway (start d rows) → Ranked rows
   unfolding start
   start_ranked u = u.ranked
 
-  module _ {n : ℕ} {after : List (List ℕ)} (en : n ≡ length new) (ea : after ≡ fitted (trade_rows new) lent) (kept : length after ≡ length lent) where
+  module _ {n : ℕ} {after : List Trade} (en : n ≡ length new) (ea : after ≡ fitted new lent) (kept : length after ≡ length lent) where
     -- the trades are read back from the list
-    back : trades_of (take n after) ≡ new
+    back : (take n after) ≡ new
     back =
-        ap (λ (k : ℕ). trades_of (take k after)) en
-        ∙ ap (λ (l : List (List ℕ)). trades_of (take (length new) l)) ea
+        ap (λ (k : ℕ). (take k after)) en
+        ∙ ap (λ (l : List Trade). (take (length new) l)) ea
         ∙ fitted_trades new lent fits
 
     -- and past them nothing has changed
     past_them : drop n after ≡ drop n lent
     past_them =
         ap (drop n) ea
-        ∙ ap (λ (l : List (List ℕ)). drop n l) (fitted_all (trade_rows new) lent (omega (arith, fits, length-map new trade_row)))
-        ∙ drop_at (trade_rows new) (drop (length (trade_rows new)) lent) n (length-map new trade_row ∙ sym en)
-        ∙ ap (λ (k : ℕ). drop k lent) (length-map new trade_row ∙ sym en)
+        ∙ ap (λ (l : List Trade). drop n l) (fitted_all new lent (omega (arith, fits)))
+        ∙ drop_at new (drop (length new) lent) n (sym en)
+        ∙ ap (λ (k : ℕ). drop k lent) (sym en)
 
     pub held_fits :
-        Underway (start d (book_of rows))
-        → (d.shares + filled (trades_of (take n after)) < 2 ^ 64) × (d.turnover + money (trades_of (take n after)) < 2 ^ 64)
+        Underway (start d rows)
+        → (d.shares + filled (take n after) < 2 ^ 64) × (d.turnover + money (take n after) < 2 ^ 64)
     unfolding start
-    held_fits u = rw back (figures_fit_lem (start d (book_of rows)) u)
+    held_fits u = rw back (figures_fit_lem (start d rows) u)
 
-    module _ {day : Day} (ed : day ≡ tally (trades_of (take n after)) d) where
+    module _ {day : Day} (ed : day ≡ tally (take n after) d) where
       tallied : day ≡ tally new d
       tallied = ed ∙ ap (λ (l : List Trade). tally l d) back
 
       -- after an auction
       pub held :
-          {rows₁ : List (List ℕ)}
-          → book_of rows₁ ≡ arranged (length (book_of rows)) (settle new (book_of rows))
-          → Reached (auction (start d (book_of rows))) lent (record { day = day; made = n }) rows₁ after
+          {rows₁ : List Order}
+          → rows₁ ≡ arranged (length rows) (settle new rows)
+          → Reached (auction (start d rows)) lent (record { day = day; made = n }) rows₁ after
       unfolding auction start
       held f = record { state = rw (tallied, f, back); within = omega (arith, kept, en, fits); past = past_them }
 
       -- and with the lapse
       pub closed :
-          {rows₁ : List (List ℕ)}
-          → rows₁ ≡ rows_of (cleared (book_of rows))
-          → Reached (lapse (auction (start d (book_of rows)))) lent (record { day = day; made = n }) rows₁ after
+          {rows₁ : List Order}
+          → rows₁ ≡ (cleared rows)
+          → Reached (lapse (auction (start d rows))) lent (record { day = day; made = n }) rows₁ after
       unfolding lapse auction start
       closed {rows₁} f =
-          let g : book_of rows₁ ≡ cleared (arranged (length (book_of rows)) (settle new (book_of rows))) =
-          ap book_of f ∙ book_rows (cleared (book_of rows)) ∙ cleared_same
+          let g : rows₁ ≡ cleared (arranged (length rows) (settle new rows)) =
+          f ∙ cleared_same
           in
           record { state = rw (tallied, g, back); within = omega (arith, kept, en, fits); past = past_them }
         where
           -- as many places are free
-          cleared_same : cleared (book_of rows) ≡ cleared (arranged (length (book_of rows)) (settle new (book_of rows)))
+          cleared_same : cleared rows ≡ cleared (arranged (length rows) (settle new rows))
           cleared_same =
-              cleared_frees (book_of rows)
-              ∙ ap (λ (k : ℕ). replicate k free) (sym (arranged_length (length (book_of rows)) (settle new (book_of rows))))
-              ∙ sym (cleared_frees (arranged (length (book_of rows)) (settle new (book_of rows))))
+              cleared_frees rows
+              ∙ ap (λ (k : ℕ). replicate k free) (sym (arranged_length (length rows) (settle new rows)))
+              ∙ sym (cleared_frees (arranged (length rows) (settle new rows)))
 
 -- ---- the end of a halt
 
-module _ (d : Day) (rows lent : List (List ℕ)) {p : Passage} {rows₁ after : List (List ℕ)} (r : Reached (auction (start d (book_of rows))) lent p rows₁ after) where
+module _ (d : Day) (rows : List Order) (lent : List Trade) {p : Passage} {rows₁ : List Order} {after : List Trade} (r : Reached (auction (start d rows)) lent p rows₁ after) where
   abbrev h : Held
-  h = start d (book_of rows)
+  h = start d rows
 
-  ended_back : trades_of (take p.made after) ≡ auction_trades h.day h.book
+  ended_back : (take p.made after) ≡ auction_trades h.day h.book
   unfolding auction start
   ended_back = ap (λ (k : Held). k.trades) r.state
 
@@ -221,7 +218,7 @@ module _ (d : Day) (rows lent : List (List ℕ)) {p : Passage} {rows₁ after : 
     over_is = eo ∙ ap (λ (k : Held). resumed k.day) r.state
 
     -- the open is a price, and so is the auction's
-    pub ended_priced : Underway h → Priced over (trades_of (take p.made after))
+    pub ended_priced : Underway h → Priced over (take p.made after)
     unfolding start
     ended_priced u =
         rw (eo, ended_day, ended_back)
@@ -242,7 +239,7 @@ module _ (d : Day) (rows lent : List (List ℕ)) {p : Passage} {rows₁ after : 
       pub ended_else :
           {day : Day}
           → (s ≡ 53_820 → ⊥)
-          → day ≡ fired s (trades_of (take p.made after)) over
+          → day ≡ fired s (take p.made after) over
           → Reached (resume s h) lent (record { day = day; made = p.made }) rows₁ after
       unfolding resume
       ended_else {day} n ed =
@@ -257,11 +254,11 @@ module _ (d : Day) (rows lent : List (List ℕ)) {p : Passage} {rows₁ after : 
 
 -- ---- by what is due
 
-module _ (s : ℕ) (d : Day) (rows : List (List ℕ)) where
+module _ (s : ℕ) (d : Day) (rows : List Order) where
   abbrev from : Held
-  from = start d (book_of rows)
+  from = start d rows
 
-  module _ {lent : List (List ℕ)} {p : Passage} {rows₁ after : List (List ℕ)} where
+  module _ {lent : List Trade} {p : Passage} {rows₁ : List Order} {after : List Trade} where
     pub reached_opening : s ≡ 33_900 → Reached (auction from) lent p rows₁ after → Reached (pass s from) lent p rows₁ after
     unfolding pass
     reached_opening e r = rw (eq-eqb s 33_900 e) r
@@ -311,19 +308,19 @@ behind s d book ts = go (eqb s 33_900) (eqb s d.halt) (eqb s 54_000)
     go false false true = refl
     go false false false = rw (append-nil ts)
 
-module _ (p : Passage) (s : ℕ) (rows lent : List (List ℕ)) (w : p.made ≤ length lent) where
-  pub next_underway : Underway (so_far p rows lent) → Underway (start p.day (book_of rows))
+module _ (p : Passage) (s : ℕ) (rows : List Order) (lent : List Trade) (w : p.made ≤ length lent) where
+  pub next_underway : Underway (so_far p rows lent) → Underway (start p.day rows)
   unfolding start
   next_underway u = record { ranked = u.ranked; shares = u.shares; most = u.most; opened = u.opened }
 
-  abbrev old : List (List ℕ)
+  abbrev old : List Trade
   old = take p.made lent
 
   -- what is left of the list, and what is left after that
-  abbrev rest : List (List ℕ)
+  abbrev rest : List Trade
   rest = take (length lent - p.made) (drop p.made lent)
 
-  abbrev beyond : List (List ℕ)
+  abbrev beyond : List Trade
   beyond = drop (length lent - p.made) (drop p.made lent)
 
   old_long : length old ≡ p.made
@@ -341,41 +338,39 @@ module _ (p : Passage) (s : ℕ) (rows lent : List (List ℕ)) (w : p.made ≤ l
       Underway (so_far p rows lent)
       → is_stop p.day.halt s ≡ true
       → length (pass s (so_far p rows lent)).trades ≤ length lent
-      → length (auction_trades p.day (book_of rows)) ≤ length rest
+      → length (auction_trades p.day rows) ≤ length rest
   next_fits u e f =
-      let a : (pass s (so_far p rows lent)).trades ≡ trades_of old ++ auction_trades p.day (book_of rows) =
+      let a : (pass s (so_far p rows lent)).trades ≡ old ++ auction_trades p.day rows =
       (pass_due (so_far p rows lent) u.ranked.stands s (stop_due (so_far p rows lent) s e)).trades in
       omega (
         arith,
         ap length a,
-        length-append (trades_of old) (auction_trades p.day (book_of rows)),
-        length-map old trade_of,
+        length-append old (auction_trades p.day rows),
         old_long,
         ap length rest_is,
         length-drop p.made lent,
       )
 
-  module _ {q : Passage} {rows₁ part : List (List ℕ)} (k : length part ≡ length rest) (r : Reached (pass s (start p.day (book_of rows))) rest q rows₁ part) where
+  module _ {q : Passage} {rows₁ : List Order} {part : List Trade} (k : length part ≡ length rest) (r : Reached (pass s (start p.day rows)) rest q rows₁ part) where
     pub sum_fits : p.made + q.made ≤ length lent
     sum_fits = omega (arith, r.within, ap length rest_is, length-drop p.made lent)
 
-    abbrev after : List (List ℕ)
+    abbrev after : List Trade
     after = old ++ (part ++ beyond)
 
-    all_back : trades_of (take (p.made + q.made) after) ≡ trades_of old ++ trades_of (take q.made part)
+    all_back : (take (p.made + q.made) after) ≡ old ++ (take q.made part)
     all_back =
-        ap (λ (n : ℕ). trades_of (take (n + q.made) after)) (sym old_long)
-        ∙ ap trades_of (take-append-add old (part ++ beyond) q.made)
-        ∙ ap (λ (l : List (List ℕ)). trades_of (old ++ l)) (take-append-le q.made part beyond r.within)
-        ∙ map-append trade_of old (take q.made part)
+        ap (λ (n : ℕ). (take (n + q.made) after)) (sym old_long)
+        ∙ (take-append-add old (part ++ beyond) q.made)
+        ∙ ap (λ (l : List Trade). (old ++ l)) (take-append-le q.made part beyond r.within)
 
     past_all : drop (p.made + q.made) after ≡ drop (p.made + q.made) lent
     past_all =
         ap (λ (n : ℕ). drop (n + q.made) after) (sym old_long)
         ∙ drop-append-add old (part ++ beyond) q.made
         ∙ drop-append-le q.made part beyond r.within
-        ∙ ap (λ (l : List (List ℕ)). l ++ beyond) r.past
-        ∙ ap (λ (l : List (List ℕ)). drop q.made rest ++ l) beyond_is
+        ∙ ap (λ (l : List Trade). l ++ beyond) r.past
+        ∙ ap (λ (l : List Trade). drop q.made rest ++ l) beyond_is
         ∙ append-nil (drop q.made rest)
         ∙ ap (drop q.made) rest_is
         ∙ drop-drop q.made p.made lent
@@ -384,9 +379,9 @@ module _ (p : Passage) (s : ℕ) (rows lent : List (List ℕ)) (w : p.made ≤ l
     then_held =
         record {
           state =
-              ap (λ (l : List Trade). record { day = q.day; book = book_of rows₁; trades = l }) all_back
-              ∙ ap (λ (h : Held). record { day = h.day; book = h.book; trades = trades_of old ++ h.trades }) r.state
-              ∙ sym (behind s p.day (book_of rows) (trades_of old));
+              ap (λ (l : List Trade). record { day = q.day; book = rows₁; trades = l }) all_back
+              ∙ ap (λ (h : Held). record { day = h.day; book = h.book; trades = old ++ h.trades }) r.state
+              ∙ sym (behind s p.day rows old);
           within = omega (arith, length-append old (part ++ beyond), length-append part beyond, old_long, r.within);
           past = past_all;
         }

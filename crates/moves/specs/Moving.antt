@@ -3,13 +3,13 @@ use Rattle.std.specs.Prelude.{ℕ, ◌+◌, ◌*◌, ◌≤◌, ◌≡◌, List,
 use Rattle.model.specs.declared.Order.{Order}
 use Rattle.model.specs.Lists.{total}
 use Rattle.model.specs.ClockCall.{Held}
-use Rattle.book.specs.Rows.{book_of, trades_of}
 use Rattle.book.specs.Standing.{Ranked}
 use Rattle.moves.specs.declared.Passage.{Passage}
+use Rattle.model.specs.declared.Trade.{Trade}
 
 -- a day and its book in the middle of a move, with the trades so far at the front of the lent list
-abbrev pub so_far : Passage → List (List ℕ) → List (List ℕ) → Held
-so_far p rows trades = record { day = p.day; book = book_of rows; trades = trades_of (take p.made trades) }
+abbrev pub so_far : Passage → List Order → List Trade → Held
+so_far p rows trades = record { day = p.day; book = rows; trades = (take p.made trades) }
 
 -- what a stop's step may use of them: the book stands in order, and the figures have room for its trades
 pub record Underway (h : Held) : Type 0 where
@@ -20,7 +20,7 @@ pub record Underway (h : Held) : Type 0 where
   pub opened : h.day.first ≤ 999_999
 
 -- the state h stands in memory, and past its trades the lent list is as it was
-pub record Reached (h : Held) (lent : List (List ℕ)) (p : Passage) (rows trades : List (List ℕ)) : Type 0 where
+pub record Reached (h : Held) (lent : List Trade) (p : Passage) (rows : List Order) (trades : List Trade) : Type 0 where
   pub state : so_far p rows trades ≡ h
   pub within : p.made ≤ length trades
   pub past : drop p.made trades ≡ drop p.made lent

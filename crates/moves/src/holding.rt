@@ -1,7 +1,6 @@
 // What is due at each stop of the clock: the opening auction, the end of a halt, the closing auction with the lapse.
 ghost use Rattle.std.specs.Prelude.{◌≡◌, true, ◌≤◌, length};
 ghost use Rattle.model.specs.ClockCall.{auction_trades, auction, resume, lapse, pass, start};
-ghost use Rattle.book.specs.Rows.{book_of, trade_rows};
 ghost use Rattle.book.specs.Standing.{Ranked};
 ghost use Rattle.book.specs.Deals.{dealt};
 ghost use Rattle.book.specs.Writing.{fitted};
@@ -16,7 +15,7 @@ use book::Dealt;
 use book::settling::clear_rows;
 use figures::{reference_of, tally_trades};
 use halts::firing::{fire, resume_day};
-use model::Day;
+use model::{Day, Order, Trade};
 use pairing::pair_at;
 use pairing::settling::settle_auction;
 use soundness::places::buys_reach_sells;
@@ -26,10 +25,10 @@ const CLOSING_CALL: u64 = 53_820;
 
 // The trades of an auction held now: all are counted, and as many are written as the list holds. No price is looked for where no
 // buy reaches a sell.
-pub fn auction_trades(d: Day, rows: &[[u64; 5]], trades: &mut [[u64; 6]]) -> Dealt
-    requires { Ranked (book_of rows.now) }
-    ensures value { result ≡ dealt (auction_trades d (book_of rows.now)) }
-    ensures trades_after { trades.new ≡ fitted (trade_rows (auction_trades d (book_of rows.now))) trades.old }
+pub fn auction_trades(d: Day, rows: &[Order], trades: &mut [Trade]) -> Dealt
+    requires { Ranked rows.now }
+    ensures value { result ≡ dealt (auction_trades d rows.now) }
+    ensures trades_after { trades.new ≡ fitted (auction_trades d rows.now) trades.old }
 {
     if !buys_reach_sells(rows) {
         return Dealt { made: 0, shares: 0 };
@@ -41,10 +40,10 @@ pub fn auction_trades(d: Day, rows: &[[u64; 5]], trades: &mut [[u64; 6]]) -> Dea
 }
 
 // An auction on the book as it is now: its trades at the front of the list, off the book, and onto the day's figures.
-fn hold_auction(d: Day, rows: &mut [[u64; 5]], trades: &mut [[u64; 6]]) -> Passage
-    requires underway { Underway (start d (book_of rows.old)) }
-    requires rows_in_bounds { length (auction_trades d (book_of rows.old)) ≤ length trades.old }
-    ensures { Reached (auction (start d (book_of rows.old))) trades.old result rows.new trades.new }
+fn hold_auction(d: Day, rows: &mut [Order], trades: &mut [Trade]) -> Passage
+    requires underway { Underway (start d rows.old) }
+    requires rows_in_bounds { length (auction_trades d rows.old) ≤ length trades.old }
+    ensures { Reached (auction (start d rows.old)) trades.old result rows.new trades.new }
 {
     let dealt = auction_trades(d, rows, &mut *trades);
     settle_auction(&mut *rows, dealt.shares);
@@ -55,10 +54,10 @@ fn hold_auction(d: Day, rows: &mut [[u64; 5]], trades: &mut [[u64; 6]]) -> Passa
 }
 
 // The closing auction, after which all that rests lapses.
-fn close_book(d: Day, rows: &mut [[u64; 5]], trades: &mut [[u64; 6]]) -> Passage
-    requires underway { Underway (start d (book_of rows.old)) }
-    requires rows_in_bounds { length (auction_trades d (book_of rows.old)) ≤ length trades.old }
-    ensures { Reached (lapse (auction (start d (book_of rows.old)))) trades.old result rows.new trades.new }
+fn close_book(d: Day, rows: &mut [Order], trades: &mut [Trade]) -> Passage
+    requires underway { Underway (start d rows.old) }
+    requires rows_in_bounds { length (auction_trades d rows.old) ≤ length trades.old }
+    ensures { Reached (lapse (auction (start d rows.old))) trades.old result rows.new trades.new }
 {
     let dealt = auction_trades(d, rows, &mut *trades);
     clear_rows(&mut *rows);
@@ -69,11 +68,11 @@ fn close_book(d: Day, rows: &mut [[u64; 5]], trades: &mut [[u64; 6]]) -> Passage
 }
 
 // The end of a halt: an auction, whose price may fire the other threshold, except at 14:57.
-fn end_halt(d: Day, rows: &mut [[u64; 5]], trades: &mut [[u64; 6]], second: u64) -> Passage
-    requires underway { Underway (start d (book_of rows.old)) }
-    requires rows_in_bounds { length (auction_trades d (book_of rows.old)) ≤ length trades.old }
+fn end_halt(d: Day, rows: &mut [Order], trades: &mut [Trade], second: u64) -> Passage
+    requires underway { Underway (start d rows.old) }
+    requires rows_in_bounds { length (auction_trades d rows.old) ≤ length trades.old }
     requires second_bound { second ≤ 86_399 }
-    ensures { Reached (resume second (start d (book_of rows.old))) trades.old result rows.new trades.new }
+    ensures { Reached (resume second (start d rows.old)) trades.old result rows.new trades.new }
 {
     let held = hold_auction(d, &mut *rows, &mut *trades);
     let made = held.made;
@@ -88,12 +87,12 @@ fn end_halt(d: Day, rows: &mut [[u64; 5]], trades: &mut [[u64; 6]], second: u64)
 }
 
 // What is due at a stop.
-pub fn pass_stop(d: Day, rows: &mut [[u64; 5]], trades: &mut [[u64; 6]], second: u64) -> Passage
-    requires underway { Underway (start d (book_of rows.old)) }
-    requires rows_in_bounds { length (auction_trades d (book_of rows.old)) ≤ length trades.old }
+pub fn pass_stop(d: Day, rows: &mut [Order], trades: &mut [Trade], second: u64) -> Passage
+    requires underway { Underway (start d rows.old) }
+    requires rows_in_bounds { length (auction_trades d rows.old) ≤ length trades.old }
     requires second_bound { second ≤ 86_399 }
     requires second_value { is_stop d.halt second ≡ true }
-    ensures { Reached (pass second (start d (book_of rows.old))) trades.old result rows.new trades.new }
+    ensures { Reached (pass second (start d rows.old)) trades.old result rows.new trades.new }
 {
     if second == OPENING_AUCTION {
         return hold_auction(d, &mut *rows, &mut *trades);

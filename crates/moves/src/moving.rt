@@ -2,7 +2,6 @@
 ghost use Rattle.std.specs.Prelude.{◌≡◌, true, false, ◌≤◌, ltb, length};
 ghost use Rattle.model.specs.Refusals.{unsound};
 ghost use Rattle.model.specs.ClockCall.{pass, moved, clock_call};
-ghost use Rattle.book.specs.Rows.{book_of, trades_of};
 ghost use Rattle.book.specs.Promises.{call_left, clock_refused};
 ghost use Rattle.soundness.specs.Ready.{Ready};
 ghost use Rattle.moves.specs.Stops.{is_stop};
@@ -13,16 +12,16 @@ use crate::holding::{auction_trades, pass_stop};
 use crate::stops::next_stop;
 use clock::{phase_now, row_at};
 use figures::day_at;
-use model::{ClockAnswer, ClockReply, Day, LAST_SECOND};
+use model::{ClockAnswer, ClockReply, Day, LAST_SECOND, Order, Trade};
 use screens::update_screen;
 
 // Whether the trades of what the move passes outnumber so many places. No auction has more than the book has places, so they are
 // counted only where the places are fewer: a list of none takes no trade, and all are counted. The first auction on the way has all
 // of them: after it no buy reaches a sell.
-fn lacks_places(d: Day, rows: &[[u64; 5]], places: usize, time: u64) -> bool
-    requires ready { Ready d (book_of rows.now) }
+fn lacks_places(d: Day, rows: &[Order], places: usize, time: u64) -> bool
+    requires ready { Ready d rows.now }
     requires time_le_time { d.time ≤ time }
-    ensures { result ≡ ltb places (length (moved d time (book_of rows.now)).trades) }
+    ensures { result ≡ ltb places (length (moved d time rows.now).trades) }
 {
     if rows.len() <= places {
         return false;
@@ -30,13 +29,12 @@ fn lacks_places(d: Day, rows: &[[u64; 5]], places: usize, time: u64) -> bool
     if next_stop(d.halt, d.time, time) == 0 {
         return false;
     }
-    let mut none = [[0; 6]; 1];
-    let counted = auction_trades(d, rows, &mut none[..0]);
+    let counted = auction_trades(d, rows, &mut []);
     places < counted.made
 }
 
 // What is due at a stop, with its trades after those so far.
-fn pass_next(p: Passage, rows: &mut [[u64; 5]], trades: &mut [[u64; 6]], second: u64) -> Passage
+fn pass_next(p: Passage, rows: &mut [Order], trades: &mut [Trade], second: u64) -> Passage
     requires made_in_bounds { p.made ≤ length trades.old }
     requires underway { Underway (so_far p rows.old trades.old) }
     requires second_bound { second ≤ 86_399 }
@@ -54,12 +52,12 @@ fn pass_next(p: Passage, rows: &mut [[u64; 5]], trades: &mut [[u64; 6]], second:
 }
 
 // The stops on the way. A halt that one of them starts has its end among those to come.
-pub fn pass_stops(d: Day, rows: &mut [[u64; 5]], trades: &mut [[u64; 6]], time: u64) -> Passage
-    requires ready { Ready d (book_of rows.old) }
+pub fn pass_stops(d: Day, rows: &mut [Order], trades: &mut [Trade], time: u64) -> Passage
+    requires ready { Ready d rows.old }
     requires time_le_time { d.time ≤ time }
     requires time_bound { time ≤ 86_399 }
-    requires rows_in_bounds { length (moved d time (book_of rows.old)).trades ≤ length trades.old }
-    ensures { Reached (moved d time (book_of rows.old)) trades.old result rows.new trades.new }
+    requires rows_in_bounds { length (moved d time rows.old).trades ≤ length trades.old }
+    ensures { Reached (moved d time rows.old) trades.old result rows.new trades.new }
 {
     let mut p = Passage { day: d, made: 0 };
     let mut from = d.time;
@@ -84,9 +82,9 @@ pub fn clock_refused(d: Day, n: u64) -> ClockAnswer
 }
 
 // On a day that its caller has shown to be sound: it is not tested again.
-pub fn clock_sound(d: Day, rows: &mut [[u64; 5]], trades: &mut [[u64; 6]], time: u64) -> ClockAnswer
-    requires { unsound d (book_of rows.old) ≡ false }
-    ensures { call_left result rows.new trades.new ≡ clock_call d time (book_of rows.old) (trades_of trades.old) }
+pub fn clock_sound(d: Day, rows: &mut [Order], trades: &mut [Trade], time: u64) -> ClockAnswer
+    requires { unsound d rows.old ≡ false }
+    ensures { call_left result rows.new trades.new ≡ clock_call d time rows.old trades.old }
 {
     // 1: no time, or before the day's time
     if LAST_SECOND < time || time < d.time {

@@ -16,7 +16,6 @@ use Rattle.model.specs.Screen.{update}
 use Rattle.model.specs.Refusals.{◌when◌, first_of, unsound}
 use Rattle.model.specs.Calls.{is_own, cancel_rules, cancel_call}
 use Rattle.model.proofs.Rules.{Numbered, NoneHolds, none_holds}
-use Rattle.book.specs.Rows.{order_of, book_of}
 use Rattle.book.specs.Places.{place_of}
 use Rattle.book.specs.Standing.{Standing, Ranked}
 use Rattle.book.proofs.Finding.{own_any, own_live, cancel_left_lem}
@@ -24,13 +23,12 @@ use Rattle.book.proofs.Lists.{length_keep}
 use Rattle.book.proofs.Kept.{standing_keep}
 use Rattle.book.proofs.Counting.{queues_fit}
 use Rattle.book.proofs.Arranging.{arranged_ranked}
-use Rattle.book.proofs.Memory.{book_at}
 use Rattle.book.proofs.TakenOut.{live_before, cancel_arranged}
 use Rattle.book.specs.Promises.{cancel_left, cancel_refused}
 
-module _ (d : Day) (account number : ℕ) (rows : List (List ℕ)) where
+module _ (d : Day) (account number : ℕ) (rows : List Order) where
   abbrev book : List Order
-  book = book_of rows
+  book = rows
 
   abbrev rules : ℕ
   rules = first_of (cancel_rules d account number book)
@@ -46,7 +44,7 @@ module _ (d : Day) (account number : ℕ) (rows : List (List ℕ)) where
 
     module _ (t : takes_cancels d.time ≡ true) {place : ℕ} (e : place ≡ place_of account number book) where
       places : length book ≡ length rows
-      places = length-map rows order_of
+      places = refl
 
       pub cancel_unknown : length rows ≤ place → 12 ≡ rules
       unfolding cancel_rules first_of ◌when◌
@@ -78,21 +76,21 @@ module _ (d : Day) (account number : ℕ) (rows : List (List ℕ)) where
         cancel_place =
             let h : any (is_own account number) book ≡ true = not-false _ none.1.1.0 in
             let k : place_of account number book < length book = ltb-true _ _ (sym (own_any account number book) ∙ h) in
-            omega (arith, length-map rows order_of)
+            omega arith
 
         -- it is live, so it stands before the free places
         pub cancel_live : Ranked book → place < length (queue 0 book) + length (queue 1 book)
         cancel_live r =
             live_before book r place
             (λ n.
-            own_live account number book (omega (arith, e, cancel_place, length-map rows order_of))
+            own_live account number book (omega (arith, e, cancel_place))
             (ap (λ (i : ℕ). (get_or book i free).number) (sym e) ∙ n))
 
-        module _ (after : List (List ℕ)) (r₁ : Ranked book) (g : book_of after ≡ take place book ++ (drop (place + 1) book ++ (free ∷ []))) where
-          left_book : book_of after ≡ arranged (length book) (keep (λ o. not (is_own account number o)) book)
-          left_book = g ∙ cancel_arranged book r₁ account number e (omega (arith, cancel_place, length-map rows order_of))
+        module _ (after : List Order) (r₁ : Ranked book) (g : after ≡ take place book ++ (drop (place + 1) book ++ (free ∷ []))) where
+          left_book : after ≡ arranged (length book) (keep (λ o. not (is_own account number o)) book)
+          left_book = g ∙ cancel_arranged book r₁ account number e (omega (arith, cancel_place))
 
-          pub cancel_ranked : Ranked (book_of after)
+          pub cancel_ranked : Ranked after
           cancel_ranked =
               let others : List Order = keep (λ o. not (is_own account number o)) book in
               let s : Standing others = standing_keep (λ o. not (is_own account number o)) book r₁.stands in
@@ -103,13 +101,13 @@ module _ (d : Day) (account number : ℕ) (rows : List (List ℕ)) where
 
           pub cancel_accepted :
               {own : Order} {day : Day}
-              → own ≡ order_of (get_or rows place [])
-              → day ≡ update [] (book_of after) d
+              → own ≡ get_or rows place free
+              → day ≡ update [] after d
               → cancel_left (record { reply = Withdrawn own.left; day = day }) after ≡ cancel_call d account number book
           unfolding cancel_call
           cancel_accepted {own} {day} f u =
               let l : own.left ≡ total (λ o. o.left) (keep (is_own account number) book) =
-              ap (λ (o : Order). o.left) (f ∙ ap (λ (k : ℕ). order_of (get_or rows k [])) e ∙ book_at rows _)
+              ap (λ (o : Order). o.left) (f ∙ ap (λ (k : ℕ). get_or rows k free) e)
               ∙ sym (cancel_left_lem account number book r₁.stands.apart)
               in
               rw (eq-eqb rules 0 (sym r ∙ z), l, u, left_book)

@@ -19,7 +19,7 @@ use Rattle.model.specs.declared.Day.{Day}
 use Rattle.model.specs.declared.Remainder.{Remainder}
 use Rattle.model.specs.declared.OrderReply.TheVariants.{Accepted}
 use Rattle.model.specs.Lists.{all, total}
-use Rattle.model.specs.Book.{is_live, queue, best, other, arranged}
+use Rattle.model.specs.Book.{is_live, queue, best, other, arranged, free}
 use Rattle.model.specs.Matching.{filled, levels, last_price, settle}
 use Rattle.model.specs.Figures.{next_number, issue, money, tally}
 use Rattle.model.specs.Halts.{halting, fired}
@@ -27,7 +27,6 @@ use Rattle.model.specs.Entry.{entry_trades, rest_price}
 use Rattle.model.specs.Screen.{update}
 use Rattle.model.specs.Calls.{written, ended, joined, entered}
 use Rattle.model.proofs.Bools.{true_or_false}
-use Rattle.book.specs.Rows.{order_of, book_of, trades_of, trade_rows}
 use Rattle.model.specs.Words.{Each, Ordered}
 use Rattle.book.specs.Standing.{Standing, Ranked}
 use Rattle.book.specs.Writing.{fitted}
@@ -110,14 +109,14 @@ money_within m (t ∷ ts) (h, e) =
     let s : m * (t.quantity + filled ts) ≡ m * t.quantity + m * filled ts = mul-add m t.quantity (filled ts) in
     omega arith
 
-module _ (d : Day) (a : Asked) (rows lent : List (List ℕ)) where
+module _ (d : Day) (a : Asked) (rows : List Order) (lent : List Trade) where
   abbrev book : List Order
-  book = book_of rows
+  book = rows
 
   abbrev ts : List Trade
   ts = entry_trades d a book
 
-  module _ (fits : length ts ≤ length lent) {s : Swept} {trades : List (List ℕ)} (e : s ≡ comes_to ts) (w : trades ≡ fitted (trade_rows ts) lent) where
+  module _ (fits : length ts ≤ length lent) {s : Swept} {trades : List Trade} (e : s ≡ comes_to ts) (w : trades ≡ fitted ts lent) where
     made : s.trades ≡ length ts
     unfolding comes_to
     made = rw e
@@ -135,10 +134,10 @@ module _ (d : Day) (a : Asked) (rows lent : List (List ℕ)) where
     last = rw e
 
     -- the trades that were made are read back from the list
-    pub back : trades_of (take s.trades trades) ≡ ts
+    pub back : (take s.trades trades) ≡ ts
     back =
-        ap (λ (n : ℕ). trades_of (take n trades)) made
-        ∙ ap (λ (l : List (List ℕ)). trades_of (take (length ts) l)) w
+        ap (λ (n : ℕ). (take n trades)) made
+        ∙ ap (λ (l : List Trade). (take (length ts) l)) w
         ∙ fitted_trades ts lent fits
 
     -- the price at which what is left rests, as the code found it
@@ -178,7 +177,7 @@ module _ (d : Day) (a : Asked) (rows lent : List (List ℕ)) where
           (λ n. (t.ready.sound.traded (eqb-false d.shares 0 n)).0.high)
           (true_or_false (eqb d.shares 0))
 
-      pub room_for : RoomFor d (trades_of (take s.trades trades))
+      pub room_for : RoomFor d (take s.trades trades)
       room_for =
           let m : money ts ≤ 999_999 * filled ts = money_within 999_999 ts priced in
           rw back
@@ -194,7 +193,7 @@ module _ (d : Day) (a : Asked) (rows lent : List (List ℕ)) where
       -- what is published then are numbers of 64 bits
       pub then_publishable :
           {next : Day}
-          → next ≡ fired d.time (trades_of (take s.trades trades)) (tally (trades_of (take s.trades trades)) (issue d))
+          → next ≡ fired d.time (take s.trades trades) (tally (take s.trades trades) (issue d))
           → Publishable next
       unfolding halting tally issue
       then_publishable e =
@@ -221,32 +220,30 @@ module _ (d : Day) (a : Asked) (rows lent : List (List ℕ)) where
             fewer_orders ts book,
             queues_orders book stands.fair,
             t.room,
-            length-map rows order_of,
           )
 
-      module _ (rows₁ : List (List ℕ)) (es : (us : List Trade) → SweptBy a.side us book → filled us ≡ s.filled → book_of rows₁ ≡ arranged (length rows) (settle us book)) where
-        settled : book_of rows₁ ≡ arranged (length rows) (settle ts book)
+      module _ (rows₁ : List Order) (es : (us : List Trade) → SweptBy a.side us book → filled us ≡ s.filled → rows₁ ≡ arranged (length rows) (settle us book)) where
+        settled : rows₁ ≡ arranged (length rows) (settle ts book)
         settled = es ts (entry_swept d a book stands new) (sym sold)
 
         within : length (queue 0 (settle ts book)) + length (queue 1 (settle ts book)) ≤ length rows
         within = omega (arith, settled_fit)
 
-        pub then_ranked : Ranked (book_of rows₁)
+        pub then_ranked : Ranked rows₁
         then_ranked =
             rw settled
-            (arranged_ranked (length rows) (settle ts book) settled_stands within (omega (arith, t.ready.ranked.few, length-map rows order_of)))
+            (arranged_ranked (length rows) (settle ts book) settled_stands within (omega (arith, t.ready.ranked.few)))
 
         then_long : length rows₁ ≡ length rows
         then_long =
-            sym (length-map rows₁ order_of)
-            ∙ ap length settled
+            ap length settled
             ∙ arranged_length (length rows) (settle ts book)
 
         -- what is left of the order may join it
         pub then_joins :
             {p : ℕ}
             → p ≡ rest_at a (best a.side book) (best (other a.side) book) s.filled s.last
-            → Joins a (d.issued + 1) (a.quantity - s.filled) p (book_of rows₁)
+            → Joins a (d.issued + 1) (a.quantity - s.filled) p rows₁
         unfolding next_number
         then_joins {p} ep =
             record {
@@ -266,7 +263,6 @@ module _ (d : Day) (a : Asked) (rows lent : List (List ℕ)) where
                     ap length (arranged_sells (length rows) (settle ts book) settled_stands within),
                     settled_fit,
                     then_long,
-                    length-map rows₁ order_of,
                   );
             }
           where
@@ -276,26 +272,25 @@ module _ (d : Day) (a : Asked) (rows lent : List (List ℕ)) where
         -- ---- and what it all comes to
 
         module _
-            (rows₂ : List (List ℕ)) {p : ℕ}
+            (rows₂ : List Order) {p : ℕ}
             (ep : p ≡ rest_at a (best a.side book) (best (other a.side) book) s.filled s.last)
-            (eb : book_of rows₂ ≡ arranged (length rows₁) (joined a (d.issued + 1) (a.quantity - s.filled) p (book_of rows₁)))
+            (eb : rows₂ ≡ arranged (length rows₁) (joined a (d.issued + 1) (a.quantity - s.filled) p rows₁))
           where
             -- the book then
-            left_book : book_of rows₂ ≡ arranged (length book) (joined a (next_number d) (a.quantity - filled ts) (rest_price a ts book) (settle ts book))
+            left_book : rows₂ ≡ arranged (length book) (joined a (next_number d) (a.quantity - filled ts) (rest_price a ts book) (settle ts book))
             unfolding next_number
             left_book =
                 let n = add-one d.issued in
                 let p' : p ≡ rest_price a ts book = rests_at ep in
-                let b' : book_of rows₂ ≡ arranged (length book) (joined a (d.issued + 1) (a.quantity - s.filled) p (settle ts book)) =
+                let b' : rows₂ ≡ arranged (length book) (joined a (d.issued + 1) (a.quantity - s.filled) p (settle ts book)) =
                 eb
-                ∙ ap (λ (k : ℕ). arranged k (joined a (d.issued + 1) (a.quantity - s.filled) p (book_of rows₁))) then_long
+                ∙ ap (λ (k : ℕ). arranged k (joined a (d.issued + 1) (a.quantity - s.filled) p rows₁)) then_long
                 ∙ ap (λ (b : List Order). arranged (length rows) (joined a (d.issued + 1) (a.quantity - s.filled) p b)) settled
                 ∙ joined_arranged a (d.issued + 1) (a.quantity - s.filled) p (settle ts book) (length rows) settled_stands within
-                ∙ ap (λ (k : ℕ). arranged k (joined a (d.issued + 1) (a.quantity - s.filled) p (settle ts book))) (sym (length-map rows order_of))
                 in
                 cc sold
 
-            pub left_ranked : Ranked (book_of rows₂)
+            pub left_ranked : Ranked rows₂
             left_ranked =
                 let few : next_number d ≤ 999_999 = unfold next_number in omega (arith, t.number) in
                 let free : all is_live book ≡ false = not_full book (omega (arith, queues_orders book stands.fair, t.room)) in
@@ -308,8 +303,8 @@ module _ (d : Day) (a : Asked) (rows lent : List (List ℕ)) where
             pub entered_is :
                 {rem : Remainder} {counted day : Day}
                 → rem ≡ ended (a.quantity - s.filled) p
-                → counted ≡ fired d.time (trades_of (take s.trades trades)) (tally (trades_of (take s.trades trades)) (issue d))
-                → day ≡ update (trades_of (take s.trades trades)) (book_of rows₂) counted
+                → counted ≡ fired d.time (take s.trades trades) (tally (take s.trades trades) (issue d))
+                → day ≡ update (take s.trades trades) rows₂ counted
                 → call_left
                 (record {
                   reply =
@@ -319,16 +314,16 @@ module _ (d : Day) (a : Asked) (rows lent : List (List ℕ)) where
                 })
                 rows₂
                 trades
-                ≡ entered d a book (trades_of lent)
+                ≡ entered d a book lent
             unfolding entered next_number
             entered_is {rem} {counted} {day} em ec ed =
                 let n = add-one d.issued in
                 let p' : p ≡ rest_price a ts book = rests_at ep in
                 let b' = left_book in
-                let t' : trades_of trades ≡ written ts (trades_of lent) = ap trades_of w ∙ fitted_written ts lent fits in
+                let t' : trades ≡ written ts lent = w ∙ fitted_written ts lent fits in
                 let c' : counted ≡ fired d.time ts (tally ts (issue d)) =
                 ec ∙ ap (λ (l : List Trade). fired d.time l (tally l (issue d))) back in
-                let d' : day ≡ update ts (book_of rows₂) counted =
-                ed ∙ ap (λ (l : List Trade). update l (book_of rows₂) counted) back
+                let d' : day ≡ update ts rows₂ counted =
+                ed ∙ ap (λ (l : List Trade). update l rows₂ counted) back
                 in
                 cc (made, sold, at_prices_lem)

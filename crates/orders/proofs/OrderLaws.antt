@@ -22,7 +22,6 @@ use Rattle.model.specs.Refusals.{◌when◌, first_of, unsound}
 use Rattle.model.specs.Calls.{Outcome, order_rules, entered, order_call}
 use Rattle.model.proofs.Bools.{and_left}
 use Rattle.model.proofs.Rules.{hit, skip, Numbered, NoneHolds, none_holds, given_by, passed_by}
-use Rattle.book.specs.Rows.{book_of, trade_of, trades_of}
 use Rattle.book.proofs.Counting.{has_room, queues_orders}
 use Rattle.soundness.proofs.Clauses.{says_price}
 use Rattle.soundness.proofs.Sizes.{says_quantity, sized_most}
@@ -33,6 +32,7 @@ use Rattle.orders.specs.Taken.{Taken}
 use Rattle.soundness.proofs.Readiness.{ready_if}
 use Rattle.checks.proofs.AskedRules.{order_groups, asked_numbered, numbered_append}
 use Rattle.checks.proofs.BookRules.{book_numbered}
+use Rattle.model.specs.declared.Trade.{Trade}
 
 -- ---- the clock
 
@@ -135,23 +135,23 @@ module _ (d : Day) (a : Asked) (book : List Order) (room : ℕ) where
 
 -- ---- the call
 
-module _ (d : Day) (a : Asked) (rows lent : List (List ℕ)) {n : ℕ} (r : n ≡ first_of (order_rules d a (book_of rows) (length lent))) where
-  listed : first_of (order_rules d a (book_of rows) (length (trades_of lent))) ≡ n
-  listed = ap (λ (m : ℕ). first_of (order_rules d a (book_of rows) m)) (length-map lent trade_of) ∙ sym r
+module _ (d : Day) (a : Asked) (rows : List Order) (lent : List Trade) {n : ℕ} (r : n ≡ first_of (order_rules d a rows (length lent))) where
+  listed : first_of (order_rules d a rows (length lent)) ≡ n
+  listed = ap (λ (m : ℕ). first_of (order_rules d a rows m)) (refl) ∙ sym r
 
   pub order_refused_lem :
       (n ≡ 0 → ⊥)
-      → call_left (record { reply = Refused n; made = 0; day = d }) rows lent ≡ order_call d a (book_of rows) (trades_of lent)
+      → call_left (record { reply = Refused n; made = 0; day = d }) rows lent ≡ order_call d a rows lent
   unfolding order_call
   order_refused_lem z = rw (listed, ne_eqb n 0 z)
 
   module _ (z : n ≡ 0) where
-    pub order_taken : Taken d a (book_of rows) (length lent)
-    order_taken = taken d a (book_of rows) (length lent) (sym r ∙ z)
+    pub order_taken : Taken d a rows (length lent)
+    order_taken = taken d a rows (length lent) (sym r ∙ z)
 
     pub order_accepted :
         {o : Outcome OrderAnswer}
-        → o ≡ entered d a (book_of rows) (trades_of lent)
-        → o ≡ order_call d a (book_of rows) (trades_of lent)
+        → o ≡ entered d a rows lent
+        → o ≡ order_call d a rows lent
     unfolding order_call
     order_accepted e = rw (listed, eq-eqb n 0 z) e

@@ -3,7 +3,6 @@ ghost use Rattle.std.specs.Prelude.{◌≡◌, false, []};
 ghost use Rattle.model.specs.Refusals.{unsound};
 ghost use Rattle.model.specs.Screen.{update};
 ghost use Rattle.model.specs.Calls.{cancel_call};
-ghost use Rattle.book.specs.Rows.{book_of};
 ghost use Rattle.book.specs.Standing.{Ranked};
 ghost use Rattle.figures.specs.Figures.{Publishable};
 ghost use Rattle.book.specs.Promises.{cancel_left, cancel_refused};
@@ -12,7 +11,7 @@ use book::order_at;
 use book::places::place_of;
 use book::settling::take_out;
 use clock::takes_cancels;
-use model::{CancelAnswer, CancelReply, Day};
+use model::{CancelAnswer, CancelReply, Day, Order};
 use screens::update_screen;
 
 pub fn cancel_refused(d: Day, n: u64) -> CancelAnswer
@@ -25,19 +24,18 @@ pub fn cancel_refused(d: Day, n: u64) -> CancelAnswer
 }
 
 // The day after a cancel, which trades nothing.
-fn day_without(d: Day, rows: &[[u64; 5]]) -> Day
-    requires ranked { Ranked (book_of rows.now) }
+fn day_without(d: Day, rows: &[Order]) -> Day
+    requires ranked { Ranked rows.now }
     requires publishable { Publishable d }
-    ensures { result ≡ update [] (book_of rows.now) d }
+    ensures { result ≡ update [] rows.now d }
 {
-    let none = [[0; 6]; 1];
-    update_screen(d, rows, &none, 0)
+    update_screen(d, rows, &[], 0)
 }
 
 // On a day that its caller has shown to be sound: it is not tested again.
-pub fn cancel_sound(d: Day, rows: &mut [[u64; 5]], account: u64, number: u64) -> CancelAnswer
-    requires { unsound d (book_of rows.old) ≡ false }
-    ensures { cancel_left result rows.new ≡ cancel_call d account number (book_of rows.old) }
+pub fn cancel_sound(d: Day, rows: &mut [Order], account: u64, number: u64) -> CancelAnswer
+    requires { unsound d rows.old ≡ false }
+    ensures { cancel_left result rows.new ≡ cancel_call d account number rows.old }
 {
     // 4: the phase takes no cancel
     if !takes_cancels(d.time) {

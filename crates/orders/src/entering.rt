@@ -6,7 +6,6 @@ ghost use Rattle.model.specs.Figures.{issue, tally};
 ghost use Rattle.model.specs.Halts.{phase_now, fired};
 ghost use Rattle.model.specs.Refusals.{first_of, unsound};
 ghost use Rattle.model.specs.Calls.{ended, joined, entered, order_call};
-ghost use Rattle.book.specs.Rows.{book_of, trades_of};
 ghost use Rattle.book.specs.Standing.{Ranked};
 ghost use Rattle.book.specs.Promises.{call_left, order_refused};
 ghost use Rattle.checks.specs.Checks.{asked_rules};
@@ -22,7 +21,7 @@ use halts::firing::fire;
 use matching::entering::{enter_trades, price_of_rest};
 use matching::settling::settle_entry;
 use matching::sweeping::other_side;
-use model::{Asked, Day, Entry, Order, OrderAnswer, OrderReply, Remainder};
+use model::{Asked, Day, Entry, Order, OrderAnswer, OrderReply, Remainder, Trade};
 use screens::update_screen;
 
 // How q shares that are left end, where p is the price at which they rest, or 0.
@@ -39,10 +38,10 @@ fn remainder_of(q: u64, p: u64) -> Remainder
 }
 
 // And the book then: what rests joins it.
-fn join_rest(rows: &mut [[u64; 5]], a: Asked, number: u64, q: u64, p: u64)
-    requires ranked { Ranked (book_of rows.old) }
-    requires joins { Joins a number q p (book_of rows.old) }
-    ensures { book_of rows.new ≡ arranged (length rows.old) (joined a number q p (book_of rows.old)) }
+fn join_rest(rows: &mut [Order], a: Asked, number: u64, q: u64, p: u64)
+    requires ranked { Ranked rows.old }
+    requires joins { Joins a number q p rows.old }
+    ensures { rows.new ≡ arranged (length rows.old) (joined a number q p rows.old) }
 {
     if q == 0 || p == 0 {
         return;
@@ -59,10 +58,10 @@ fn join_rest(rows: &mut [[u64; 5]], a: Asked, number: u64, q: u64, p: u64)
 
 // The day's figures after an order whose trades are the first n of the list: one number more is issued, they are added, and they may
 // start a halt. Its screen is still the one before.
-fn day_after(d: Day, trades: &[[u64; 6]], n: usize) -> Day
+fn day_after(d: Day, trades: &[Trade], n: usize) -> Day
     requires n_in_bounds { n ≤ length trades.now }
-    requires room_for { RoomFor d (trades_of (take n trades.now)) }
-    ensures { result ≡ fired d.time (trades_of (take n trades.now)) (tally (trades_of (take n trades.now)) (issue d)) }
+    requires room_for { RoomFor d (take n trades.now) }
+    ensures { result ≡ fired d.time (take n trades.now) (tally (take n trades.now) (issue d)) }
 {
     let tallied = tally_trades(issued_one(d), trades, n);
     fire(tallied, trades, n, d.time)
@@ -71,18 +70,18 @@ fn day_after(d: Day, trades: &[[u64; 6]], n: usize) -> Day
 // An order that is not refused.
 fn enter(
     d: Day,
-    rows: &mut [[u64; 5]],
-    trades: &mut [[u64; 6]],
+    rows: &mut [Order],
+    trades: &mut [Trade],
     a: Asked,
     phase: u64,
     own: u64,
     other: u64,
 ) -> OrderAnswer
-    requires taken { Taken d a (book_of rows.old) (length trades.old) }
+    requires taken { Taken d a rows.old (length trades.old) }
     requires phase_value { phase ≡ phase_now d }
-    requires own_value { own ≡ best a.side (book_of rows.old) }
-    requires other_value { other ≡ best (sides.other a.side) (book_of rows.old) }
-    ensures { call_left result rows.new trades.new ≡ entered d a (book_of rows.old) (trades_of trades.old) }
+    requires own_value { own ≡ best a.side rows.old }
+    requires other_value { other ≡ best (sides.other a.side) rows.old }
+    ensures { call_left result rows.new trades.new ≡ entered d a rows.old trades.old }
 {
     let s = enter_trades(d, rows, &mut *trades, a, phase, own, other);
     let q = a.quantity - s.filled;
@@ -117,19 +116,19 @@ pub fn order_refused(d: Day, n: u64) -> OrderAnswer
 // An order that no rule on itself refuses, with the phase and the best prices of its own side and of the other.
 pub fn order_with(
     d: Day,
-    rows: &mut [[u64; 5]],
-    trades: &mut [[u64; 6]],
+    rows: &mut [Order],
+    trades: &mut [Trade],
     a: Asked,
     phase: u64,
     own: u64,
     other: u64,
 ) -> OrderAnswer
-    requires rows_value { unsound d (book_of rows.old) ≡ false }
+    requires rows_value { unsound d rows.old ≡ false }
     requires a_value { first_of (asked_rules d a) ≡ 0 }
     requires phase_value { phase ≡ phase_now d }
-    requires own_value { own ≡ best a.side (book_of rows.old) }
-    requires other_value { other ≡ best (sides.other a.side) (book_of rows.old) }
-    ensures { call_left result rows.new trades.new ≡ order_call d a (book_of rows.old) (trades_of trades.old) }
+    requires own_value { own ≡ best a.side rows.old }
+    requires other_value { other ≡ best (sides.other a.side) rows.old }
+    ensures { call_left result rows.new trades.new ≡ order_call d a rows.old trades.old }
 {
     let refusal = book_refusal(d, rows, a, phase, own, other);
     if refusal != 0 {
@@ -144,9 +143,9 @@ pub fn order_with(
 
 // On a day that its caller has shown to be sound: it is not tested again. The clock's row and the best prices are found once, and
 // handed on.
-pub fn order_sound(d: Day, rows: &mut [[u64; 5]], trades: &mut [[u64; 6]], a: Asked) -> OrderAnswer
-    requires { unsound d (book_of rows.old) ≡ false }
-    ensures { call_left result rows.new trades.new ≡ order_call d a (book_of rows.old) (trades_of trades.old) }
+pub fn order_sound(d: Day, rows: &mut [Order], trades: &mut [Trade], a: Asked) -> OrderAnswer
+    requires { unsound d rows.old ≡ false }
+    ensures { call_left result rows.new trades.new ≡ order_call d a rows.old trades.old }
 {
     let row = row_at(d.time);
     let phase = phase_now(d, row);

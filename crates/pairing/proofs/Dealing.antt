@@ -13,7 +13,6 @@ use Rattle.model.specs.Book.{is_live, queue}
 use Rattle.model.specs.Auction.{volume}
 use Rattle.model.specs.Pairing.{Share, cut, trades_at}
 use Rattle.book.specs.declared.Head.{Head}
-use Rattle.book.specs.Rows.{book_of, trade_row, trade_rows}
 use Rattle.book.specs.Standing.{Ranked}
 use Rattle.book.specs.Lines.{line}
 use Rattle.book.specs.Heads.{head_of, head_past, waiting}
@@ -51,15 +50,15 @@ module _ (buy sell : Head) (left price : ℕ) {x q : ℕ} (hx : x ≡ min left b
 
 -- ---- what holds at each turn
 
-module _ (rows : List (List ℕ)) (middle end price : ℕ) where
+module _ (rows : List Order) (middle end price : ℕ) where
   -- the trades still to come
   abbrev coming : ℕ → Head → Head → List Trade
   coming left buy sell =
       pairs price (cut left (waiting buy (line (buy.at + 1) middle rows))) (cut left (waiting sell (line (sell.at + 1) end rows)))
 
-  pub record Underway (lent : List (List ℕ)) (left : ℕ) (buy sell : Head) (made : ℕ) (out : List (List ℕ)) : Type 0 where
-    pub count : made + length (coming left buy sell) ≡ length (trades_at price (book_of rows))
-    pub same : sets out made (trade_rows (coming left buy sell)) ≡ sets lent 0 (trade_rows (trades_at price (book_of rows)))
+  pub record Underway (lent : List Trade) (left : ℕ) (buy sell : Head) (made : ℕ) (out : List Trade) : Type 0 where
+    pub count : made + length (coming left buy sell) ≡ length (trades_at price rows)
+    pub same : sets out made (coming left buy sell) ≡ sets lent 0 (trades_at price rows)
     pub buys : left ≤ shares (waiting buy (line (buy.at + 1) middle rows))
     pub sells : left ≤ shares (waiting sell (line (sell.at + 1) end rows))
     pub buying : ((0 < buy.left) × (buy.at < middle)) ⊎ ((buy.left ≡ 0) × (middle ≤ buy.at))
@@ -68,9 +67,9 @@ module _ (rows : List (List ℕ)) (middle end price : ℕ) where
 
 -- ---- the loop
 
-module _ (rows : List (List ℕ)) (ranked : Ranked (book_of rows)) {middle end : ℕ} (w : Stretches rows middle end) (price : ℕ) (lent : List (List ℕ)) where
+module _ (rows : List Order) (ranked : Ranked rows) {middle end : ℕ} (w : Stretches rows middle end) (price : ℕ) (lent : List Trade) where
   abbrev book : List Order
-  book = book_of rows
+  book = rows
 
   pub underway_start :
       {left : ℕ} {buy sell : Head}
@@ -97,7 +96,7 @@ module _ (rows : List (List ℕ)) (ranked : Ranked (book_of rows)) {middle end :
       in
       record {
         count = rw e (omega arith);
-        same = ap (λ (ts : List Trade). sets lent 0 (trade_rows ts)) e;
+        same = ap (λ (ts : List Trade). sets lent 0 ts) e;
         buys = omega (arith, bs, hl, volume_buys book price);
         sells = omega (arith, cs, hl, volume_sells book price);
         buying = rw hb (placed_first middle rows w.short_buys w.full_buys 0);
@@ -109,7 +108,7 @@ module _ (rows : List (List ℕ)) (ranked : Ranked (book_of rows)) {middle end :
       first_place at [] = unfold head_of in refl
       first_place at (o ∷ os) = unfold head_of in refl
 
-  module _ {left : ℕ} {buy sell : Head} {made : ℕ} {out : List (List ℕ)} (k : Underway rows middle end price lent left buy sell made out) (some : 0 < left) where
+  module _ {left : ℕ} {buy sell : Head} {made : ℕ} {out : List Trade} (k : Underway rows middle end price lent left buy sell made out) (some : 0 < left) where
     pub buy_ready : (0 < buy.left) × (buy.at < middle)
     buy_ready = head_ready middle rows w.short_buys w.full_buys left buy some k.buys k.buying
 
@@ -155,8 +154,8 @@ module _ (rows : List (List ℕ)) (ranked : Ranked (book_of rows)) {middle end :
       count_fits = omega (arith, ap length one_turn, k.count, fewer_than_live price book ranked.stands, length_keep is_live book, ranked.few)
 
       pub underway_next :
-          {b c : Head} {out' : List (List ℕ)}
-          → out' ≡ set out made (trade_row t)
+          {b c : Head} {out' : List Trade}
+          → out' ≡ set out made t
           → b ≡ buy'
           → c ≡ sell'
           → Underway rows middle end price lent (left - q) b c (made + 1) out'
@@ -164,12 +163,12 @@ module _ (rows : List (List ℕ)) (ranked : Ranked (book_of rows)) {middle end :
           rw (ho, hb, hc)
           (record {
             count = omega (arith, ap length one_turn, k.count);
-            same = rw (add-one made) (sym (ap (λ (ts : List Trade). sets out made (trade_rows ts)) one_turn) ∙ k.same);
+            same = rw (add-one made) (sym (ap (λ (ts : List Trade). sets out made ts) one_turn) ∙ k.same);
             buys = past_shares middle rows w.short_buys w.full_buys q buy left buy_ready.0 quantity_within.0 k.buys;
             sells = past_shares end rows w.short_sells w.full_sells q sell left sell_ready.0 quantity_within.1 k.sells;
             buying = placed_past middle rows w.short_buys w.full_buys q buy buy_ready.1;
             selling = placed_past end rows w.short_sells w.full_sells q sell sell_ready.1;
-            long = length-set out made (trade_row t) ∙ k.long;
+            long = length-set out made t ∙ k.long;
           })
 
   nothing_comes : (buy sell : Head) → coming rows middle end price 0 buy sell ≡ []
@@ -179,15 +178,15 @@ module _ (rows : List (List ℕ)) (ranked : Ranked (book_of rows)) {middle end :
       ∙ no_buys price (cut 0 (waiting sell (line (sell.at + 1) end rows)))
 
   pub underway_end :
-      {left : ℕ} {buy sell : Head} {made : ℕ} {out : List (List ℕ)}
+      {left : ℕ} {buy sell : Head} {made : ℕ} {out : List Trade}
       → Underway rows middle end price lent left buy sell made out
       → left ≤ 0
-      → (made ≡ length (trades_at price book)) × (out ≡ fitted (trade_rows (trades_at price book)) lent)
+      → (made ≡ length (trades_at price book)) × (out ≡ fitted (trades_at price book) lent)
   underway_end {left} {buy} {sell} {made} {out} k h =
       let z : left ≡ 0 = omega arith in
       let e : coming rows middle end price left buy sell ≡ [] = ap (λ n. coming rows middle end price n buy sell) z ∙ nothing_comes buy sell in (
         omega (arith, ap length e, k.count),
-        sym (ap (λ (ts : List Trade). sets out made (trade_rows ts)) e)
+        sym (ap (λ (ts : List Trade). sets out made ts) e)
             ∙ k.same
-            ∙ sets_fitted (trade_rows (trades_at price book)) lent,
+            ∙ sets_fitted (trades_at price book) lent,
       )

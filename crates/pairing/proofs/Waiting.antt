@@ -10,7 +10,6 @@ use Rattle.model.specs.declared.Order.{Order}
 use Rattle.model.specs.Lists.{total}
 use Rattle.model.specs.Pairing.{Share, cut, head_less}
 use Rattle.book.specs.declared.Head.{Head}
-use Rattle.book.specs.Rows.{book_of}
 use Rattle.model.specs.Words.{Each}
 use Rattle.book.specs.Lines.{line}
 use Rattle.book.specs.Heads.{head_of, as_order, waiting}
@@ -57,7 +56,7 @@ alike :
     → record { number = n; left = a; whole = whole } ∷ cut v os ≡ record { number = n; left = b; whole = whole } ∷ cut w os
 alike n whole os e f = rw (e, f)
 
-module _ (end : ℕ) (rows : List (List ℕ)) (short : end ≤ length rows) (full : Each (λ o. 1 ≤ o.left) (take end (book_of rows))) where
+module _ (end : ℕ) (rows : List Order) (short : end ≤ length rows) (full : Each (λ o. 1 ≤ o.left) (take end rows)) where
   -- the first from a place on and those behind it are all from there on
   pub head_cut : (at v : ℕ) → cut v (waiting (head_of at (line at end rows)) (line (at + 1) end rows)) ≡ cut v (line at end rows)
   head_cut at v = go (goes end rows short full at)

@@ -7,7 +7,6 @@ pub mod settling;
 ghost use Rattle.std.specs.Prelude.{◌≡◌, length};
 ghost use Rattle.model.specs.Auction.{volume};
 ghost use Rattle.model.specs.Pairing.{trades_at};
-ghost use Rattle.book.specs.Rows.{book_of, trade_rows};
 ghost use Rattle.book.specs.Standing.{Ranked};
 ghost use Rattle.book.specs.Writing.{fitted};
 ghost use Rattle.pairing.specs.Dealing.{share_of, dealt, LeavesBoth};
@@ -15,7 +14,7 @@ ghost use Rattle.pairing.specs.Dealing.{share_of, dealt, LeavesBoth};
 use book::heads::{head_at, head_past};
 use book::seats::{free_from, sells_from};
 use book::{Head, put_trade, smaller};
-use model::Trade;
+use model::{Order, Trade};
 
 // The trade of the two heads while so many shares of the volume are left. What it leaves is of the whole orders, not of the parts that
 // the volume grants them.
@@ -40,11 +39,11 @@ fn trade_of_heads(buy: Head, sell: Head, left: u64, price: u64) -> Trade
 }
 
 // The trades of an auction at a price at which so many shares trade: all are counted, and as many are written as the list holds.
-pub fn pair_at(rows: &[[u64; 5]], trades: &mut [[u64; 6]], price: u64, shares: u64) -> usize
-    requires ranked { Ranked (book_of rows.now) }
-    requires shares_value { shares ≡ volume (book_of rows.now) price }
-    ensures value { result ≡ length (trades_at price (book_of rows.now)) }
-    ensures trades_after { trades.new ≡ fitted (trade_rows (trades_at price (book_of rows.now))) trades.old }
+pub fn pair_at(rows: &[Order], trades: &mut [Trade], price: u64, shares: u64) -> usize
+    requires ranked { Ranked rows.now }
+    requires shares_value { shares ≡ volume rows.now price }
+    ensures value { result ≡ length (trades_at price rows.now) }
+    ensures trades_after { trades.new ≡ fitted (trades_at price rows.now) trades.old }
 {
     let middle = sells_from(rows);
     let end = free_from(rows);

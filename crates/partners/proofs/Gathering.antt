@@ -12,9 +12,7 @@ use Rattle.model.specs.declared.Declaration.{Declaration}
 use Rattle.model.specs.Lists.{keep}
 use Rattle.model.specs.Blocks.{undeclared}
 use Rattle.model.specs.Words.{Each}
-use Rattle.book.specs.Rows.{declaration_of, held_of}
 use Rattle.book.proofs.Lists.{each, keep_true, keep_false}
-use Rattle.declarations.proofs.Memory.{held_at}
 use Rattle.classes.specs.Classes.{class_of, is_same, is_before}
 use Rattle.classes.specs.Sorting.{class_at, InOrder, Sorted}
 use Rattle.classes.proofs.Merging.{sorted_each}
@@ -85,20 +83,20 @@ pub record Gathering (side : ℕ) (held : List Declaration) (n : ℕ) (places : 
   pub long : length places ≡ n
   pub whole : take count places ++ places_on side i (drop i held) ≡ places_on side 0 held
 
-module _ (side : ℕ) (rows : List (List ℕ)) where
-  pub gathering_start : (places : List ℕ) → Gathering side (held_of rows) (length places) places 0 0
+module _ (side : ℕ) (rows : List Declaration) where
+  pub gathering_start : (places : List ℕ) → Gathering side rows (length places) places 0 0
   gathering_start places = record { few = omega arith; most = omega arith; long = refl; whole = refl }
 
   module _
-      (n : ℕ) (places : List ℕ) (count i : ℕ) (g : Gathering side (held_of rows) n places count i) (h : i < length rows)
-      {x : Declaration} (a : x ≡ declaration_of (get_or rows i [])) {r : Bool} (f : r ≡ is_on side x) where
-    below : i < length (held_of rows)
-    below = omega (arith, h, length-map rows declaration_of)
+      (n : ℕ) (places : List ℕ) (count i : ℕ) (g : Gathering side rows n places count i) (h : i < length rows)
+      {x : Declaration} (a : x ≡ get_or rows i undeclared) {r : Bool} (f : r ≡ is_on side x) where
+    below : i < length rows
+    below = omega (arith, h)
 
-    head : drop i (held_of rows) ≡ x ∷ drop (suc i) (held_of rows)
+    head : drop i rows ≡ x ∷ drop (suc i) rows
     head =
-        drop-cons (held_of rows) i undeclared below
-        ∙ ap (λ (y : Declaration). y ∷ drop (suc i) (held_of rows)) (sym (a ∙ held_at rows i))
+        drop-cons rows i undeclared below
+        ∙ ap (λ (y : Declaration). y ∷ drop (suc i) rows) (sym (a))
 
     pub gathering_on :
         length rows ≤ n
@@ -106,7 +104,7 @@ module _ (side : ℕ) (rows : List (List ℕ)) where
         → {places' : List ℕ} {count' : ℕ}
         → places' ≡ set places count i
         → count' ≡ count + 1
-        → Gathering side (held_of rows) n places' count' (i + 1)
+        → Gathering side rows n places' count' (i + 1)
     gathering_on l t p q =
         rw (p, q)
         record {
@@ -115,14 +113,14 @@ module _ (side : ℕ) (rows : List (List ℕ)) where
           long = length-set places count i ∙ g.long;
           whole =
               rw (add-one count, add-one i)
-              (ap (λ (k : List ℕ). k ++ places_on side (suc i) (drop (suc i) (held_of rows))) (take-suc-set places count i (omega (arith, g.few, g.long)))
-              ∙ append_assoc (take count places) (i ∷ []) (places_on side (suc i) (drop (suc i) (held_of rows)))
-              ∙ ap (λ (k : List ℕ). take count places ++ k) (sym (ap (places_on side i) head ∙ on_place side i x (drop (suc i) (held_of rows)) (sym f ∙ t)))
+              (ap (λ (k : List ℕ). k ++ places_on side (suc i) (drop (suc i) rows)) (take-suc-set places count i (omega (arith, g.few, g.long)))
+              ∙ append_assoc (take count places) (i ∷ []) (places_on side (suc i) (drop (suc i) rows))
+              ∙ ap (λ (k : List ℕ). take count places ++ k) (sym (ap (places_on side i) head ∙ on_place side i x (drop (suc i) rows) (sym f ∙ t)))
               ∙ g.whole);
         }
 
     pub gathering_off :
-        r ≡ false → {places' : List ℕ} {count' : ℕ} → places' ≡ places → count' ≡ count → Gathering side (held_of rows) n places' count' (i + 1)
+        r ≡ false → {places' : List ℕ} {count' : ℕ} → places' ≡ places → count' ≡ count → Gathering side rows n places' count' (i + 1)
     gathering_off t p q =
         rw (p, q)
         record {
@@ -131,18 +129,18 @@ module _ (side : ℕ) (rows : List (List ℕ)) where
           long = g.long;
           whole =
               rw (add-one i)
-              (ap (λ (k : List ℕ). take count places ++ k) (sym (ap (places_on side i) head ∙ off_place side i x (drop (suc i) (held_of rows)) (sym f ∙ t)))
+              (ap (λ (k : List ℕ). take count places ++ k) (sym (ap (places_on side i) head ∙ off_place side i x (drop (suc i) rows) (sym f ∙ t)))
               ∙ g.whole);
         }
 
   pub gathering_end :
       (n : ℕ) (places : List ℕ) (count i : ℕ)
-      → Gathering side (held_of rows) n places count i
+      → Gathering side rows n places count i
       → length rows ≤ i
-      → take count places ≡ places_on side 0 (held_of rows)
+      → take count places ≡ places_on side 0 rows
   gathering_end n places count i g h =
-      let past : length (held_of rows) ≤ i = omega (arith, h, length-map rows declaration_of) in
-      let none : drop i (held_of rows) ≡ [] = drop_of_length-le (held_of rows) past in
+      let past : length rows ≤ i = omega (arith, h) in
+      let none : drop i rows ≡ [] = drop_of_length-le rows past in
       sym (append-nil (take count places))
       ∙ ap (λ (k : List ℕ). take count places ++ k) (sym (ap (places_on side i) none ∙ no_places side i))
       ∙ g.whole
@@ -182,11 +180,11 @@ module _ (held : List Declaration) where
 -- ---- as the code has it
 
 pub gathered_within :
-    (side : ℕ) (rows : List (List ℕ)) {ps : List ℕ} → ps ≡ places_on side 0 (held_of rows) → Each (λ p. p < length rows) ps
+    (side : ℕ) (rows : List Declaration) {ps : List ℕ} → ps ≡ places_on side 0 rows → Each (λ p. p < length rows) ps
 gathered_within side rows e =
     rw e
-    (each (λ p. p < 0 + length (held_of rows)) (λ p. p < length rows) (places_on side 0 (held_of rows))
-    (λ p h. omega (arith, h, length-map rows declaration_of)) (within_places side 0 (held_of rows)))
+    (each (λ p. p < 0 + length rows) (λ p. p < length rows) (places_on side 0 rows)
+    (λ p h. omega (arith, h)) (within_places side 0 rows))
 
 -- the first r places are sorted where they stand
 pub gathered_sorted :

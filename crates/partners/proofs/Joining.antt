@@ -11,8 +11,6 @@ use Rattle.model.specs.declared.Declaration.{Declaration}
 use Rattle.model.specs.declared.Trade.{Trade}
 use Rattle.model.specs.Blocks.{undeclared, confirmation}
 use Rattle.model.specs.Words.{Each}
-use Rattle.book.specs.Rows.{declaration_of, held_of}
-use Rattle.declarations.proofs.Memory.{held_at}
 use Rattle.partners.specs.Partners.{partner_in}
 use Rattle.partners.specs.Places.{at, partners_in}
 use Rattle.partners.proofs.Line.{InLine, later_larger}
@@ -132,10 +130,10 @@ module _
 
 -- the numbers as the code reads them
 pub join_at :
-    (rows : List (List ℕ)) (l : List ℕ) (p q : ℕ) {x y : Declaration}
-    → x ≡ declaration_of (get_or rows p [])
-    → y ≡ declaration_of (get_or rows q [])
-    → set (set l p y.number) q x.number ≡ set (set l p (at (held_of rows) q).number) q (at (held_of rows) p).number
+    (rows : List Declaration) (l : List ℕ) (p q : ℕ) {x y : Declaration}
+    → x ≡ get_or rows p undeclared
+    → y ≡ get_or rows q undeclared
+    → set (set l p y.number) q x.number ≡ set (set l p (at rows q).number) q (at rows p).number
 join_at rows l p q {x} {y} a b =
-    ap (λ (z : Declaration). set (set l p z.number) q x.number) (b ∙ held_at rows q)
-    ∙ ap (λ (z : Declaration). set (set l p (at (held_of rows) q).number) q z.number) (a ∙ held_at rows p)
+    ap (λ (z : Declaration). set (set l p z.number) q x.number) (b)
+    ∙ ap (λ (z : Declaration). set (set l p (at rows q).number) q z.number) (a)

@@ -13,7 +13,6 @@ use Rattle.model.specs.declared.Trade.{Trade}
 use Rattle.model.specs.Blocks.{fits, confirmation}
 use Rattle.model.specs.Words.{Each}
 use Rattle.model.proofs.Bools.{not_both, not_true_false}
-use Rattle.book.specs.Rows.{declaration_of, held_of}
 use Rattle.book.proofs.Lists.{each, both, each_at, each_drop}
 use Rattle.declarations.specs.Declared.{Declared}
 use Rattle.classes.specs.Classes.{class_of, is_same, is_before}
@@ -248,24 +247,24 @@ module _
 
 -- ---- as the code has it
 
-module _ (rows : List (List ℕ)) (buyers sellers : List ℕ) where
-  pub walk_start : {partner : List ℕ} → partner ≡ replicate (length rows) 0 → Met (held_of rows) buyers sellers partner 0 0
-  walk_start e = met_start (held_of rows) buyers sellers (e ∙ ap (λ (n : ℕ). replicate n 0) (sym (length-map rows declaration_of)))
+module _ (rows : List Declaration) (buyers sellers : List ℕ) where
+  pub walk_start : {partner : List ℕ} → partner ≡ replicate (length rows) 0 → Met rows buyers sellers partner 0 0
+  walk_start e = met_start rows buyers sellers (e)
 
-  module _ (partner : List ℕ) (i j : ℕ) (m : Met (held_of rows) buyers sellers partner i j) where
+  module _ (partner : List ℕ) (i j : ℕ) (m : Met rows buyers sellers partner i j) where
     pub walk_long : length partner ≡ length rows
-    walk_long = ap length m.same ∙ partners_in_length m.made (held_of rows) ∙ length-map rows declaration_of
+    walk_long = ap length m.same ∙ partners_in_length m.made rows
 
     pub walk_length : {partner₀ : List ℕ} → partner₀ ≡ replicate (length rows) 0 → length partner ≡ length partner₀
     walk_length e = walk_long ∙ sym (ap length e ∙ length-replicate {A = ℕ} (length rows) 0)
 
     pub walk_places :
-        Declared (held_of rows)
-        → BothSorted (held_of rows) buyers sellers
+        Declared rows
+        → BothSorted rows buyers sellers
         → i < length buyers
         → j < length sellers
         → (get_or buyers i 0 < length rows) × (get_or sellers j 0 < length rows)
     walk_places d s hi hj = (
-      omega (arith, place_p (held_of rows) d buyers sellers s partner i j m hi hj, length-map rows declaration_of),
-      omega (arith, place_q (held_of rows) d buyers sellers s partner i j m hi hj, length-map rows declaration_of),
+      omega (arith, place_p rows d buyers sellers s partner i j m hi hj),
+      omega (arith, place_q rows d buyers sellers s partner i j m hi hj),
     )

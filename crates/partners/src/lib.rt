@@ -4,7 +4,6 @@
 #![tactic(auto)]
 
 ghost use Rattle.std.specs.Prelude.{◌≡◌, ◌≤◌, ◌<◌, length, set, take, replicate};
-ghost use Rattle.book.specs.Rows.{held_of};
 ghost use Rattle.classes.specs.Sorting.{class_at, Sorted};
 ghost use Rattle.declarations.specs.Declared.{Declared};
 ghost use Rattle.partners.specs.Partners.{partners};
@@ -32,10 +31,10 @@ fn is_on(x: Declaration, side: u64) -> bool
 }
 
 // The places of one side, and how many they are.
-fn gather(rows: &[[u64; 7]], side: u64, places: &mut [usize]) -> usize
+fn gather(rows: &[Declaration], side: u64, places: &mut [usize]) -> usize
     requires { length rows.now ≤ length places.old }
     ensures upper_bound { result ≤ length places.old }
-    ensures places_after { take result places.new ≡ places_on side 0 (held_of rows.now) }
+    ensures places_after { take result places.new ≡ places_on side 0 rows.now }
 {
     let mut count = 0;
     let mut i = 0;
@@ -51,11 +50,11 @@ fn gather(rows: &[[u64; 7]], side: u64, places: &mut [usize]) -> usize
 }
 
 // The places of one side, sorted by class, and how many they are.
-fn gather_sorted(rows: &[[u64; 7]], side: u64, places: &mut [usize], room: &mut [usize]) -> usize
+fn gather_sorted(rows: &[Declaration], side: u64, places: &mut [usize], room: &mut [usize]) -> usize
     requires rows_in_bounds { length rows.now ≤ length places.old }
     requires places_in_bounds { length places.old ≤ length room.old }
     ensures upper_bound { result ≤ length places.old }
-    ensures sorted { Sorted (class_at (held_of rows.now)) (places_on side 0 (held_of rows.now)) (take result places.new) }
+    ensures sorted { Sorted (class_at rows.now) (places_on side 0 rows.now) (take result places.new) }
 {
     let count = gather(rows, side, &mut *places);
     sort_places(rows, &mut places[..count], &mut *room);
@@ -63,11 +62,11 @@ fn gather_sorted(rows: &[[u64; 7]], side: u64, places: &mut [usize], room: &mut 
 }
 
 // The declarations at places p and q are each other's partner.
-fn join(rows: &[[u64; 7]], partner: &mut [u64], p: usize, q: usize)
+fn join(rows: &[Declaration], partner: &mut [u64], p: usize, q: usize)
     requires p_in_bounds { p < length rows.now }
     requires q_in_bounds { q < length rows.now }
     requires partner_len { length partner.old ≡ length rows.now }
-    ensures { partner.new ≡ set (set partner.old p (at (held_of rows.now) q).number) q (at (held_of rows.now) p).number }
+    ensures { partner.new ≡ set (set partner.old p (at rows.now q).number) q (at rows.now p).number }
 {
     let x = declaration_at(rows, p);
     let y = declaration_at(rows, q);
@@ -76,11 +75,11 @@ fn join(rows: &[[u64; 7]], partner: &mut [u64], p: usize, q: usize)
 }
 
 // One walk over both sides: of two classes the earlier one is passed by, and two of the same class are each other's partner.
-fn pair_up(rows: &[[u64; 7]], buyers: &[usize], sellers: &[usize], partner: &mut [u64])
-    requires declared { Declared (held_of rows.now) }
-    requires both_sorted { BothSorted (held_of rows.now) buyers.now sellers.now }
+fn pair_up(rows: &[Declaration], buyers: &[usize], sellers: &[usize], partner: &mut [u64])
+    requires declared { Declared rows.now }
+    requires both_sorted { BothSorted rows.now buyers.now sellers.now }
     requires partner_value { partner.old ≡ replicate (length rows.now) 0 }
-    ensures { partner.new ≡ partners (held_of rows.now) }
+    ensures { partner.new ≡ partners rows.now }
 {
     let mut i = 0;
     let mut j = 0;
@@ -104,19 +103,19 @@ fn pair_up(rows: &[[u64; 7]], buyers: &[usize], sellers: &[usize], partner: &mut
 
 // Both sides gathered, sorted and paired.
 fn find_with(
-    rows: &[[u64; 7]],
+    rows: &[Declaration],
     partner: &mut [u64],
     buyers: &mut [usize],
     sellers: &mut [usize],
     room: &mut [usize],
 )
-    requires declared { Declared (held_of rows.now) }
+    requires declared { Declared rows.now }
     requires partner_len { length partner.old ≡ length rows.now }
     requires rows_in_buyers { length rows.now ≤ length buyers.old }
     requires rows_in_sellers { length rows.now ≤ length sellers.old }
     requires buyers_in_bounds { length buyers.old ≤ length room.old }
     requires sellers_in_bounds { length sellers.old ≤ length room.old }
-    ensures { partner.new ≡ partners (held_of rows.now) }
+    ensures { partner.new ≡ partners rows.now }
 {
     let buying = gather_sorted(rows, 0, &mut *buyers, &mut *room);
     let selling = gather_sorted(rows, 1, &mut *sellers, &mut *room);
@@ -130,10 +129,10 @@ fn places_room() -> [usize; MOST_PLACES] {
 }
 
 // The number of each place's partner, 0 where it has none.
-pub fn find_partners(rows: &[[u64; 7]], partner: &mut [u64])
-    requires declared { Declared (held_of rows.now) }
+pub fn find_partners(rows: &[Declaration], partner: &mut [u64])
+    requires declared { Declared rows.now }
     requires partner_len { length partner.old ≡ length rows.now }
-    ensures { partner.new ≡ partners (held_of rows.now) }
+    ensures { partner.new ≡ partners rows.now }
 {
     let mut buyers = places_room();
     let mut sellers = places_room();

@@ -17,9 +17,10 @@ use Rattle.model.specs.declared.CancelReply as CancelReply
 use Rattle.model.specs.declared.ClockReply as ClockReply
 use Rattle.model.specs.Replies.{entry_numbers, open_numbers, clock_numbers, order_numbers, cancel_numbers}
 use Rattle.model.specs.Lines.{reply, refusal_line, trade_lines, reply_line, open_line, clock_line, order_line, with_number, cancel_line}
-use Rattle.book.specs.Rows.{trade_of, trades_of}
 use Rattle.printing.specs.Printing.{Wrote}
 use Rattle.printing.proofs.Printed.{nothing_put, and_then, put_as, reply_fits}
+use Rattle.model.specs.Matching.{no_trade}
+use Rattle.model.specs.declared.Order.{Order}
 
 -- ---- trades
 
@@ -42,26 +43,26 @@ trades_start ts = nothing_put
 
 -- the next trade after those that are put
 module _
-    (rows : List (List ℕ)) {out₀ : List ℕ} {p₀ : ℕ} {out : List ℕ} {p : ℕ} (i : ℕ)
-    (w : Wrote out₀ p₀ (trade_lines (take i (trades_of rows))) out p) where
+    (rows : List Trade) {out₀ : List ℕ} {p₀ : ℕ} {out : List ℕ} {p : ℕ} (i : ℕ)
+    (w : Wrote out₀ p₀ (trade_lines (take i rows)) out p) where
   pub trades_room : i ≤ length rows → p ≤ p₀ + 128 * i
   trades_room h =
-      let l : length (take i (trades_of rows)) ≡ i = length-take-le i (trades_of rows) (rw (length-map rows trade_of) h) in
-      omega (arith, w.place, trades_fit (take i (trades_of rows)))
+      let l : length (take i rows) ≡ i = length-take-le i rows (h) in
+      omega (arith, w.place, trades_fit (take i rows))
 
   pub trades_on :
       i < length rows
       → (t : Trade)
-      → t ≡ trade_of (get_or rows i [])
+      → t ≡ get_or rows i no_trade
       → {out' : List ℕ} {p' : ℕ}
       → Wrote out p (trade_lines (t ∷ [])) out' p'
-      → Wrote out₀ p₀ (trade_lines (take (i + 1) (trades_of rows))) out' p'
+      → Wrote out₀ p₀ (trade_lines (take (i + 1) rows)) out' p'
   trades_on h t e v =
-      let k : i < length (trades_of rows) = rw (length-map rows trade_of) h in
-      let f : take (i + 1) (trades_of rows) ≡ take i (trades_of rows) ++ (t ∷ []) =
-      rw (add-one, take-suc (trades_of rows) i (trade_of []) k, get_or-map trade_of rows i [], e)
+      let k : i < length rows = h in
+      let f : take (i + 1) rows ≡ take i rows ++ (t ∷ []) =
+      rw (add-one, take-suc rows i no_trade k, e)
       in
-      put_as (sym (ap trade_lines f ∙ trades_more (take i (trades_of rows)) t)) (and_then w v)
+      put_as (sym (ap trade_lines f ∙ trades_more (take i rows) t)) (and_then w v)
 
 -- ---- replies
 

@@ -3,7 +3,6 @@
 
 ghost use Rattle.std.specs.Prelude.{◌≡◌, ◌+◌, ◌*◌, ◌≤◌, [], ◌∷◌, length, take};
 ghost use Rattle.model.specs.Lines.{digits, spaced, reply, refusal_line, trade_lines, reply_line, open_line, clock_line, order_line, cancel_line};
-ghost use Rattle.book.specs.Rows.{trades_of};
 ghost use Rattle.printing.specs.Printing.{Wrote};
 
 use model::{CancelReply, ClockReply, OpenReply, OrderReply, Trade};
@@ -94,9 +93,9 @@ fn put_trade(t: Trade, out: &mut [u8], at: usize) -> usize
 }
 
 // The lines of the first n trades of the list.
-pub fn put_trades(trades: &[[u64; 6]], n: usize, out: &mut [u8], at: usize) -> usize
+pub fn put_trades(trades: &[Trade], n: usize, out: &mut [u8], at: usize) -> usize
     requires { (n ≤ length trades.now) × (at + 128 * n ≤ length out.old) }
-    ensures { Wrote out.old at (trade_lines (take n (trades_of trades.now))) out.new result }
+    ensures { Wrote out.old at (trade_lines (take n trades.now)) out.new result }
 {
     let mut p = at;
     let mut i: usize = 0;

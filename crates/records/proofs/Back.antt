@@ -10,7 +10,7 @@ use Rattle.model.specs.declared.Order.{Order}
 use Rattle.model.specs.declared.Declaration.{Declaration}
 use Rattle.model.specs.declared.Trade.{Trade}
 use Rattle.model.specs.declared.Day.{Day}
-use Rattle.book.specs.Rows.{order_of, row_of, declaration_of, declaration_row}
+use Rattle.records.specs.Layout.{order_of, row_of, declaration_of, declaration_row}
 use Rattle.model.specs.Words.{Each}
 use Rattle.book.proofs.Lists.{each}
 use Rattle.octets.specs.Numbers.{AllBytes, digits, parts, flat}

@@ -7,7 +7,7 @@ use Rattle.model.specs.declared.Order.{Order}
 use Rattle.model.specs.declared.Declaration.{Declaration}
 use Rattle.model.specs.declared.Trade.{Trade}
 use Rattle.model.specs.declared.Day.{Day}
-use Rattle.book.specs.Rows.{row_of, declaration_row, trade_row}
+use Rattle.records.specs.Layout.{row_of, declaration_row, trade_row}
 use Rattle.octets.specs.Numbers.{digits}
 use Rattle.octets.proofs.Digits.{length_digits}
 use Rattle.octets.proofs.Parts.{length_flat}

@@ -7,13 +7,16 @@ use lib.ListN.{length, take, length-map}
 use lib.Seq.{sets, take_all, length-take-le}
 use Rattle.model.specs.declared.Screen.{Screen}
 use Rattle.model.specs.declared.Day.{Day}
-use Rattle.book.specs.Rows.{order_of, book_of, declaration_of, held_of, trade_of, trades_of}
+use Rattle.records.specs.Layout.{order_of, declaration_of, trade_of}
 use Rattle.octets.specs.Numbers.{digits, parts, flat}
 use Rattle.octets.proofs.Parts.{flat_append}
 use Rattle.replies.specs.Words.{word}
 use Rattle.records.specs.Layout.{bytes, levels_row, screen_row, fixed_row, blocks_row, day_bytes, order_in, order_bytes, book_in, book_bytes, declaration_in, declaration_bytes, declarations_in, declarations_bytes, trade_bytes, trades_bytes, over, replied}
 use Rattle.records.proofs.Runs.{sets_on, sets_over}
 use Rattle.records.proofs.Sizes.{length_bytes, length_day, length_book, length_declarations, length_trades}
+use Rattle.model.specs.declared.Order.{Order}
+use Rattle.model.specs.declared.Trade.{Trade}
+use Rattle.model.specs.declared.Declaration.{Declaration}
 
 -- one row of numbers behind another
 then_put :
@@ -62,44 +65,44 @@ day_put b d {b₁} {b₂} {b₃} h e f g =
 
 -- the rows of as many places as the bytes hold
 pub book_read :
-    (b : List ℕ) (rows : List (List ℕ)) {n : ℕ} → n ≡ length b / 40 → book_of rows ≡ parts order_in 40 n b → book_of rows ≡ book_in b
+    (b : List ℕ) (rows : List Order) {n : ℕ} → n ≡ length b / 40 → rows ≡ parts order_in 40 n b → rows ≡ book_in b
 unfolding book_in
 book_read b rows n e = e ∙ rw n
 
 pub book_put :
-    (b : List ℕ) (rows : List (List ℕ)) (b' : List ℕ)
+    (b : List ℕ) (rows : List Order) (b' : List ℕ)
     → 40 * length rows ≤ length b
-    → b' ≡ sets b 0 (flat order_bytes (book_of rows))
-    → b' ≡ over (book_bytes (book_of rows)) b
+    → b' ≡ sets b 0 (flat order_bytes rows)
+    → b' ≡ over (book_bytes rows) b
 unfolding book_bytes
 book_put b rows b' h e =
-    e ∙ sets_over (book_bytes (book_of rows)) b (omega (arith, length_book (book_of rows), length-map rows order_of))
+    e ∙ sets_over (book_bytes rows) b (omega (arith, length_book rows))
 
 pub held_read :
-    (b : List ℕ) (rows : List (List ℕ)) {n : ℕ}
+    (b : List ℕ) (rows : List Declaration) {n : ℕ}
     → n ≡ length b / 56
-    → held_of rows ≡ parts declaration_in 56 n b
-    → held_of rows ≡ declarations_in b
+    → rows ≡ parts declaration_in 56 n b
+    → rows ≡ declarations_in b
 unfolding declarations_in
 held_read b rows n e = e ∙ rw n
 
 pub held_put :
-    (b : List ℕ) (rows : List (List ℕ)) (b' : List ℕ)
+    (b : List ℕ) (rows : List Declaration) (b' : List ℕ)
     → 56 * length rows ≤ length b
-    → b' ≡ sets b 0 (flat declaration_bytes (held_of rows))
-    → b' ≡ over (declarations_bytes (held_of rows)) b
+    → b' ≡ sets b 0 (flat declaration_bytes rows)
+    → b' ≡ over (declarations_bytes rows) b
 unfolding declarations_bytes
 held_put b rows b' h e =
-    e ∙ sets_over (declarations_bytes (held_of rows)) b (omega (arith, length_declarations (held_of rows), length-map rows declaration_of))
+    e ∙ sets_over (declarations_bytes rows) b (omega (arith, length_declarations rows))
 
 pub trades_put :
-    (b : List ℕ) (list : List (List ℕ)) (b' : List ℕ)
+    (b : List ℕ) (list : List Trade) (b' : List ℕ)
     → 48 * length list ≤ length b
-    → b' ≡ sets b 0 (flat trade_bytes (trades_of list))
-    → b' ≡ over (trades_bytes (trades_of list)) b
+    → b' ≡ sets b 0 (flat trade_bytes list)
+    → b' ≡ over (trades_bytes list) b
 unfolding trades_bytes
 trades_put b list b' h e =
-    e ∙ sets_over (trades_bytes (trades_of list)) b (omega (arith, length_trades (trades_of list), length-map list trade_of))
+    e ∙ sets_over (trades_bytes list) b (omega (arith, length_trades list))
 
 -- as many numbers as fit
 pub cut_fits : (n : ℕ) (ns : List ℕ) {m : ℕ} → n < length ns → 8 * n ≤ m → 0 + 8 * length (take n ns) ≤ m

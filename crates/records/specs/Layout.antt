@@ -15,7 +15,48 @@ use Rattle.model.specs.Words.{Each}
 use Rattle.octets.specs.Numbers.{worth, digits, parts, flat}
 pub use Rattle.octets.specs.Numbers.{AllBytes}
 use Rattle.replies.specs.Words.{word, signed}
-use Rattle.book.specs.Rows.{order_of, row_of, declaration_of, declaration_row, trade_of, trade_row}
+
+-- ---- a record as its numbers, and back
+
+-- an order: side, account, shares left, price, number
+abbrev pub order_of : List ℕ → Order
+order_of r =
+    record { side = get_or r 0 0; account = get_or r 1 0; left = get_or r 2 0; price = get_or r 3 0; number = get_or r 4 0 }
+
+abbrev pub row_of : Order → List ℕ
+row_of o = o.side ∷ o.account ∷ o.left ∷ o.price ∷ o.number ∷ []
+
+-- a declaration: side, account, the account that it names, quantity, price, agreement, number
+abbrev pub declaration_of : List ℕ → Declaration
+declaration_of r =
+    record {
+      side = get_or r 0 0;
+      account = get_or r 1 0;
+      counter = get_or r 2 0;
+      quantity = get_or r 3 0;
+      price = get_or r 4 0;
+      agreement = get_or r 5 0;
+      number = get_or r 6 0;
+    }
+
+abbrev pub declaration_row : Declaration → List ℕ
+declaration_row x =
+    x.side ∷ x.account ∷ x.counter ∷ x.quantity ∷ x.price ∷ x.agreement ∷ x.number ∷ []
+
+-- a trade: price, quantity, buyer, seller, and what it leaves of the buyer and of the seller
+abbrev pub trade_of : List ℕ → Trade
+trade_of r =
+    record {
+      price = get_or r 0 0;
+      quantity = get_or r 1 0;
+      buyer = get_or r 2 0;
+      seller = get_or r 3 0;
+      buyerleft = get_or r 4 0;
+      sellerleft = get_or r 5 0;
+    }
+
+abbrev pub trade_row : Trade → List ℕ
+trade_row t = t.price ∷ t.quantity ∷ t.buyer ∷ t.seller ∷ t.buyerleft ∷ t.sellerleft ∷ []
 
 -- ---- what memory can hold
 

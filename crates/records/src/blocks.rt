@@ -1,7 +1,6 @@
 // Declarations of block trades as bytes, and lists of them.
 ghost use Rattle.std.specs.Prelude.{◌≡◌, ◌+◌, ◌*◌, ◌/◌, ◌≤◌, length, drop};
 ghost use Rattle.std.proofs.lemmas.List.Edits.{sets};
-ghost use Rattle.book.specs.Rows.{held_of};
 ghost use Rattle.records.specs.Layout.{declaration_in, declaration_bytes, declarations_in, declarations_bytes, over};
 
 use crate::DECLARATION_BYTES;
@@ -43,9 +42,9 @@ fn put_declaration_bytes(b: &mut [u8], at: usize, x: Declaration)
 }
 
 // Fills rows with the declarations that the bytes hold.
-pub fn load_held(b: &[u8], rows: &mut [[u64; 7]])
+pub fn load_held(b: &[u8], rows: &mut [Declaration])
     requires { length rows.old ≡ length b.now / 56 }
-    ensures { held_of rows.new ≡ declarations_in b.now }
+    ensures { rows.new ≡ declarations_in b.now }
 {
     let mut i: usize = 0;
     while i < rows.len() {
@@ -55,9 +54,9 @@ pub fn load_held(b: &[u8], rows: &mut [[u64; 7]])
 }
 
 // Writes the rows of declarations to the bytes' front.
-pub fn store_held(b: &mut [u8], rows: &[[u64; 7]])
+pub fn store_held(b: &mut [u8], rows: &[Declaration])
     requires { 56 * length rows.now ≤ length b.old }
-    ensures { b.new ≡ over (declarations_bytes (held_of rows.now)) b.old }
+    ensures { b.new ≡ over (declarations_bytes rows.now) b.old }
 {
     let mut i: usize = 0;
     while i < rows.len() {

@@ -1,7 +1,6 @@
 // Orders and trades as bytes, and lists of them.
 ghost use Rattle.std.specs.Prelude.{◌≡◌, ◌+◌, ◌*◌, ◌/◌, ◌≤◌, length, drop};
 ghost use Rattle.std.proofs.lemmas.List.Edits.{sets};
-ghost use Rattle.book.specs.Rows.{book_of, trades_of};
 ghost use Rattle.records.specs.Layout.{order_in, order_bytes, trade_bytes, book_in, book_bytes, trades_bytes, over};
 
 use crate::numbers::{put_numbers, read_numbers};
@@ -48,9 +47,9 @@ fn put_trade_bytes(b: &mut [u8], at: usize, t: Trade)
 }
 
 // Fills rows with the book that the bytes hold.
-pub fn load_book(b: &[u8], rows: &mut [[u64; 5]])
+pub fn load_book(b: &[u8], rows: &mut [Order])
     requires { length rows.old ≡ length b.now / 40 }
-    ensures { book_of rows.new ≡ book_in b.now }
+    ensures { rows.new ≡ book_in b.now }
 {
     let mut i: usize = 0;
     while i < rows.len() {
@@ -60,9 +59,9 @@ pub fn load_book(b: &[u8], rows: &mut [[u64; 5]])
 }
 
 // Writes the rows of a book to the bytes' front.
-pub fn store_book(b: &mut [u8], rows: &[[u64; 5]])
+pub fn store_book(b: &mut [u8], rows: &[Order])
     requires { 40 * length rows.now ≤ length b.old }
-    ensures { b.new ≡ over (book_bytes (book_of rows.now)) b.old }
+    ensures { b.new ≡ over (book_bytes rows.now) b.old }
 {
     let mut i: usize = 0;
     while i < rows.len() {
@@ -72,9 +71,9 @@ pub fn store_book(b: &mut [u8], rows: &[[u64; 5]])
 }
 
 // Writes the trades of a list to the bytes' front.
-pub fn store_trades(b: &mut [u8], list: &[[u64; 6]])
+pub fn store_trades(b: &mut [u8], list: &[Trade])
     requires { 48 * length list.now ≤ length b.old }
-    ensures { b.new ≡ over (trades_bytes (trades_of list.now)) b.old }
+    ensures { b.new ≡ over (trades_bytes list.now) b.old }
 {
     let mut i: usize = 0;
     while i < list.len() {

@@ -15,6 +15,7 @@ use crate::AfterChunk;
 use crate::memory::{output, places, trade_list};
 use chunks::{Progress, answer_lines};
 use desk::Desk;
+use model::{Order, Trade};
 use printing::put_refusal;
 use std::io::{Read, Write};
 use streams::{Input, Streams, fill, large_buffer, tell, write_or_tell};
@@ -45,8 +46,8 @@ fn reply<R, W: Write, E: Write>(streams: &mut Streams<R, W, E>, text: &[u8]) -> 
 fn answer_chunk<R, W: Write, E: Write>(
     from: Progress,
     streams: &mut Streams<R, W, E>,
-    rows: &mut [[u64; 5]],
-    trades: &mut [[u64; 6]],
+    rows: &mut [Order],
+    trades: &mut [Trade],
     chunk: &[u8],
     out: &mut [u8],
 ) -> Progress
@@ -71,8 +72,8 @@ fn answer_chunk<R, W: Write, E: Write>(
 fn serve<R, W: Write, E: Write>(
     h: AfterChunk,
     streams: &mut Streams<R, W, E>,
-    rows: &mut [[u64; 5]],
-    trades: &mut [[u64; 6]],
+    rows: &mut [Order],
+    trades: &mut [Trade],
     buf: &mut [u8],
     n: usize,
     out: &mut [u8],
@@ -136,8 +137,8 @@ fn finish<R, W: Write, E: Write>(
 fn turn<R: Read, W: Write, E: Write>(
     h: AfterChunk,
     streams: &mut Streams<R, W, E>,
-    rows: &mut [[u64; 5]],
-    trades: &mut [[u64; 6]],
+    rows: &mut [Order],
+    trades: &mut [Trade],
     buf: &mut [u8],
     out: &mut [u8],
 ) -> AfterChunk

@@ -2,7 +2,6 @@
 ghost use Rattle.std.specs.Prelude.{◌≡◌, [], ◌∷◌};
 ghost use Rattle.model.specs.Lists.{among};
 ghost use Rattle.model.specs.Screen.{shown_price, screen_of};
-ghost use Rattle.book.specs.Rows.{book_of};
 ghost use Rattle.book.specs.Standing.{Ranked};
 ghost use Rattle.auction.specs.Fixings.{fixing_at};
 ghost use Rattle.figures.specs.Figures.{Publishable};
@@ -12,7 +11,7 @@ use auction::fixings::fixing_of;
 use clock::{phase_now, row_at};
 use figures::{published, reference_of};
 use levels::levels_of;
-use model::{Day, Screen};
+use model::{Day, Order, Screen};
 
 // The phases in which the auction's figures are shown.
 fn shows(phase: u64) -> bool
@@ -25,9 +24,9 @@ fn shows(phase: u64) -> bool
 }
 
 // The auction's figures as they are shown: zeros outside these phases, where no price is looked for, and where none stands.
-pub fn shown_of(day: Day, rows: &[[u64; 5]]) -> Fixing
-    requires { Ranked (book_of rows.now) }
-    ensures { result ≡ fixing_at (shown_price day (book_of rows.now)) (book_of rows.now) }
+pub fn shown_of(day: Day, rows: &[Order]) -> Fixing
+    requires { Ranked rows.now }
+    ensures { result ≡ fixing_at (shown_price day rows.now) rows.now }
 {
     let phase = phase_now(day, row_at(day.time));
     if !shows(phase) {
@@ -40,10 +39,10 @@ pub fn shown_of(day: Day, rows: &[[u64; 5]]) -> Fixing
     fixing_of(rows, reference_of(day))
 }
 
-pub fn screen_of(day: Day, rows: &[[u64; 5]], high: u64, low: u64) -> Screen
-    requires ranked { Ranked (book_of rows.now) }
+pub fn screen_of(day: Day, rows: &[Order], high: u64, low: u64) -> Screen
+    requires ranked { Ranked rows.now }
     requires publishable { Publishable day }
-    ensures { result ≡ screen_of day (book_of rows.now) high low }
+    ensures { result ≡ screen_of day rows.now high low }
 {
     let buys = levels_of(rows, 0);
     let sells = levels_of(rows, 1);

@@ -8,7 +8,6 @@ pub mod ranges;
 ghost use Rattle.std.specs.Prelude.{◌≡◌, ◌≤◌, length, take};
 ghost use Rattle.model.specs.Screen.{update};
 ghost use Rattle.model.specs.Sound.{screen_fits};
-ghost use Rattle.book.specs.Rows.{book_of, trades_of};
 ghost use Rattle.book.specs.Standing.{Ranked};
 ghost use Rattle.figures.specs.Figures.{Publishable};
 
@@ -16,7 +15,7 @@ use crate::comparing::{encloses, figures_fit, same_fixing, same_levels};
 use crate::counting::{screen_of, shown_of};
 use crate::ranges::range_with;
 use levels::levels_of;
-use model::Day;
+use model::{Day, Order, Trade};
 
 // The highest and the lowest price that has traded; zeros while nothing has.
 #[derive(Clone, Copy)]
@@ -26,11 +25,11 @@ pub struct Range {
 }
 
 // The day with its screen as it is after an event that made the first n trades of the list and left this book.
-pub fn update_screen(day: Day, rows: &[[u64; 5]], trades: &[[u64; 6]], n: usize) -> Day
-    requires ranked { Ranked (book_of rows.now) }
+pub fn update_screen(day: Day, rows: &[Order], trades: &[Trade], n: usize) -> Day
+    requires ranked { Ranked rows.now }
     requires n_in_bounds { n ≤ length trades.now }
     requires publishable { Publishable day }
-    ensures { result ≡ update (trades_of (take n trades.now)) (book_of rows.now) day }
+    ensures { result ≡ update (take n trades.now) rows.now day }
 {
     let range = range_with(day.screen, trades, n);
     let screen = screen_of(day, rows, range.high, range.low);
@@ -40,10 +39,10 @@ pub fn update_screen(day: Day, rows: &[[u64; 5]], trades: &[[u64; 6]], n: usize)
 }
 
 // Whether a day's screen does not differ from its book and its figures: what is cheap is tested first, the auction's figures last.
-pub fn screen_fits(day: Day, rows: &[[u64; 5]]) -> bool
-    requires ranked { Ranked (book_of rows.now) }
+pub fn screen_fits(day: Day, rows: &[Order]) -> bool
+    requires ranked { Ranked rows.now }
     requires publishable { Publishable day }
-    ensures { result ≡ screen_fits day (book_of rows.now) }
+    ensures { result ≡ screen_fits day rows.now }
 {
     if !figures_fit(day) {
         return false;

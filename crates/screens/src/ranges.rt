@@ -1,11 +1,10 @@
 // High and low with the trades of an event.
 ghost use Rattle.std.specs.Prelude.{◌≡◌, ◌≤◌, max, length, take};
-ghost use Rattle.book.specs.Rows.{trades_of};
 ghost use Rattle.screens.specs.Ranges.{widened, range_of, range_with};
 
 use crate::Range;
 use book::{smaller, trade_at};
-use model::Screen;
+use model::{Screen, Trade};
 
 fn larger(a: u64, b: u64) -> u64
     ensures { result ≡ max a b }
@@ -24,9 +23,9 @@ fn widen(range: Range, price: u64) -> Range
 }
 
 // The range with the first n trades of the list.
-fn range_of(trades: &[[u64; 6]], n: usize, start: Range) -> Range
+fn range_of(trades: &[Trade], n: usize, start: Range) -> Range
     requires { n ≤ length trades.now }
-    ensures { result ≡ range_of (trades_of (take n trades.now)) start }
+    ensures { result ≡ range_of (take n trades.now) start }
 {
     let mut range = start;
     let mut i: usize = 0;
@@ -39,9 +38,9 @@ fn range_of(trades: &[[u64; 6]], n: usize, start: Range) -> Range
 }
 
 // A screen's high and low with the first n trades of the list: where nothing had traded the first of them begins both.
-pub fn range_with(screen: Screen, trades: &[[u64; 6]], n: usize) -> Range
+pub fn range_with(screen: Screen, trades: &[Trade], n: usize) -> Range
     requires { n ≤ length trades.now }
-    ensures { result ≡ range_with (trades_of (take n trades.now)) screen }
+    ensures { result ≡ range_with (take n trades.now) screen }
 {
     if screen.last != 0 {
         let old = Range {

@@ -5,17 +5,17 @@ use mathlib.Core.List.{List}
 use native.Mathlib.Omega.{arith}
 use lib.ListN.{length, take}
 use Rattle.model.specs.Lines.{reply, trade_lines}
-use Rattle.book.specs.Rows.{trades_of}
 use Rattle.printing.specs.Printing.{Wrote}
 use Rattle.printing.proofs.Printed.{put_long, reply_fits}
 use Rattle.printing.proofs.Replied.{trades_room}
+use Rattle.model.specs.declared.Trade.{Trade}
 
 pub reply_short : (letter : ℕ) (numbers : List ℕ) → length numbers ≤ 5 → length (reply letter numbers) ≤ 110
 reply_short letter numbers h = omega (arith, reply_fits letter numbers, h)
 
 pub room_behind :
-    (rows : List (List ℕ)) (n : ℕ) {out out' : List ℕ} {p : ℕ}
-    → Wrote out 0 (trade_lines (take n (trades_of rows))) out' p
+    (rows : List Trade) (n : ℕ) {out out' : List ℕ} {p : ℕ}
+    → Wrote out 0 (trade_lines (take n rows)) out' p
     → n ≤ 16
     → length rows ≡ 16
     → 4096 ≤ length out

@@ -5,10 +5,10 @@
 mod showing;
 
 ghost use Rattle.std.specs.Prelude.{◌≡◌};
-ghost use Rattle.book.specs.Rows.{trades_of};
 ghost use Rattle.lent.specs.Calls.{call_of};
 ghost use Rattle.sixteen_places.specs.Lists.{no_trades};
 
+use book::no_trade;
 use book::places::free_place;
 use figures::fresh_day;
 use lent::sixteen::{ask_on_sixteen, take_on_sixteen};
@@ -39,9 +39,9 @@ fn day_after(day: Day, answer: Answer) -> Day {
 
 // One event: it is answered, the answer is printed, and day and book are those after it.
 fn step<W: Write>(output: &mut W, s: Stand, event: Event) -> Stand
-    ensures { result.book ≡ (call_of event s.day s.book (trades_of no_trades)).book }
+    ensures { result.book ≡ (call_of event s.day s.book no_trades).book }
 {
-    let mut trades = [[0u64; 6]; 16];
+    let mut trades = [no_trade(); 16];
     let day = s.day;
     let book = s.book;
     let handed = take_on_sixteen(book, &mut trades, OnDay { day, event });

@@ -3,7 +3,7 @@ ghost use Rattle.std.specs.Prelude.{◌≡◌, ◌≤◌, length};
 
 use crate::Stand;
 use lent::{Answer, Told};
-use model::{Event, ListReply, ReportReply};
+use model::{Event, ListReply, ReportReply, Trade};
 use printing::{put_cancel, put_clock, put_open, put_order, put_reply, put_trades};
 use std::io::Write;
 use streams::{buffer, tell};
@@ -31,7 +31,7 @@ fn number_asked(event: Event) -> u64 {
 }
 
 // The trades first, then the reply.
-fn put_lines(event: Event, answer: Answer, trades: &[[u64; 6]], out: &mut [u8]) -> usize
+fn put_lines(event: Event, answer: Answer, trades: &[Trade], out: &mut [u8]) -> usize
     requires trades_len { length trades.now ≡ 16 }
     requires in_bounds { 4096 ≤ length out.old }
     ensures { result ≤ length out.new }
@@ -55,7 +55,7 @@ fn put_lines(event: Event, answer: Answer, trades: &[[u64; 6]], out: &mut [u8]) 
     }
 }
 
-pub fn print_answer<W: Write>(output: &mut W, event: Event, answer: Answer, trades: &[[u64; 6]])
+pub fn print_answer<W: Write>(output: &mut W, event: Event, answer: Answer, trades: &[Trade])
     requires { length trades.now ≡ 16 }
 {
     let mut out = buffer();

@@ -10,8 +10,6 @@ use lib.Dec.{ltb, eqb}
 use borrow.Author.Tests.{eq-eqb, ne_eqb, le-ltb}
 use Rattle.model.specs.declared.Order.{Order}
 use Rattle.model.specs.Book.{free, better, ahead, may_follow, in_order}
-use Rattle.book.specs.Rows.{order_of, book_of}
-use Rattle.book.proofs.Memory.{book_at}
 
 -- ---- who is ahead
 
@@ -41,34 +39,34 @@ module _ (side : ℕ) (a b : Order) where
 -- ---- along the places
 
 -- those up to the one before i have passed
-pub record Followed (rows : List (List ℕ)) (i : ℕ) : Type 0 where
-  pub same : in_order (book_of rows) ≡ in_order (drop (i - 1) (book_of rows))
+pub record Followed (rows : List Order) (i : ℕ) : Type 0 where
+  pub same : in_order rows ≡ in_order (drop (i - 1) rows)
   pub low : 1 ≤ i
 
-pub followed_start : (rows : List (List ℕ)) → Followed rows 1
+pub followed_start : (rows : List Order) → Followed rows 1
 followed_start rows = record { same = refl; low = omega arith }
 
-module _ (rows : List (List ℕ)) {i : ℕ} (w : Followed rows i) where
-  module _ {a b : Order} (inside : i < length rows) (ea : a ≡ order_of (get_or rows (i - 1) [])) (eb : b ≡ order_of (get_or rows i [])) where
-    second : drop i (book_of rows) ≡ b ∷ drop (suc i) (book_of rows)
+module _ (rows : List Order) {i : ℕ} (w : Followed rows i) where
+  module _ {a b : Order} (inside : i < length rows) (ea : a ≡ get_or rows (i - 1) free) (eb : b ≡ get_or rows i free) where
+    second : drop i rows ≡ b ∷ drop (suc i) rows
     second =
-        drop-cons (book_of rows) i free (omega (arith, length-map rows order_of))
-        ∙ ap (λ (x : Order). x ∷ drop (suc i) (book_of rows)) (sym (eb ∙ book_at rows i))
+        drop-cons rows i free (omega arith)
+        ∙ ap (λ (x : Order). x ∷ drop (suc i) rows) (sym (eb))
 
-    two : drop (i - 1) (book_of rows) ≡ a ∷ b ∷ drop (suc i) (book_of rows)
+    two : drop (i - 1) rows ≡ a ∷ b ∷ drop (suc i) rows
     two =
         let k : suc (i - 1) ≡ i = omega (arith, w.low) in
-        drop-cons (book_of rows) (i - 1) free (omega (arith, length-map rows order_of))
-        ∙ ap (λ (x : Order). x ∷ drop (suc (i - 1)) (book_of rows)) (sym (ea ∙ book_at rows (i - 1)))
-        ∙ ap (λ (n : ℕ). a ∷ drop n (book_of rows)) k
+        drop-cons rows (i - 1) free (omega arith)
+        ∙ ap (λ (x : Order). x ∷ drop (suc (i - 1)) rows) (sym (ea))
+        ∙ ap (λ (n : ℕ). a ∷ drop n rows) k
         ∙ ap (λ (l : List Order). a ∷ l) second
 
-    here : in_order (book_of rows) ≡ (may_follow a b && in_order (drop i (book_of rows)))
+    here : in_order rows ≡ (may_follow a b && in_order (drop i rows))
     unfolding in_order
     here = w.same ∙ ap in_order two ∙ ap (λ (l : List Order). may_follow a b && in_order l) (sym second)
 
     module _ {r : Bool} (e : r ≡ may_follow a b) where
-      pub follow_fails : r ≡ false → false ≡ in_order (book_of rows)
+      pub follow_fails : r ≡ false → false ≡ in_order rows
       follow_fails f = sym (here ∙ rw (sym e ∙ f))
 
       pub follow_next : r ≡ true → Followed rows (i + 1)
@@ -76,11 +74,11 @@ module _ (rows : List (List ℕ)) {i : ℕ} (w : Followed rows i) where
           let k : i + 1 - 1 ≡ i = omega arith in
           record { same = here ∙ rw (sym e ∙ f, k); low = omega arith }
 
-  pub follow_ends : length rows ≤ i → true ≡ in_order (book_of rows)
+  pub follow_ends : length rows ≤ i → true ≡ in_order rows
   follow_ends h =
       sym
       (w.same
-      ∙ alone (drop (i - 1) (book_of rows)) (omega (arith, length-drop (i - 1) (book_of rows), length-map rows order_of)))
+      ∙ alone (drop (i - 1) rows) (omega (arith, length-drop (i - 1) rows)))
     where
       alone : (os : List Order) → length os ≤ 1 → in_order os ≡ true
       alone [] l = unfold in_order in refl

@@ -12,12 +12,11 @@ use borrow.Author.Tests.{eqb-true, eqb-false}
 use Rattle.model.specs.declared.Order.{Order}
 use Rattle.model.specs.declared.Day.{Day}
 use Rattle.model.specs.Lists.{all}
-use Rattle.model.specs.Book.{is_live}
+use Rattle.model.specs.Book.{is_live, free}
 use Rattle.model.specs.Sound.{own_numbers}
 use Rattle.model.proofs.Bools.{not_both}
 use Rattle.bits.specs.Maps.{has_bit, marked}
 use Rattle.bits.proofs.MapLaws.{empty_map, marked_itself, marked_other, length_marked}
-use Rattle.book.specs.Rows.{order_of, book_of}
 use Rattle.model.specs.Words.{Each, Apart}
 use Rattle.book.proofs.Lists.{each, both, every}
 use Rattle.book.proofs.Kept.{free_number}
@@ -113,25 +112,25 @@ issued_number d o p =
 
 -- ---- the loop: what is still to be tested is the whole test
 
-pub record Tested (d : Day) (rows : List (List ℕ)) (used : List ℕ) (i : ℕ) : Type 0 where
+pub record Tested (d : Day) (rows : List Order) (used : List ℕ) (i : ℕ) : Type 0 where
   pub wide : d.issued / 64 < length used
-  pub rest : still d used (book_of (drop i rows)) ≡ whole d (book_of rows)
+  pub rest : still d used (drop i rows) ≡ whole d rows
 
 none_used : (used : List ℕ) → used ≡ no_numbers (length used) → (o : Order) → New used o
 unfolding no_numbers
 none_used used e o w =
     not_both w.1 (ap (λ (m : List ℕ). has_bit m o.number) e ∙ empty_map (length used) o.number)
 
-pub tested_none : (d : Day) (rows : List (List ℕ)) (used : List ℕ) → FreshMap d.issued used → Tested d rows used 0
+pub tested_none : (d : Day) (rows : List Order) (used : List ℕ) → FreshMap d.issued used → Tested d rows used 0
 tested_none d rows used r =
     record {
       wide = r.wide;
       rest =
           says_same
           (λ h. h.0)
-          (λ h. (h, every (New used) (book_of rows) (none_used used r.empty)))
-          (says_still d used (book_of rows))
-          (says_whole d (book_of rows));
+          (λ h. (h, every (New used) rows (none_used used r.empty)))
+          (says_still d used rows)
+          (says_whole d rows);
     }
 
 -- a map of so many words
@@ -141,16 +140,16 @@ map_fresh issued words map e h =
     let l : length map ≡ words = ap length e ∙ length-replicate {A = ℕ} words 0 in
     record { empty = e ∙ ap no_numbers (sym l); wide = omega (arith, h, l) }
 
-module _ (d : Day) (rows : List (List ℕ)) (used : List ℕ) (i : ℕ) (t : Tested d rows used i) where
-  module _ (o : Order) (l : i < length rows) (e : o ≡ order_of (get_or rows i [])) where
-    here : still d used (o ∷ book_of (drop (i + 1) rows)) ≡ whole d (book_of rows)
+module _ (d : Day) (rows : List Order) (used : List ℕ) (i : ℕ) (t : Tested d rows used i) where
+  module _ (o : Order) (l : i < length rows) (e : o ≡ get_or rows i free) where
+    here : still d used (o ∷ (drop (i + 1) rows)) ≡ whole d rows
     here = ap (still d used) (sym (onward rows i o l e)) ∙ t.rest
 
-    pub tested_bad : sits d o ≡ false → false ≡ whole d (book_of rows)
-    tested_bad b = bad_place d used o (book_of (drop (i + 1) rows)) b ∙ here
+    pub tested_bad : sits d o ≡ false → false ≡ whole d rows
+    tested_bad b = bad_place d used o (drop (i + 1) rows) b ∙ here
 
-    pub tested_used : (is_live o && has_bit used o.number) ≡ true → false ≡ whole d (book_of rows)
-    tested_used u = used_twice d used o (book_of (drop (i + 1) rows)) u ∙ here
+    pub tested_used : (is_live o && has_bit used o.number) ≡ true → false ≡ whole d rows
+    tested_used u = used_twice d used o (drop (i + 1) rows) u ∙ here
 
     pub tested_more :
         (next : List ℕ)
@@ -162,9 +161,9 @@ module _ (d : Day) (rows : List (List ℕ)) (used : List ℕ) (i : ℕ) (t : Tes
         rw n
         record {
           wide = omega (arith, t.wide, length_marked used o.number);
-          rest = used_once d used o (book_of (drop (i + 1) rows)) s u (omega (arith, t.wide, issued_number d o ((says_place d o).0 s))) ∙ here;
+          rest = used_once d used o (drop (i + 1) rows) s u (omega (arith, t.wide, issued_number d o ((says_place d o).0 s))) ∙ here;
         }
 
-  pub tested_all : length rows ≤ i → true ≡ whole d (book_of rows)
+  pub tested_all : length rows ≤ i → true ≡ whole d rows
   unfolding still all own_numbers
-  tested_all l = ap (λ (r : List (List ℕ)). still d used (book_of r)) (sym (drop_of_length-le rows l)) ∙ t.rest
+  tested_all l = ap (λ (r : List Order). still d used r) (sym (drop_of_length-le rows l)) ∙ t.rest

@@ -11,7 +11,6 @@ use Rattle.model.specs.declared.Order.{Order}
 use Rattle.model.specs.Lists.{total}
 use Rattle.model.specs.Book.{free}
 use Rattle.model.specs.Sound.{is_empty}
-use Rattle.book.specs.Rows.{order_of, book_of}
 use Rattle.model.specs.Words.{Each}
 use Rattle.book.specs.Standing.{Fair}
 use Rattle.soundness.proofs.Says.{says_eq, says_same}
@@ -60,31 +59,31 @@ empty_is book f = says_same (no_shares book f) (no_orders book f) (says_empty bo
 
 -- ---- the sum, place by place: what is summed and what is left to sum make the whole
 
-pub record Summed (rows : List (List ℕ)) (sum i : ℕ) : Type 0 where
+pub record Summed (rows : List Order) (sum i : ℕ) : Type 0 where
   pub within : i ≤ length rows
-  pub whole : sum + shares (book_of (drop i rows)) ≡ shares (book_of rows)
+  pub whole : sum + shares (drop i rows) ≡ shares rows
 
-pub sum_none : (rows : List (List ℕ)) → Summed rows 0 0
+pub sum_none : (rows : List Order) → Summed rows 0 0
 sum_none rows = record { within = omega arith; whole = omega arith }
 
-module _ (rows : List (List ℕ)) (sum i : ℕ) (s : Summed rows sum i) where
+module _ (rows : List Order) (sum i : ℕ) (s : Summed rows sum i) where
   left_and_rest :
       (o : Order)
       → i < length rows
-      → o ≡ order_of (get_or rows i [])
-      → shares (book_of (drop i rows)) ≡ o.left + shares (book_of (drop (i + 1) rows))
+      → o ≡ get_or rows i free
+      → shares (drop i rows) ≡ o.left + shares (drop (i + 1) rows)
   unfolding total
   left_and_rest o l e = ap shares (onward rows i o l e)
 
   -- the sum so far never passes that of the book
-  pub sum_small : (o : Order) → i < length rows → o ≡ order_of (get_or rows i []) → sum + o.left ≤ shares (book_of rows)
+  pub sum_small : (o : Order) → i < length rows → o ≡ get_or rows i free → sum + o.left ≤ shares rows
   sum_small o l e = omega (arith, left_and_rest o l e, s.whole)
 
-  pub sum_more : (o : Order) → i < length rows → o ≡ order_of (get_or rows i []) → Summed rows (sum + o.left) (i + 1)
+  pub sum_more : (o : Order) → i < length rows → o ≡ get_or rows i free → Summed rows (sum + o.left) (i + 1)
   sum_more o l e = record { within = omega arith; whole = omega (arith, left_and_rest o l e, s.whole) }
 
-  pub sum_all : length rows ≤ i → sum ≡ shares (book_of rows)
+  pub sum_all : length rows ≤ i → sum ≡ shares rows
   unfolding total
   sum_all l =
-      let none : shares (book_of (drop i rows)) ≡ 0 = ap (λ (r : List (List ℕ)). shares (book_of r)) (drop_of_length-le rows l) in
+      let none : shares (drop i rows) ≡ 0 = ap (λ (r : List Order). shares r) (drop_of_length-le rows l) in
       omega (arith, s.whole)

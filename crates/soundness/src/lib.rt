@@ -10,7 +10,6 @@ pub mod places;
 
 ghost use Rattle.std.specs.Prelude.{◌≡◌, ◌&&◌};
 ghost use Rattle.model.specs.Sound.{has_places, sound};
-ghost use Rattle.book.specs.Rows.{book_of};
 ghost use Rattle.soundness.specs.SoundDay.{stands_sound};
 
 use crate::day_figures::{fits_hours, prices_fit, shares_fit, sound_figures, turnover_fits};
@@ -18,12 +17,12 @@ use crate::evening::evening_fits;
 use crate::order::is_in_order;
 use crate::places::{crosses_in_hours, has_places, shares_left, sound_places};
 use halts::fitting::halt_fits;
-use model::Day;
+use model::{Day, Order};
 use screens::screen_fits;
 
 // Whether the book has 1 to 4,096 places, and all is sound but the screen and the figures of the other lists.
-fn stands_sound(day: Day, rows: &[[u64; 5]]) -> bool
-    ensures { result ≡ (has_places (book_of rows.now) && stands_sound day (book_of rows.now)) }
+fn stands_sound(day: Day, rows: &[Order]) -> bool
+    ensures { result ≡ (has_places rows.now && stands_sound day rows.now) }
 {
     if !has_places(rows) {
         return false;
@@ -57,8 +56,8 @@ fn stands_sound(day: Day, rows: &[[u64; 5]]) -> bool
 }
 
 // Whether the day is sound, and its book has 1 to 4,096 places.
-pub fn is_sound(day: Day, rows: &[[u64; 5]]) -> bool
-    ensures { result ≡ (has_places (book_of rows.now) && sound day (book_of rows.now)) }
+pub fn is_sound(day: Day, rows: &[Order]) -> bool
+    ensures { result ≡ (has_places rows.now && sound day rows.now) }
 {
     if !stands_sound(day, rows) {
         return false;

@@ -1,7 +1,6 @@
 // The order of the places: buys from best to worst, then sells the same, free places last.
 ghost use Rattle.std.specs.Prelude.{◌≡◌};
 ghost use Rattle.model.specs.Book.{ahead, may_follow, in_order};
-ghost use Rattle.book.specs.Rows.{book_of};
 
 use book::order_at;
 use book::places::is_live;
@@ -38,8 +37,8 @@ fn may_follow(a: Order, b: Order) -> bool
 }
 
 // Each place may be followed by the next one.
-pub fn is_in_order(rows: &[[u64; 5]]) -> bool
-    ensures { result ≡ in_order (book_of rows.now) }
+pub fn is_in_order(rows: &[Order]) -> bool
+    ensures { result ≡ in_order rows.now }
 {
     let mut i = 1;
     while i < rows.len() {

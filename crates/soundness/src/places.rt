@@ -6,7 +6,6 @@ ghost use Rattle.model.specs.Book.{is_live};
 ghost use Rattle.model.specs.Halts.{runs};
 ghost use Rattle.model.specs.Sound.{has_places, may_stand, sound_figures, is_free, is_order, own_numbers, crosses, between};
 ghost use Rattle.bits.specs.Maps.{has_bit};
-ghost use Rattle.book.specs.Rows.{book_of};
 ghost use Rattle.book.specs.Standing.{Ranked};
 ghost use Rattle.soundness.specs.Numbers.{no_numbers, FreshMap};
 
@@ -18,8 +17,8 @@ use limits::{in_band, is_price};
 use model::{Day, MOST_PLACES, MOST_SHARES, Order};
 
 // 1 to 4,096 places.
-pub fn has_places(rows: &[[u64; 5]]) -> bool
-    ensures { result ≡ has_places (book_of rows.now) }
+pub fn has_places(rows: &[Order]) -> bool
+    ensures { result ≡ has_places rows.now }
 {
     1 <= rows.len() && rows.len() <= MOST_PLACES
 }
@@ -115,10 +114,10 @@ fn is_used(used: &[u64], o: Order) -> bool
 }
 
 // Each place is free or has an order, and each order its own number: found with a map of the numbers used so far.
-fn places_with(used: &mut [u64], day: Day, rows: &[[u64; 5]]) -> bool
+fn places_with(used: &mut [u64], day: Day, rows: &[Order]) -> bool
     requires day_value { sound_figures day ≡ true }
     requires fresh_map { FreshMap day.issued used.old }
-    ensures { result ≡ (all (λ o. is_free o || is_order day o) (book_of rows.now) && own_numbers (book_of rows.now)) }
+    ensures { result ≡ (all (λ o. is_free o || is_order day o) rows.now && own_numbers rows.now) }
 {
     let mut i = 0;
     while i < rows.len() {
@@ -138,9 +137,9 @@ fn places_with(used: &mut [u64], day: Day, rows: &[[u64; 5]]) -> bool
 // A map is set to zero at each call, so a short one serves while few numbers are issued.
 // Never inlined: in a caller that returns early, clang sets up so large a frame over a register that is still needed.
 #[inline(never)]
-pub fn sound_places(day: Day, rows: &[[u64; 5]]) -> bool
+pub fn sound_places(day: Day, rows: &[Order]) -> bool
     requires { sound_figures day ≡ true }
-    ensures { result ≡ (all (λ o. is_free o || is_order day o) (book_of rows.now) && own_numbers (book_of rows.now)) }
+    ensures { result ≡ (all (λ o. is_free o || is_order day o) rows.now && own_numbers rows.now) }
 {
     if day.issued <= LAST_OF_FEW {
         let mut used = few_numbers();
@@ -151,9 +150,9 @@ pub fn sound_places(day: Day, rows: &[[u64; 5]]) -> bool
 }
 
 // The shares left of all orders.
-pub fn shares_left(rows: &[[u64; 5]]) -> u64
-    requires { Ranked (book_of rows.now) }
-    ensures { result ≡ total (λ o. o.left) (book_of rows.now) }
+pub fn shares_left(rows: &[Order]) -> u64
+    requires { Ranked rows.now }
+    ensures { result ≡ total (λ o. o.left) rows.now }
 {
     let mut sum: u64 = 0;
     let mut i = 0;
@@ -166,9 +165,9 @@ pub fn shares_left(rows: &[[u64; 5]]) -> u64
 }
 
 // Buys reach sells: both sides have an order, and the best buy is not below the best sell.
-pub fn buys_reach_sells(rows: &[[u64; 5]]) -> bool
-    requires { Ranked (book_of rows.now) }
-    ensures { result ≡ crosses (book_of rows.now) }
+pub fn buys_reach_sells(rows: &[Order]) -> bool
+    requires { Ranked rows.now }
+    ensures { result ≡ crosses rows.now }
 {
     let buy = best_price(rows, 0);
     let sell = best_price(rows, 1);
@@ -182,9 +181,9 @@ pub fn buys_reach_sells(rows: &[[u64; 5]]) -> bool
 }
 
 // From 33,900 to 53,819 they may not, unless a halt runs.
-pub fn crosses_in_hours(day: Day, rows: &[[u64; 5]]) -> bool
-    requires { Ranked (book_of rows.now) }
-    ensures { result ≡ (between 33_900 53_819 day.time && not (runs day) && crosses (book_of rows.now)) }
+pub fn crosses_in_hours(day: Day, rows: &[Order]) -> bool
+    requires { Ranked rows.now }
+    ensures { result ≡ (between 33_900 53_819 day.time && not (runs day) && crosses rows.now) }
 {
     if !is_between(33_900, 53_819, day.time) {
         return false;

@@ -2,7 +2,6 @@
 use mathlib.Core.Path.{refl, ap, ◌∙◌}
 use borrow.Author.Tests.{eqb-false}
 use Rattle.model.specs.declared.BlockAnswer.{BlockAnswer}
-use Rattle.book.specs.Rows.{book_of, held_of}
 use Rattle.book.specs.Promises.{block_left}
 use Rattle.soundness.proofs.Readiness.{is_unsound, not_unsound}
 use Rattle.blocks.proofs.Readiness.{sound_day, sound_close, sound_blocks_lem, is_unsound_blocks, not_unsound_blocks, blocks_ready}
@@ -15,15 +14,15 @@ returns-then-not-is_sound c =
     let a = c.args in
     let u = is_unsound _ _ c.is_sound.ensures c.if-not-is_sound.true in
     ap (λ (r : BlockAnswer). block_left r a.rows.now a.trades.now) c.block_refused.ensures
-    ∙ block_refused_lem a.d a.a (book_of a.main.now) a.rows.now a.trades.now
-    (block_unsound a.d a.a (book_of a.main.now) (held_of a.rows.now) _ (rw u))
+    ∙ block_refused_lem a.d a.a a.main.now a.rows.now a.trades.now
+    (block_unsound a.d a.a a.main.now a.rows.now _ (rw u))
     (eqb-false 15 0 refl)
 
 pub blocks_sound-requires : goal.blocks_sound-requires
 blocks_sound-requires c =
     let a = c.args in
-    let s = sound_day a.d (book_of a.main.now) (not_unsound _ _ c.is_sound.ensures c.if-not-is_sound.false) in
-    record { close_value = sound_close a.d (book_of a.main.now) s; d_value = sound_blocks_lem a.d (book_of a.main.now) s }
+    let s = sound_day a.d a.main.now (not_unsound _ _ c.is_sound.ensures c.if-not-is_sound.false) in
+    record { close_value = sound_close a.d a.main.now s; d_value = sound_blocks_lem a.d a.main.now s }
 
 pub returns-then-not-blocks_sound : goal.returns-then-not-blocks_sound
 returns-then-not-blocks_sound c =
@@ -31,8 +30,8 @@ returns-then-not-blocks_sound c =
     let u = not_unsound _ _ c.is_sound.ensures c.if-not-is_sound.false in
     let v = is_unsound_blocks _ _ c.blocks_sound.ensures c.if-not-blocks_sound.true in
     ap (λ (r : BlockAnswer). block_left r a.rows.now a.trades.now) c.block_refused-then-not-blocks_sound.ensures
-    ∙ block_refused_lem a.d a.a (book_of a.main.now) a.rows.now a.trades.now
-    (block_unsound a.d a.a (book_of a.main.now) (held_of a.rows.now) _ (rw (u, v)))
+    ∙ block_refused_lem a.d a.a a.main.now a.rows.now a.trades.now
+    (block_unsound a.d a.a a.main.now a.rows.now _ (rw (u, v)))
     (eqb-false 15 0 refl)
 
 pub declare_sound-requires : goal.declare_sound-requires

@@ -6,7 +6,6 @@ use lib.ListN.{get_or, set, length-map}
 use borrow.Author.Tests.{eqb-false}
 use Rattle.model.specs.declared.Declaration.{Declaration}
 use Rattle.model.specs.declared.BlockAnswer.{BlockAnswer}
-use Rattle.book.specs.Rows.{declaration_of, declaration_row, held_of, trade_row}
 use Rattle.book.specs.Promises.{block_left}
 use Rattle.held.specs.Meeting.{earliest, joining}
 use Rattle.block_entries.specs.Entries.{confirmed_answer}
@@ -14,13 +13,14 @@ use Rattle.blocks.proofs.Newcomers.{new_quantity}
 use Rattle.block_calls.proofs.Refusing.{asked_well}
 use Rattle.block_calls.proofs.Declaring.{block_refused_lem, held_early, held_late, fits_there, lacks_room, confirmed_outcome}
 use Rattle.block_calls.proofs.enter.Goals as goal
+use Rattle.model.specs.Blocks.{undeclared}
 
 pub declaration_of-x-requires : goal.declaration_of-x-requires
 declaration_of-x-requires c = omega (arith, c.requires.taken.number)
 
 pub hold-requires : goal.hold-requires
 hold-requires c =
-    record { issued_bound = omega (arith, c.requires.taken.number); free_in_bounds = omega (arith, c.requires.taken.room, length-map c.args.rows.now declaration_of) }
+    record { issued_bound = omega (arith, c.requires.taken.number); free_in_bounds = omega (arith, c.requires.taken.room) }
 
 pub returns-then-d-lt-CONFIRMING_FROM : goal.returns-then-d-lt-CONFIRMING_FROM
 returns-then-d-lt-CONFIRMING_FROM c = λ main u.
@@ -28,11 +28,11 @@ returns-then-d-lt-CONFIRMING_FROM c = λ main u.
     let rows' = c.hold.new.rows in
     ap (λ (r : BlockAnswer). block_left r rows' a.trades.now) c.hold.ensures.value
     ∙ held_early a.d a.a main a.rows.now a.trades.now u c.requires.blocks_ready c.requires.taken rows' c.if-d-lt-CONFIRMING_FROM.true
-    (c.hold.ensures.rows_after ∙ ap (λ (y : Declaration). set a.rows.now a.free (declaration_row y)) c.declaration_of-x.ensures)
+    (c.hold.ensures.rows_after ∙ ap (λ (y : Declaration). set a.rows.now a.free y) c.declaration_of-x.ensures)
 
 pub hold-requires-then-rows-place : goal.hold-requires-then-rows-place
 hold-requires-then-rows-place c =
-    record { issued_bound = omega (arith, c.requires.taken.number); free_in_bounds = omega (arith, c.requires.taken.room, length-map c.args.rows.now declaration_of) }
+    record { issued_bound = omega (arith, c.requires.taken.number); free_in_bounds = omega (arith, c.requires.taken.room) }
 
 pub returns-then-rows-place : goal.returns-then-rows-place
 returns-then-rows-place c = λ main u.
@@ -40,9 +40,9 @@ returns-then-rows-place c = λ main u.
     let rows' = c.hold-then-rows-place.new.rows in
     ap (λ (r : BlockAnswer). block_left r rows' a.trades.now) c.hold-then-rows-place.ensures.value
     ∙ held_late a.d a.a main a.rows.now a.trades.now u c.requires.blocks_ready c.requires.taken c.if-d-lt-CONFIRMING_FROM.false
-    (c.earliest_fit-place.ensures ∙ ap (λ (y : Declaration). earliest y (held_of a.rows.now)) c.declaration_of-x.ensures)
+    (c.earliest_fit-place.ensures ∙ ap (λ (y : Declaration). earliest y a.rows.now) c.declaration_of-x.ensures)
     rows' c.if-rows-place.true
-    (c.hold-then-rows-place.ensures.rows_after ∙ ap (λ (y : Declaration). set a.rows.now a.free (declaration_row y)) c.declaration_of-x.ensures)
+    (c.hold-then-rows-place.ensures.rows_after ∙ ap (λ (y : Declaration). set a.rows.now a.free y) c.declaration_of-x.ensures)
 
 pub returns-then-trades-eq0 : goal.returns-then-trades-eq0
 returns-then-trades-eq0 c = λ main u.
@@ -50,7 +50,7 @@ returns-then-trades-eq0 c = λ main u.
     ap (λ (r : BlockAnswer). block_left r a.rows.now a.trades.now) c.block_refused.ensures
     ∙ block_refused_lem a.d a.a main a.rows.now a.trades.now
     (lacks_room a.d a.a main a.rows.now a.trades.now u c.requires.blocks_ready c.requires.taken c.if-d-lt-CONFIRMING_FROM.false
-    (c.earliest_fit-place.ensures ∙ ap (λ (y : Declaration). earliest y (held_of a.rows.now)) c.declaration_of-x.ensures)
+    (c.earliest_fit-place.ensures ∙ ap (λ (y : Declaration). earliest y a.rows.now) c.declaration_of-x.ensures)
     c.if-rows-place.false c.if-trades-eq0.true)
     (eqb-false 13 0 refl)
 
@@ -71,11 +71,11 @@ returns c = λ main u.
     let a = c.args in
     let rows' = c.confirm.new.rows in
     let trades' = c.confirm.new.trades in
-    let y = declaration_of (get_or a.rows.now c.earliest_fit-place.result []) in
+    let y = get_or a.rows.now c.earliest_fit-place.result undeclared in
     ap (λ (r : BlockAnswer). block_left r rows' trades')
     (c.confirm.ensures.value ∙ ap (λ (z : Declaration). confirmed_answer a.d z y) c.declaration_of-x.ensures)
     ∙ confirmed_outcome a.d a.a main a.rows.now a.trades.now u c.requires.blocks_ready c.requires.taken c.if-d-lt-CONFIRMING_FROM.false
-    (c.earliest_fit-place.ensures ∙ ap (λ (z : Declaration). earliest z (held_of a.rows.now)) c.declaration_of-x.ensures)
+    (c.earliest_fit-place.ensures ∙ ap (λ (z : Declaration). earliest z a.rows.now) c.declaration_of-x.ensures)
     c.if-rows-place.false rows' trades' c.if-trades-eq0.false
-    (c.confirm.ensures.trades_after ∙ ap (λ (z : Declaration). set a.trades.now 0 (trade_row (joining z y))) c.declaration_of-x.ensures)
+    (c.confirm.ensures.trades_after ∙ ap (λ (z : Declaration). set a.trades.now 0 (joining z y)) c.declaration_of-x.ensures)
     c.confirm.ensures.rows_after

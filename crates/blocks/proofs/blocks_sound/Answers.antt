@@ -5,7 +5,6 @@ use lib.ListN.{length-map}
 use borrow.Author.Tests.{lt-ltb, le-ltb}
 use Rattle.model.specs.Clock.{confirming_from}
 use Rattle.model.specs.SoundBlocks.{sound_blocks}
-use Rattle.book.specs.Rows.{declaration_of, held_of}
 use Rattle.declarations.specs.Declared.{Declared}
 use Rattle.held.proofs.Formed.{declared, some_places}
 use Rattle.blocks.proofs.Confirmed.{none_due}
@@ -30,8 +29,8 @@ returns-then-not-is_in_arrival c =
 pub fits_hours-requires : goal.fits_hours-requires
 fits_hours-requires c =
     let rows = c.args.rows.now in
-    let some = some_places (held_of rows) (sym c.has_places.ensures ∙ c.if-not-has_places.false) in
-    record { in_bounds = omega (arith, some, length-map rows declaration_of); rows_value = sym c.is_in_arrival.ensures ∙ c.if-not-is_in_arrival.false }
+    let some = some_places rows (sym c.has_places.ensures ∙ c.if-not-has_places.false) in
+    record { in_bounds = omega (arith, some); rows_value = sym c.is_in_arrival.ensures ∙ c.if-not-is_in_arrival.false }
 
 pub returns-then-not-fits_hours : goal.returns-then-not-fits_hours
 unfolding sound_blocks
@@ -44,7 +43,7 @@ returns-then-d-lt-CONFIRMING_FROM c =
     rw (sym c.has_places.ensures ∙ c.if-not-has_places.false, sym c.all_formed.ensures ∙ c.if-not-all_formed.false, sym c.is_in_arrival.ensures ∙ c.if-not-is_in_arrival.false, sym c.fits_hours.ensures ∙ c.if-not-fits_hours.false, lt-ltb _ _ c.if-d-lt-CONFIRMING_FROM.true)
 
 -- what the tests so far give
-after-tests : (c : Else-d-lt-CONFIRMING_FROM) → Declared (held_of c.args.rows.now)
+after-tests : (c : Else-d-lt-CONFIRMING_FROM) → Declared c.args.rows.now
 after-tests c =
     declared _ _ c.requires.d_value (sym c.has_places.ensures ∙ c.if-not-has_places.false) (sym c.all_formed.ensures ∙ c.if-not-all_formed.false) (sym c.is_in_arrival.ensures ∙ c.if-not-is_in_arrival.false)
 

@@ -2,7 +2,6 @@
 use mathlib.Core.Path.{ap, ◌∙◌}
 use mathlib.Core.List.{List}
 use Rattle.model.specs.declared.Trade.{Trade}
-use Rattle.book.specs.Rows.{trade_rows}
 use Rattle.book.specs.Writing.{fitted}
 use Rattle.book.specs.Deals.{dealt}
 use Rattle.blocks.proofs.Confirmed.{by_partners, left_by_partners}
@@ -12,4 +11,4 @@ pub returns : goal.returns
 returns c =
     let rows = c.args.rows.now in
     let trades = c.args.trades.now in
-    let same = by_partners rows c.requires.declared c.find_partners.ensures in record { value = c.write_confirmed-found.ensures.value ∙ ap dealt same; trades_after = c.write_confirmed-found.ensures.trades_after ∙ ap (λ (ts : List Trade). fitted (trade_rows ts) trades) same; rows_after = left_by_partners rows c.requires.declared c.find_partners.ensures c.close_up.ensures }
+    let same = by_partners rows c.requires.declared c.find_partners.ensures in record { value = c.write_confirmed-found.ensures.value ∙ ap dealt same; trades_after = c.write_confirmed-found.ensures.trades_after ∙ ap (λ (ts : List Trade). fitted ts trades) same; rows_after = left_by_partners rows c.requires.declared c.find_partners.ensures c.close_up.ensures }

@@ -4,12 +4,11 @@ use mathlib.Core.Path.{sym}
 use native.Mathlib.Omega.{arith}
 use lib.ListN.{length, length-map}
 use lib.Seq.{length-take-le}
-use Rattle.book.specs.Rows.{declaration_of}
 use Rattle.blocks.proofs.count_confirmed.Goals as goal
 use Rattle.blocks.proofs.count_confirmed.Goals.{Start}
 
 few : (c : Start) → length c.args.rows.now ≤ 4_096
-few c = omega (arith, c.requires.few, length-map c.args.rows.now declaration_of)
+few c = omega (arith, c.requires.few)
 
 pub slice_bounds-partner-end : goal.slice_bounds-partner-end
 slice_bounds-partner-end c = omega (arith, few (goal.at.slice_bounds-partner-end c).Start)

@@ -4,7 +4,6 @@ use Prim.Native.Nat.{◌+◌}
 use mathlib.Core.List.{◌∷◌}
 use native.Mathlib.Omega.{arith}
 use lib.ListN.{take, drop}
-use Rattle.book.specs.Rows.{trades_of}
 use Rattle.figures.proofs.Tallies.{Adding, adding_start, adding_at, adding_next, adding_fits, adding_over}
 use Rattle.figures.proofs.totals_of.Goals as goal
 use Rattle.figures.proofs.totals_of.Goals.{After-trade_at-t}
@@ -17,7 +16,7 @@ next :
     (c : After-trade_at-t)
     → let a = c.args in
     let l = c.loop-i in
-    Adding (trades_of (take a.n a.trades.now)) (c.trade_at-t.result ∷ trades_of (drop (l.i + 1) (take a.n a.trades.now))) l.shares l.money
+    Adding (take a.n a.trades.now) (c.trade_at-t.result ∷ (drop (l.i + 1) (take a.n a.trades.now))) l.shares l.money
 next c =
     let a = c.args in
     let l = c.loop-i in

@@ -2,13 +2,12 @@
 -- overflows on the way. Assumes nothing.
 use Prim.Native.Nat.{◌-◌, ◌≤◌}
 use lib.ListN.{take, drop}
-use Rattle.book.specs.Rows.{trades_of}
 use Rattle.figures.proofs.Tallies.{Adding}
 use Rattle.figures.proofs.totals_of.Given as goal
 
 abbrev pub invariant-loop-i : goal.invariant-loop-i
 invariant-loop-i l =
-    (l.i ≤ l.n) × Adding (trades_of (take l.n l.trades)) (trades_of (drop l.i (take l.n l.trades))) l.shares l.money
+    (l.i ≤ l.n) × Adding (take l.n l.trades) (drop l.i (take l.n l.trades)) l.shares l.money
 
 abbrev pub decreases-loop-i : goal.decreases-loop-i
 decreases-loop-i l = l.n - l.i

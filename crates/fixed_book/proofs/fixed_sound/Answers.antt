@@ -5,22 +5,21 @@ use mathlib.Core.Bool.{true, ◌||◌}
 use Rattle.model.specs.Lists.{all}
 use Rattle.model.specs.Arrival.{in_arrival}
 use Rattle.model.specs.Sound.{has_places, is_free, is_order_of}
-use Rattle.book.specs.Rows.{book_of}
 use Rattle.fixed_book.proofs.Readiness.{no_places, place_wrong, not_arrived, lined_so_far, resting_small, out_of_hours, rests_wrong, sums_tell}
 use Rattle.fixed_book.proofs.fixed_sound.Goals as goal
 use Rattle.fixed_book.proofs.fixed_sound.Goals.{Else-not-has_places, Else-not-is_in_arrival, Else-not-sound_places}
 
-places-pass : (c : Else-not-has_places) → has_places (book_of c.args.rows.now) ≡ true
+places-pass : (c : Else-not-has_places) → has_places c.args.rows.now ≡ true
 places-pass c = sym c.has_places.ensures ∙ c.if-not-has_places.false
 
 orders_pass :
     (c : Else-not-sound_places)
     → let a = c.args in
-    all (λ o. is_free o || is_order_of a.d a.d.fixed.issued o) (book_of a.rows.now) ≡ true
+    all (λ o. is_free o || is_order_of a.d a.d.fixed.issued o) a.rows.now ≡ true
 orders_pass c = sym c.sound_places.ensures ∙ c.if-not-sound_places.false
 
 arrival_passes :
-    (c : Else-not-is_in_arrival) → in_arrival (λ o. o.number) (book_of c.args.rows.now) ≡ true
+    (c : Else-not-is_in_arrival) → in_arrival (λ o. o.number) c.args.rows.now ≡ true
 arrival_passes c = sym c.is_in_arrival.ensures ∙ c.if-not-is_in_arrival.false
 
 pub returns-then-not-has_places : goal.returns-then-not-has_places

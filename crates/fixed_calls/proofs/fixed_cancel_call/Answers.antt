@@ -3,7 +3,6 @@ use mathlib.Core.Path.{◌≡◌, refl}
 use mathlib.Core.Bool.{false}
 use borrow.Author.Tests.{eqb-false}
 use Rattle.model.specs.Refusals.{unsound, unsound_fixed}
-use Rattle.book.specs.Rows.{book_of}
 use Rattle.soundness.proofs.Readiness as main-test
 use Rattle.fixed_book.proofs.Readiness.{fixed_ready}
 use Rattle.fixed_calls.proofs.Testing.{close_is_price, figures_fit_lem, is_unsound, not_unsound}
@@ -14,15 +13,15 @@ use Rattle.fixed_calls.proofs.fixed_cancel_call.Goals.{Else-not-fixed_sound, Els
 pub returns-then-not-is_sound : goal.returns-then-not-is_sound
 returns-then-not-is_sound c =
     let a = c.args in
-    cancel_refused_lem a.d a.account a.number (book_of a.main.now) a.rows.now
-    (main_unsound a.d a.account a.number (book_of a.main.now) a.rows.now (main-test.is_unsound _ _ c.is_sound.ensures c.if-not-is_sound.true))
+    cancel_refused_lem a.d a.account a.number a.main.now a.rows.now
+    (main_unsound a.d a.account a.number a.main.now a.rows.now (main-test.is_unsound _ _ c.is_sound.ensures c.if-not-is_sound.true))
     (eqb-false 15 0 refl)
 
 -- past a test, what it tested is sound
-main-sound : (c : Else-not-is_sound) → unsound c.args.d (book_of c.args.main.now) ≡ false
+main-sound : (c : Else-not-is_sound) → unsound c.args.d c.args.main.now ≡ false
 main-sound c = main-test.not_unsound _ _ c.is_sound.ensures c.if-not-is_sound.false
 
-book-sound : (c : Else-not-fixed_sound) → let a = c.args in unsound_fixed a.d (book_of a.rows.now) ≡ false
+book-sound : (c : Else-not-fixed_sound) → let a = c.args in unsound_fixed a.d a.rows.now ≡ false
 book-sound c = not_unsound _ _ c.fixed_sound.ensures c.if-not-fixed_sound.false
 
 pub fixed_sound-requires : goal.fixed_sound-requires
@@ -31,8 +30,8 @@ fixed_sound-requires c = record { close_value = close_is_price _ _ (main-sound c
 pub returns-then-not-fixed_sound : goal.returns-then-not-fixed_sound
 returns-then-not-fixed_sound c =
     let a = c.args in
-    cancel_refused_lem a.d a.account a.number (book_of a.main.now) a.rows.now
-    (fixed_unsound a.d a.account a.number (book_of a.main.now) a.rows.now (main-sound (goal.at.returns-then-not-fixed_sound c).Else-not-is_sound) (is_unsound _ _ c.fixed_sound.ensures c.if-not-fixed_sound.true))
+    cancel_refused_lem a.d a.account a.number a.main.now a.rows.now
+    (fixed_unsound a.d a.account a.number a.main.now a.rows.now (main-sound (goal.at.returns-then-not-fixed_sound c).Else-not-is_sound) (is_unsound _ _ c.fixed_sound.ensures c.if-not-fixed_sound.true))
     (eqb-false 15 0 refl)
 
 pub fixed_cancel_sound-requires : goal.fixed_cancel_sound-requires

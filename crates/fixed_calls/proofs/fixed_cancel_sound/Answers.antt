@@ -3,7 +3,6 @@ use mathlib.Core.Path.{◌≡◌, refl, sym, ◌∙◌}
 use mathlib.Core.Bool.{true}
 use borrow.Author.Tests.{eqb-false}
 use Rattle.model.specs.Clock.{long_hours}
-use Rattle.book.specs.Rows.{book_of}
 use Rattle.fixed_calls.proofs.Cancels.{shut, unknown, cancel_refused_lem, cancelled, leaves_tidy}
 use Rattle.fixed_calls.proofs.fixed_cancel_sound.Goals as goal
 use Rattle.fixed_calls.proofs.fixed_cancel_sound.Goals.{Else-not-long_hours}
@@ -29,7 +28,7 @@ returns-then-rows-place c main u =
 pub line_up-requires : goal.line_up-requires
 line_up-requires c =
     let a = c.args in
-    leaves_tidy a.d a.account a.number (book_of a.rows.now) a.rows.now _ c.requires.lined c.free_place.ensures c.put_order.ensures
+    leaves_tidy a.d a.account a.number a.rows.now a.rows.now _ c.requires.lined c.free_place.ensures c.put_order.ensures
 
 pub returns : goal.returns
 returns c main u =

@@ -2,13 +2,12 @@
 use mathlib.Core.Path.{refl, ◌∙◌}
 use native.Mathlib.Omega.{arith}
 use lib.ListN.{length-map}
-use Rattle.book.specs.Rows.{order_of, book_of}
 use Rattle.lookup.proofs.Piling.{piled_none, piled_on, piled_all}
 use Rattle.lookup.proofs.pile_orders.Goals as goal
 
 pub loop-i-init : goal.loop-i-init
 loop-i-init c =
-    (omega arith, refl, refl, piled_none (book_of c.args.rows.now) _ _ c.requires.tops_value (omega (arith, c.requires.rows_in_bounds, length-map c.args.rows.now order_of)))
+    (omega arith, refl, refl, piled_none c.args.rows.now _ _ c.requires.tops_value (omega (arith, c.requires.rows_in_bounds)))
 
 pub loop-i-preserved : goal.loop-i-preserved
 loop-i-preserved c =

@@ -2,12 +2,11 @@
 use Prim.Native.Nat.{◌-◌, ◌≤◌}
 use mathlib.Core.Path.{◌≡◌}
 use lib.ListN.{length}
-use Rattle.book.specs.Rows.{book_of}
 use Rattle.lookup.specs.Piles.{Piled}
 use Rattle.lookup.proofs.pile_orders.Given as goal
 
 abbrev pub invariant-loop-i : goal.invariant-loop-i
-invariant-loop-i l = (l.i ≤ length l.rows) × (length l.tops ≡ length l.initial.tops) × (length l.under ≡ length l.initial.under) × Piled (book_of l.rows) l.i l.tops l.under
+invariant-loop-i l = (l.i ≤ length l.rows) × (length l.tops ≡ length l.initial.tops) × (length l.under ≡ length l.initial.under) × Piled l.rows l.i l.tops l.under
 
 abbrev pub decreases-loop-i : goal.decreases-loop-i
 decreases-loop-i l = length l.rows - l.i

@@ -2,7 +2,6 @@
 use Prim.Native.Nat.{◌<◌}
 use native.Mathlib.Omega.{arith}
 use lib.ListN.{length-map}
-use Rattle.book.specs.Rows.{order_of, book_of}
 use Rattle.lookup.proofs.Seeking.{Sought, sought_first, sought_none, found_there, further_down}
 use Rattle.lookup.proofs.place_by.Goals as goal
 use Rattle.lookup.proofs.place_by.Goals.{After-wide-at-in-loop-at}
@@ -14,7 +13,7 @@ loop-at-init c =
 pub order_at-o-requires : goal.order_at-o-requires
 order_at-o-requires c =
     let l = c.loop-at in
-    omega (arith, l.invariant.within, c.loop-at-test.true, length-map c.args.rows.now order_of)
+    omega (arith, l.invariant.within, c.loop-at-test.true)
 
 pub returns-then-o-number : goal.returns-then-o-number
 returns-then-o-number c =
@@ -28,7 +27,7 @@ bounds-under-at c =
 further :
     (c : After-wide-at-in-loop-at)
     →
-    Sought c.args.number (book_of c.args.rows.now) c.wide-at-in-loop-at.result
+    Sought c.args.number c.args.rows.now c.wide-at-in-loop-at.result
     × (c.wide-at-in-loop-at.result < c.loop-at.at)
 further c =
     further_down _ c.args.rows.now _ c.loop-at-test.true c.loop-at.invariant _ c.order_at-o.ensures

@@ -2,7 +2,6 @@
 use Prim.Native.Nat.{◌<◌}
 use native.Mathlib.Omega.{arith}
 use lib.ListN.{length, length-map}
-use Rattle.book.specs.Rows.{declaration_of}
 use Rattle.partners.proofs.Gathering.{gathering_start, gathering_on, gathering_off, gathering_end}
 use borrow.Author.Rules.{rules}
 use Rattle.partners.proofs.gather.Goals as goal
@@ -42,4 +41,4 @@ shape_of-places c = c.loop-i.invariant.long
 
 pub returns : goal.returns
 returns c =
-    let g = c.loop-i.invariant in record { upper_bound = omega (arith, g.few, g.most, length-map c.args.rows.now declaration_of, c.requires); places_after = gathering_end _ c.args.rows.now _ _ _ _ g c.loop-i-test.false }
+    let g = c.loop-i.invariant in record { upper_bound = omega (arith, g.few, g.most, c.requires); places_after = gathering_end _ c.args.rows.now _ _ _ _ g c.loop-i-test.false }

@@ -1,14 +1,13 @@
 -- The trades put so far are the front of all.
 use mathlib.Core.Path.{◌≡◌}
 use native.Mathlib.Omega.{arith}
-use Rattle.book.specs.Rows.{trades_of}
 use Rattle.printing.proofs.Printed.{put_long}
 use Rattle.printing.proofs.Replied.{trades_start, trades_room, trades_on}
 use borrow.Author.Rules.{rules}
 use Rattle.printing.proofs.put_trades.Goals as goal
 
 pub loop-i-init : goal.loop-i-init
-loop-i-init c = (search rules, trades_start (trades_of c.args.trades.now))
+loop-i-init c = (search rules, trades_start c.args.trades.now)
 
 -- there is room for the trades that are left
 pub put_trade-p-requires : goal.put_trade-p-requires

@@ -3,13 +3,12 @@ use mathlib.Core.Path.{◌≡◌, sym, ◌∙◌}
 use mathlib.Core.Bool.{true, ◌&&◌}
 use borrow.Author.Tests.{not-true, not-false}
 use Rattle.model.specs.Sound.{has_places, fixed_fits, blocks_fit}
-use Rattle.book.specs.Rows.{book_of}
 use Rattle.soundness.specs.SoundDay.{stands_sound}
 use Rattle.soundness.proofs.Stages.{then_screen, stands_ranked, stands_close, stands_publishable}
 use Rattle.soundness.proofs.is_sound.Goals as goal
 use Rattle.soundness.proofs.is_sound.Goals.{Else-not-evening_fits, Else-not-stands_sound}
 
-stands : (c : Else-not-stands_sound) → (has_places (book_of c.args.rows.now) && stands_sound c.args.day (book_of c.args.rows.now)) ≡ true
+stands : (c : Else-not-stands_sound) → (has_places c.args.rows.now && stands_sound c.args.day c.args.rows.now) ≡ true
 stands c = sym c.stands_sound.ensures ∙ not-false _ c.if-not-stands_sound.false-raw
 
 fits : (c : Else-not-evening_fits) → let d = c.args.day in (fixed_fits d && blocks_fit d) ≡ true

@@ -9,7 +9,6 @@ use Rattle.model.specs.declared.Order.{Order}
 use Rattle.model.specs.declared.Day.{Day}
 use Rattle.model.specs.Sound.{has_places, sound_figures, is_empty, crosses, between, shares_fit, prices_fit, turnover_fits, sound_anywhere}
 use Rattle.model.specs.Halts.{runs}
-use Rattle.book.specs.Rows.{book_of}
 use Rattle.soundness.specs.SoundDay.{stands_sound}
 use Rattle.soundness.proofs.Stages.{disordered, unfitting, Seated, seated_issued, seated_ranked, still_to_pass, few_traded, resting_small, hours_by, fit_by}
 use Rattle.soundness.proofs.stands_sound.Goals as goal
@@ -19,12 +18,12 @@ abbrev the-day : Else-not-halt_fits → Day
 the-day c = c.args.day
 
 abbrev the-book : Else-not-halt_fits → List Order
-the-book c = book_of c.args.rows.now
+the-book c = c.args.rows.now
 
 abbrev the-test : Else-not-halt_fits → Bool
 the-test c = has_places (the-book c) && stands_sound (the-day c) (the-book c)
 
-places-pass : (c : Else-not-has_places) → has_places (book_of c.args.rows.now) ≡ true
+places-pass : (c : Else-not-has_places) → has_places c.args.rows.now ≡ true
 places-pass c = sym c.has_places.ensures ∙ not-false _ c.if-not-has_places.false-raw
 
 figures-pass : (c : Else-not-sound_figures) → sound_figures c.args.day ≡ true

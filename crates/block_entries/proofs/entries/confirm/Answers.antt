@@ -3,7 +3,6 @@ use mathlib.Core.Path.{ap, ◌∙◌}
 use native.Mathlib.Omega.{arith}
 use lib.ListN.{set}
 use Rattle.model.specs.declared.Trade.{Trade}
-use Rattle.book.specs.Rows.{trade_row}
 use Rattle.held.specs.Meeting.{joining}
 use Rattle.block_entries.proofs.Answers.{issued_shares, answer_confirmed}
 use Rattle.block_entries.proofs.entries.confirm.Goals as goal
@@ -15,4 +14,4 @@ tally_blocks-next-requires c =
 pub returns : goal.returns
 returns c =
     let a = c.args in
-    let trade = c.join-trade.ensures ∙ ap (joining a.x) c.declaration_at.ensures in record { value = answer_confirmed a.d a.x _ c.requires.place_value c.issued_one.ensures c.tally_blocks-next.ensures; trades_after = c.put_trade.ensures ∙ ap (λ (t : Trade). set a.trades.now 0 (trade_row t)) trade; rows_after = c.take_out.ensures }
+    let trade = c.join-trade.ensures ∙ ap (joining a.x) c.declaration_at.ensures in record { value = answer_confirmed a.d a.x _ c.requires.place_value c.issued_one.ensures c.tally_blocks-next.ensures; trades_after = c.put_trade.ensures ∙ ap (λ (t : Trade). set a.trades.now 0 t) trade; rows_after = c.take_out.ensures }

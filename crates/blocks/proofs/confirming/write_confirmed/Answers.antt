@@ -2,9 +2,7 @@
 use Prim.Native.Nat.{◌≤◌}
 use mathlib.Core.Path.{refl, ◌∙◌}
 use native.Mathlib.Omega.{arith}
-use lib.ListN.{length, length-map}
-use Rattle.book.specs.Rows.{declaration_of, held_of}
-use Rattle.declarations.proofs.Memory.{held_at}
+use lib.ListN.{length}
 use Rattle.blocks.proofs.Dealing.{dealing_start, dealing_next, dealing_counted, dealing_written, place_bounded}
 use Rattle.blocks.proofs.confirming.write_confirmed.Goals as goal
 
@@ -14,10 +12,9 @@ loop-i-init c = dealing_start _ _ _
 pub confirm_place-sofar-requires : goal.confirm_place-sofar-requires
 confirm_place-sofar-requires c =
     let rows = c.args.rows.now in
-    let long = length-map rows declaration_of in
     let q =
-    place_bounded (held_of rows) c.requires.declared c.loop-i.i (omega (arith, c.loop-i-test.true, long)) (c.declaration_at-x.ensures ∙ held_at rows _)
-    in record { made_bound = omega (arith, c.loop-i-test.true, c.loop-i.invariant.few, c.requires.declared.few, long); quantity_bound = omega (arith, q, c.loop-i-test.true, c.loop-i.invariant.bounded, c.requires.declared.few, long) }
+    place_bounded rows c.requires.declared c.loop-i.i (omega (arith, c.loop-i-test.true)) (c.declaration_at-x.ensures)
+    in record { made_bound = omega (arith, c.loop-i-test.true, c.loop-i.invariant.few, c.requires.declared.few); quantity_bound = omega (arith, q, c.loop-i-test.true, c.loop-i.invariant.bounded, c.requires.declared.few) }
 
 pub overflow_add-i : goal.overflow_add-i
 overflow_add-i c =
@@ -29,12 +26,11 @@ loop-i-smaller c = omega (arith, c.loop-i-test.true)
 pub loop-i-preserved : goal.loop-i-preserved
 loop-i-preserved c =
     let rows = c.args.rows.now in
-    let long = length-map rows declaration_of in
     let q =
-    place_bounded (held_of rows) c.requires.declared c.loop-i.i (omega (arith, c.loop-i-test.true, long)) (c.declaration_at-x.ensures ∙ held_at rows _)
+    place_bounded rows c.requires.declared c.loop-i.i (omega (arith, c.loop-i-test.true)) (c.declaration_at-x.ensures)
     in
-    dealing_next _ _ _ c.loop-i.invariant (omega (arith, c.loop-i-test.true, long)) (omega (arith, c.loop-i-test.true, c.requires.partner_len))
-    (c.declaration_at-x.ensures ∙ held_at rows _) refl q c.confirm_place-sofar.ensures
+    dealing_next _ _ _ c.loop-i.invariant (omega (arith, c.loop-i-test.true)) (omega (arith, c.loop-i-test.true, c.requires.partner_len))
+    (c.declaration_at-x.ensures) refl q c.confirm_place-sofar.ensures
 
 pub shape_of-trades : goal.shape_of-trades
 shape_of-trades c = c.loop-i.invariant.long
@@ -42,5 +38,5 @@ shape_of-trades c = c.loop-i.invariant.long
 pub returns : goal.returns
 returns c =
     let rows = c.args.rows.now in
-    let past : length (held_of rows) ≤ c.loop-i.i = omega (arith, c.loop-i-test.false, length-map rows declaration_of) in
+    let past : length rows ≤ c.loop-i.i = omega (arith, c.loop-i-test.false) in
     record { value = dealing_counted _ _ _ c.loop-i.invariant past; trades_after = dealing_written _ _ _ c.loop-i.invariant past }

@@ -1,6 +1,5 @@
 -- `byte_judge::calls::byte_claims_decide` meets its contract: set up, then claim after claim. Assumes nothing.
 use mathlib.Core.Path.{◌∙◌}
-use Rattle.book.specs.Rows.{book_of}
 use Rattle.byte_judge.specs.Claims.{claims_in}
 use Rattle.judging.proofs.Turns.{tests_told}
 use Rattle.byte_judge.proofs.calls.byte_claims_decide.Goals as goal
@@ -11,4 +10,4 @@ take_byte_claims-requires c =
 
 pub returns : goal.returns
 returns c =
-    tests_told c.args.price (book_of c.args.rows.now) (claims_in c.args.claims.now) c.requires.ranked c.set_up.ensures.slate_after c.take_byte_claims.ensures
+    tests_told c.args.price c.args.rows.now (claims_in c.args.claims.now) c.requires.ranked c.set_up.ensures.slate_after c.take_byte_claims.ensures

@@ -4,7 +4,6 @@ use mathlib.Core.Path.{ap}
 use Prim.Native.Nat.{ℕ}
 use lib.Dec.{ltb}
 use Rattle.model.specs.Entry.{entry_trades}
-use Rattle.book.specs.Rows.{book_of}
 use Rattle.checks.proofs.BookRules.{list_holds_entry, counted_trades}
 use Rattle.checks.proofs.book_checks.lacks_places.Goals as goal
 
@@ -16,4 +15,4 @@ returns-then-rows-places c =
 pub returns : goal.returns
 returns c =
     let a = c.args in
-    ap (λ (n : ℕ). ltb a.places n) (counted_trades (entry_trades a.d a.a (book_of a.rows.now)) c.enter_trades-counted.ensures.value)
+    ap (λ (n : ℕ). ltb a.places n) (counted_trades (entry_trades a.d a.a a.rows.now) c.enter_trades-counted.ensures.value)

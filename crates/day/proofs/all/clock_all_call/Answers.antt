@@ -6,7 +6,7 @@ use borrow.Author.Tests.{eqb-false, not-true, not-false}
 use Rattle.model.specs.declared.MoveAnswer.{MoveAnswer}
 use Rattle.model.specs.Sound.{has_places, sound}
 use Rattle.model.specs.Refusals.{unsound, unsound_fixed}
-use Rattle.book.specs.Rows.{book_of, books_of}
+use Rattle.book.specs.Books.{books_of}
 use Rattle.book.specs.Promises.{clock_all_left}
 use Rattle.soundness.proofs.Readiness.{is_unsound, not_unsound}
 use Rattle.evenings.proofs.MoveLaws.{move_unsound, move_refused_lem}
@@ -14,13 +14,13 @@ use Rattle.day.proofs.Alls.{close_priced, fixed_fits_lem, blocks_fit_lem, main_u
 use Rattle.day.proofs.all.clock_all_call.Goals as goal
 use Rattle.day.proofs.all.clock_all_call.Goals.{Else-not-fixed_sound, Else-not-is_sound}
 
-day_sound : (c : Else-not-is_sound) → (has_places (book_of c.args.main.now) && sound c.args.d (book_of c.args.main.now)) ≡ true
+day_sound : (c : Else-not-is_sound) → (has_places c.args.main.now && sound c.args.d c.args.main.now) ≡ true
 day_sound c = sym c.is_sound.ensures ∙ not-false _ c.if-not-is_sound.false-raw
 
-day_told : (c : Else-not-is_sound) → unsound c.args.d (book_of c.args.main.now) ≡ false
+day_told : (c : Else-not-is_sound) → unsound c.args.d c.args.main.now ≡ false
 day_told c = not_unsound c.args.d _ c.is_sound.ensures (not-false _ c.if-not-is_sound.false-raw)
 
-line-told : (c : Else-not-fixed_sound) → unsound_fixed c.args.d (book_of c.args.fixed.now) ≡ false
+line-told : (c : Else-not-fixed_sound) → unsound_fixed c.args.d c.args.fixed.now ≡ false
 line-told c = fixed_told c.args.d _ c.fixed_sound.ensures (not-false _ c.if-not-fixed_sound.false-raw)
 
 pub returns-then-not-is_sound : goal.returns-then-not-is_sound

@@ -4,7 +4,6 @@ use mathlib.Core.Bool.{true}
 use borrow.Author.Tests.{not-true, not-false}
 use Rattle.model.specs.Limits.{is_price}
 use Rattle.model.specs.Sound.{has_places}
-use Rattle.book.specs.Rows.{book_of}
 use Rattle.day.proofs.Openings.{all_unpriced, all_unmarked, all_no_book, all_no_line, all_places, all_too_few, all_enough}
 use Rattle.day.proofs.all.may_open_all.Goals as goal
 use Rattle.day.proofs.all.may_open_all.Goals.{Else-not-has_places, Else-not-has_places-2, Else-not-is_price}
@@ -13,10 +12,10 @@ use Rattle.day.proofs.all.may_open_all.Goals.{Else-not-has_places, Else-not-has_
 priced : (c : Else-not-is_price) → is_price c.args.close ≡ true
 priced c = sym c.is_price.ensures ∙ not-false _ c.if-not-is_price.false-raw
 
-booked : (c : Else-not-has_places) → has_places (book_of c.args.main.now) ≡ true
+booked : (c : Else-not-has_places) → has_places c.args.main.now ≡ true
 booked c = sym c.has_places.ensures ∙ not-false _ c.if-not-has_places.false-raw
 
-lined : (c : Else-not-has_places-2) → has_places (book_of c.args.fixed.now) ≡ true
+lined : (c : Else-not-has_places-2) → has_places c.args.fixed.now ≡ true
 lined c = sym c.has_places-2.ensures ∙ not-false _ c.if-not-has_places-2.false-raw
 
 pub returns-then-not-is_price : goal.returns-then-not-is_price

@@ -1,6 +1,5 @@
 -- `day::auctions::report_call` meets its contract: 15, or the report at the price that is left. Assumes nothing.
 use borrow.Author.Tests.{not-true, not-false}
-use Rattle.book.specs.Rows.{book_of}
 use Rattle.soundness.specs.Ready.{Ready}
 use Rattle.soundness.proofs.Readiness.{is_unsound, not_unsound, ready}
 use Rattle.moves.proofs.AuctionHeld.{price_found}
@@ -12,7 +11,7 @@ pub returns-then-not-is_sound : goal.returns-then-not-is_sound
 returns-then-not-is_sound c = report_refused _ _ (is_unsound _ _ c.is_sound.ensures (not-true _ c.if-not-is_sound.true-raw))
 
 -- past the test the day is sound
-sound : (c : Else-not-is_sound) → Ready c.args.d (book_of c.args.rows.now)
+sound : (c : Else-not-is_sound) → Ready c.args.d c.args.rows.now
 sound c = ready _ _ c.is_sound.ensures (not-false _ c.if-not-is_sound.false-raw)
 
 pub auction_price-price-requires : goal.auction_price-price-requires

@@ -3,7 +3,6 @@ use mathlib.Core.Path.{refl, ap, ◌∙◌}
 use borrow.Author.Tests.{eqb-false, not-true, not-false}
 use lib.ListN.{length}
 use Rattle.model.specs.declared.ClockAnswer.{ClockAnswer}
-use Rattle.book.specs.Rows.{book_of}
 use Rattle.book.specs.Promises.{call_left}
 use Rattle.soundness.proofs.Readiness.{is_unsound, not_unsound}
 use Rattle.moves.proofs.ClockLaws.{clock_unsound, clock_refused_lem}
@@ -14,7 +13,7 @@ returns-then-not-is_sound c =
     let s = c.args in
     let u = is_unsound _ _ c.is_sound.ensures (not-true _ c.if-not-is_sound.true-raw) in
     ap (λ (r : ClockAnswer). call_left r s.rows.now s.trades.now) c.clock_refused.ensures
-    ∙ clock_refused_lem s.d s.time s.rows.now s.trades.now (clock_unsound s.d s.time (book_of s.rows.now) (length s.trades.now) u)
+    ∙ clock_refused_lem s.d s.time s.rows.now s.trades.now (clock_unsound s.d s.time s.rows.now (length s.trades.now) u)
     (eqb-false 15 0 refl)
 
 pub clock_sound-requires : goal.clock_sound-requires

@@ -2,7 +2,6 @@
 use native.Mathlib.Omega.{arith}
 use Rattle.model.specs.declared.Event.TheVariants.{Clock}
 use Rattle.model.specs.Session.{clock_answer, event_answer, answer}
-use Rattle.book.specs.Rows.{trades_of}
 use Rattle.printing.proofs.Printed.{put_long}
 use Rattle.printing.proofs.Replied.{trades_room}
 use Rattle.desk.proofs.Answers.{on_day, clock_made, no_day_lem, no_trades_lem, clock_answered}
@@ -16,7 +15,7 @@ returns-in_default c =
     let n = c.in_default.is in
     record {
       leaves = no_day_lem s.desk s.rows.now (clock_answer s.time) _ (omega arith) n r.ensures.0 r.ensures.1;
-      list = no_trades_lem s.desk s.rows.now (Clock s.time) (trades_of s.trades.now) n;
+      list = no_trades_lem s.desk s.rows.now (Clock s.time) s.trades.now n;
     }
 
 pub clock_sound-answer-requires : goal.clock_sound-answer-requires

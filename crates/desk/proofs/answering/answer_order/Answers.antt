@@ -2,7 +2,6 @@
 use native.Mathlib.Omega.{arith}
 use Rattle.model.specs.declared.Event.TheVariants.{Order}
 use Rattle.model.specs.Session.{order_answer, event_answer, answer}
-use Rattle.book.specs.Rows.{trades_of}
 use Rattle.printing.proofs.Printed.{put_long}
 use Rattle.printing.proofs.Replied.{trades_room}
 use Rattle.desk.proofs.Answers.{on_day, order_made, no_day_lem, no_trades_lem, order_answered}
@@ -16,7 +15,7 @@ returns-in_default c =
     let n = c.in_default.is in
     record {
       leaves = no_day_lem s.desk s.rows.now (order_answer s.a) _ (omega arith) n r.ensures.0 r.ensures.1;
-      list = no_trades_lem s.desk s.rows.now (Order s.a) (trades_of s.trades.now) n;
+      list = no_trades_lem s.desk s.rows.now (Order s.a) s.trades.now n;
     }
 
 pub order_sound-answer-requires : goal.order_sound-answer-requires

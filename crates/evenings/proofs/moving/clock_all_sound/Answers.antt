@@ -7,7 +7,7 @@ use borrow.Author.Tests.{eqb-false, lt-ltb, ltb-false}
 use Rattle.model.specs.declared.MoveAnswer.{MoveAnswer}
 use Rattle.model.specs.Refusals.{first_of, unsound_books}
 use Rattle.model.specs.AllCalls.{clock_all_rules}
-use Rattle.book.specs.Rows.{book_of, held_of, books_of}
+use Rattle.book.specs.Books.{books_of}
 use Rattle.book.specs.Promises.{clock_all_left}
 use Rattle.soundness.proofs.Readiness.{ready_if}
 use Rattle.fixed_book.proofs.Readiness.{fixed_ready}
@@ -32,13 +32,13 @@ untimely c =
     (λ w. move_back a.d a.time lists (length a.trades.now) sound w.0 (lt-ltb _ _ w.1))
     c.then-time-gt-LAST_SECOND.either
 
-movable : (timely : Else-time-d) → Movable timely.args.d (book_of timely.args.main.now) (book_of timely.args.fixed.now) (held_of timely.args.blocks.now) timely.args.time
+movable : (timely : Else-time-d) → Movable timely.args.d timely.args.main.now timely.args.fixed.now timely.args.blocks.now timely.args.time
 movable timely =
     let a = timely.args in
     record {
-      ready = ready_if a.d (book_of a.main.now) timely.requires.main_value;
-      lined = (fixed_ready a.d (book_of a.main.now) (book_of a.fixed.now) timely.requires.main_value timely.requires.fixed_value).lined;
-      declared = (blocks_ready a.d (book_of a.main.now) (held_of a.blocks.now) timely.requires.main_value timely.requires.blocks_value).declared;
+      ready = ready_if a.d a.main.now timely.requires.main_value;
+      lined = (fixed_ready a.d a.main.now a.fixed.now timely.requires.main_value timely.requires.fixed_value).lined;
+      declared = (blocks_ready a.d a.main.now a.blocks.now timely.requires.main_value timely.requires.blocks_value).declared;
       onward = timely.if-time-d.false;
       time = timely.if-time-gt-LAST_SECOND.false;
     }

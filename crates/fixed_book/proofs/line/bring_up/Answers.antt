@@ -1,18 +1,16 @@
 -- Nothing stands there, it stays, or it goes.
 use mathlib.Core.Path.{sym, ◌∙◌}
-use Rattle.book.specs.Rows.{book_of}
-use Rattle.book.proofs.Memory.{book_at}
 use Rattle.fixed_book.proofs.Closing.{none_up, stays_up, goes_up}
 use Rattle.fixed_book.proofs.line.bring_up.Goals as goal
 
 pub returns-then-not-is_live : goal.returns-then-not-is_live
 returns-then-not-is_live c =
-    none_up _ _ (book_of c.args.rows.now) (c.order_at-o.ensures ∙ book_at c.args.rows.now _)
+    none_up _ _ c.args.rows.now (c.order_at-o.ensures)
     (sym c.is_live.ensures ∙ c.if-not-is_live.true)
 
 pub returns-then-from-to : goal.returns-then-from-to
 returns-then-from-to c =
-    stays_up _ _ (book_of c.args.rows.now) (c.order_at-o.ensures ∙ book_at c.args.rows.now _)
+    stays_up _ _ c.args.rows.now (c.order_at-o.ensures)
     (sym c.is_live.ensures ∙ c.if-not-is_live.false) c.if-from-to.true
 
 pub returns : goal.returns

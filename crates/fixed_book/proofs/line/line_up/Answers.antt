@@ -2,7 +2,6 @@
 use mathlib.Core.Path.{◌≡◌, sym, ap, ◌∙◌}
 use native.Mathlib.Omega.{arith}
 use lib.ListN.{length, length-map}
-use Rattle.book.specs.Rows.{order_of, book_of}
 use Rattle.model.specs.FixedBook.{lined}
 use Rattle.fixed_book.proofs.Closing.{closing_start, up_to, closing_long, closing_next, closing_end}
 use Rattle.fixed_book.proofs.line.line_up.Goals as goal
@@ -12,13 +11,13 @@ loop-i-init c = closing_start _
 
 pub bring_up-to-requires : goal.bring_up-to-requires
 bring_up-to-requires c =
-    record { from_in_bounds = omega (arith, c.loop-i-test.true); to_le_from = up_to (book_of c.args.rows.now) c.loop-i.invariant }
+    record { from_in_bounds = omega (arith, c.loop-i-test.true); to_le_from = up_to c.args.rows.now c.loop-i.invariant }
 
 pub overflow_add-i : goal.overflow_add-i
 overflow_add-i c =
     let rows₀ = c.args.rows.now in
     let long : length c.loop-i.rows ≡ length rows₀ =
-    sym (length-map c.loop-i.rows order_of) ∙ closing_long (book_of rows₀) c.loop-i.invariant ∙ length-map rows₀ order_of
+    closing_long rows₀ c.loop-i.invariant
     in
     record { fits = omega (arith, c.loop-i-test.true, c.well_formed.0.0) }
 
@@ -26,7 +25,7 @@ pub loop-i-smaller : goal.loop-i-smaller
 loop-i-smaller c =
     let rows₀ = c.args.rows.now in
     let long : length c.loop-i.rows ≡ length rows₀ =
-    sym (length-map c.loop-i.rows order_of) ∙ closing_long (book_of rows₀) c.loop-i.invariant ∙ length-map rows₀ order_of
+    closing_long rows₀ c.loop-i.invariant
     in
     omega (arith, c.loop-i-test.true)
 
@@ -34,15 +33,15 @@ pub loop-i-preserved : goal.loop-i-preserved
 loop-i-preserved c =
     let rows₀ = c.args.rows.now in
     let long : length c.loop-i.rows ≡ length rows₀ =
-    sym (length-map c.loop-i.rows order_of) ∙ closing_long (book_of rows₀) c.loop-i.invariant ∙ length-map rows₀ order_of
+    closing_long rows₀ c.loop-i.invariant
     in
-    closing_next (book_of rows₀) c.loop-i.invariant (omega (arith, c.loop-i-test.true, length-map rows₀ order_of)) c.requires c.bring_up-to.ensures
+    closing_next rows₀ c.loop-i.invariant (omega (arith, c.loop-i-test.true)) c.requires c.bring_up-to.ensures
 
 pub shape_of-rows : goal.shape_of-rows
 shape_of-rows c =
     let rows₀ = c.args.rows.now in
     let long : length c.loop-i.rows ≡ length rows₀ =
-    sym (length-map c.loop-i.rows order_of) ∙ closing_long (book_of rows₀) c.loop-i.invariant ∙ length-map rows₀ order_of
+    closing_long rows₀ c.loop-i.invariant
     in
     long
 
@@ -50,7 +49,6 @@ pub returns : goal.returns
 returns c =
     let rows₀ = c.args.rows.now in
     let long : length c.loop-i.rows ≡ length rows₀ =
-    sym (length-map c.loop-i.rows order_of) ∙ closing_long (book_of rows₀) c.loop-i.invariant ∙ length-map rows₀ order_of
+    closing_long rows₀ c.loop-i.invariant
     in
-    closing_end (book_of rows₀) c.loop-i.invariant (omega (arith, c.loop-i-test.false, length-map rows₀ order_of))
-    ∙ ap (λ n. lined n (book_of rows₀)) (length-map rows₀ order_of)
+    closing_end rows₀ c.loop-i.invariant (omega (arith, c.loop-i-test.false))

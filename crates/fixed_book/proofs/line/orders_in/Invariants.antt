@@ -3,11 +3,10 @@ use Prim.Native.Nat.{◌-◌, ◌≤◌}
 use lib.ListN.{length}
 use Rattle.model.specs.Lists.{keep}
 use Rattle.model.specs.Book.{is_live}
-use Rattle.book.specs.Rows.{book_of}
 use Rattle.fixed_book.proofs.line.orders_in.Given as goal
 
 abbrev pub invariant-loop-i : goal.invariant-loop-i
-invariant-loop-i l = l.i ≤ length (keep is_live (book_of l.rows))
+invariant-loop-i l = l.i ≤ length (keep is_live l.rows)
 
 abbrev pub decreases-loop-i : goal.decreases-loop-i
 decreases-loop-i l = length l.rows - l.i

@@ -2,14 +2,13 @@
 use mathlib.Core.Path.{refl}
 use native.Mathlib.Omega.{arith}
 use lib.ListN.{length-map}
-use Rattle.book.specs.Rows.{order_of, book_of}
 use Rattle.fixed_book.proofs.Heads.{past_some, past_next}
 use Rattle.fixed_book.proofs.walking.head_past.Goals as goal
 
 pub returns-then-q-h : goal.returns-then-q-h
 returns-then-q-h c =
-    past_some c.args.close c.args.side (book_of c.args.rows.now) c.args.h _ c.args.q c.if-q-h.true (omega (arith, c.requires.at_in_bounds, length-map c.args.rows.now order_of)) refl
+    past_some c.args.close c.args.side c.args.rows.now c.args.h _ c.args.q c.if-q-h.true (omega (arith, c.requires.at_in_bounds)) refl
 
 pub returns : goal.returns
 returns c =
-    past_next c.args.close c.args.side (book_of c.args.rows.now) c.args.h _ c.args.q c.if-q-h.false c.head_from.ensures
+    past_next c.args.close c.args.side c.args.rows.now c.args.h _ c.args.q c.if-q-h.false c.head_from.ensures

@@ -5,8 +5,6 @@ use native.Mathlib.Omega.{arith}
 use lib.ListN.{length, length-map}
 use borrow.Author.Tests.{not-true, not-false}
 use Rattle.model.specs.Blocks.{undeclared}
-use Rattle.book.specs.Rows.{declaration_of, held_of}
-use Rattle.declarations.proofs.Memory.{held_at}
 use Rattle.held.proofs.Walks.{all_fails, all_next, all_ends}
 use Rattle.held.proofs.forms.all_formed.Goals as goal
 
@@ -17,8 +15,8 @@ pub returns-then-not-is_formed : goal.returns-then-not-is_formed
 returns-then-not-is_formed c =
     let rows = c.args.rows.now in
     all_fails undeclared _ _ c.loop-i.invariant
-    (omega (arith, c.loop-i-test.true, length-map rows declaration_of))
-    (c.declaration_at.ensures ∙ held_at rows _)
+    (omega (arith, c.loop-i-test.true))
+    (c.declaration_at.ensures)
     (sym c.is_formed.ensures ∙ not-true _ c.if-not-is_formed.true-raw)
 
 pub overflow_add-i : goal.overflow_add-i
@@ -32,12 +30,12 @@ pub loop-i-preserved : goal.loop-i-preserved
 loop-i-preserved c =
     let rows = c.args.rows.now in
     all_next undeclared _ _ c.loop-i.invariant
-    (omega (arith, c.loop-i-test.true, length-map rows declaration_of))
-    (c.declaration_at.ensures ∙ held_at rows _)
+    (omega (arith, c.loop-i-test.true))
+    (c.declaration_at.ensures)
     (sym c.is_formed.ensures ∙ not-false _ c.if-not-is_formed.false-raw)
 
 pub returns : goal.returns
 returns c =
     let rows = c.args.rows.now in
-    let past : length (held_of rows) ≤ c.loop-i.i = omega (arith, c.loop-i-test.false, length-map rows declaration_of) in
+    let past : length rows ≤ c.loop-i.i = omega (arith, c.loop-i-test.false) in
     all_ends undeclared _ _ c.loop-i.invariant past

@@ -5,13 +5,12 @@ use mathlib.Core.Bool.{◌||◌}
 use lib.ListN.{length, drop}
 use Rattle.model.specs.Lists.{all}
 use Rattle.model.specs.SoundBlocks.{is_undeclared, is_declaration}
-use Rattle.book.specs.Rows.{held_of}
 use Rattle.held.proofs.forms.all_formed.Given as goal
 
 abbrev pub invariant-loop-i : goal.invariant-loop-i
 invariant-loop-i l =
-    all (λ x. is_undeclared x || is_declaration l.d x) (held_of l.rows)
-    ≡ all (λ x. is_undeclared x || is_declaration l.d x) (drop l.i (held_of l.rows))
+    all (λ x. is_undeclared x || is_declaration l.d x) l.rows
+    ≡ all (λ x. is_undeclared x || is_declaration l.d x) (drop l.i l.rows)
 
 abbrev pub decreases-loop-i : goal.decreases-loop-i
 decreases-loop-i l = length l.rows - l.i

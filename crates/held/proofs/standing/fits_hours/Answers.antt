@@ -1,8 +1,6 @@
 -- In the hours, or the first place is free and so all are.
 use mathlib.Core.Path.{sym, ap, ◌∙◌}
 use mathlib.Core.Bool.{not}
-use Rattle.book.specs.Rows.{held_of}
-use Rattle.declarations.proofs.Memory.{held_at}
 use Rattle.arrivals.proofs.Lines.{in_line}
 use Rattle.held.proofs.Holding.{number_of, first_held}
 use Rattle.held.proofs.standing.fits_hours.Goals as goal
@@ -13,5 +11,5 @@ returns-then-is_between c = rw (sym c.is_between.ensures ∙ c.if-is_between.tru
 pub returns : goal.returns
 returns c =
     let rows = c.args.rows.now in
-    let first = first_held (held_of rows) (in_line number_of _ c.requires.rows_value) (c.declaration_at.ensures ∙ held_at rows 0) in
+    let first = first_held rows (in_line number_of _ c.requires.rows_value) (c.declaration_at.ensures) in
     rw (sym c.is_between.ensures ∙ c.if-is_between.false) (ap not (c.is_held.ensures ∙ first))

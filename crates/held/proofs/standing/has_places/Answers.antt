@@ -1,15 +1,13 @@
 -- A span of the length, tested from below; there are as many places as rows.
 use mathlib.Core.Path.{refl}
-use lib.ListN.{length-map}
 use Rattle.model.specs.Sound.{has_places}
-use Rattle.book.specs.Rows.{declaration_of}
 use Rattle.limits.proofs.Spans.{too_low, from_low}
 use Rattle.held.proofs.standing.has_places.Goals as goal
 
 pub returns-then-rows-ge1 : goal.returns-then-rows-ge1
 unfolding has_places
-returns-then-rows-ge1 c = rw (length-map c.args.rows.now declaration_of) (from_low _ _ _ c.if-rows-ge1.true refl)
+returns-then-rows-ge1 c = from_low _ _ _ c.if-rows-ge1.true refl
 
 pub returns-else-rows-ge1 : goal.returns-else-rows-ge1
 unfolding has_places
-returns-else-rows-ge1 c = rw (length-map c.args.rows.now declaration_of) (too_low _ _ _ c.if-rows-ge1.false)
+returns-else-rows-ge1 c = too_low _ _ _ c.if-rows-ge1.false

@@ -4,8 +4,6 @@ use native.Mathlib.Omega.{arith}
 use lib.ListN.{length-map}
 use borrow.Author.Tests.{not-true, not-false}
 use Rattle.model.specs.Blocks.{undeclared}
-use Rattle.book.specs.Rows.{declaration_of}
-use Rattle.declarations.proofs.Memory.{held_at}
 use Rattle.held.proofs.Walks.{arrived_start, arrived_fails, arrived_next, arrived_ends}
 use Rattle.held.proofs.standing.is_in_arrival.Goals as goal
 
@@ -25,9 +23,9 @@ pub returns-then-not-may_arrive : goal.returns-then-not-may_arrive
 returns-then-not-may_arrive c =
     let rows = c.args.rows.now in
     arrived_fails undeclared _ _ c.loop-i.invariant
-    (omega (arith, c.loop-i-test.true, length-map rows declaration_of))
-    (c.declaration_at.ensures ∙ held_at rows _)
-    (c.declaration_at-in-loop-i.ensures ∙ held_at rows _) c.may_arrive.ensures (not-true _ c.if-not-may_arrive.true-raw)
+    (omega (arith, c.loop-i-test.true))
+    (c.declaration_at.ensures)
+    (c.declaration_at-in-loop-i.ensures) c.may_arrive.ensures (not-true _ c.if-not-may_arrive.true-raw)
 
 pub overflow_add-i : goal.overflow_add-i
 overflow_add-i c =
@@ -40,11 +38,11 @@ pub loop-i-preserved : goal.loop-i-preserved
 loop-i-preserved c =
     let rows = c.args.rows.now in
     arrived_next undeclared _ _ c.loop-i.invariant
-    (omega (arith, c.loop-i-test.true, length-map rows declaration_of))
-    (c.declaration_at.ensures ∙ held_at rows _)
-    (c.declaration_at-in-loop-i.ensures ∙ held_at rows _) c.may_arrive.ensures (not-false _ c.if-not-may_arrive.false-raw)
+    (omega (arith, c.loop-i-test.true))
+    (c.declaration_at.ensures)
+    (c.declaration_at-in-loop-i.ensures) c.may_arrive.ensures (not-false _ c.if-not-may_arrive.false-raw)
 
 pub returns : goal.returns
 returns c =
     let rows = c.args.rows.now in
-    arrived_ends undeclared _ _ c.loop-i.invariant (omega (arith, c.loop-i-test.false, length-map rows declaration_of))
+    arrived_ends undeclared _ _ c.loop-i.invariant (omega (arith, c.loop-i-test.false))

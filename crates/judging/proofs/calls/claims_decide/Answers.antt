@@ -1,7 +1,5 @@
 -- `judging::calls::claims_decide` meets its contract: set up, then claim after claim. Assumes nothing.
 use mathlib.Core.Path.{◌∙◌}
-use Rattle.book.specs.Rows.{book_of}
-use Rattle.judge.specs.Promises.{claims_of}
 use Rattle.judging.proofs.Turns.{tests_told}
 use Rattle.judging.proofs.calls.claims_decide.Goals as goal
 
@@ -11,4 +9,4 @@ take_claims-requires c =
 
 pub returns : goal.returns
 returns c =
-    tests_told c.args.price (book_of c.args.rows.now) (claims_of c.args.claims.now) c.requires.ranked c.set_up.ensures.slate_after c.take_claims.ensures
+    tests_told c.args.price c.args.rows.now c.args.claims.now c.requires.ranked c.set_up.ensures.slate_after c.take_claims.ensures

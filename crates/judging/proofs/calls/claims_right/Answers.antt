@@ -4,13 +4,12 @@ use mathlib.Core.Path.{sym}
 use native.Mathlib.Omega.{arith}
 use lib.ListN.{length, length-map}
 use lib.Seq.{length-take-le}
-use Rattle.book.specs.Rows.{order_of}
 use Rattle.lookup.proofs.Piling.{none_length}
 use Rattle.judging.proofs.calls.claims_right.Goals as goal
 use Rattle.judging.proofs.calls.claims_right.Goals.{Start}
 
 few : (c : Start) → length c.args.rows.now ≤ 4_096
-few c = omega (arith, c.requires.few, length-map c.args.rows.now order_of)
+few c = omega (arith, c.requires.few)
 
 pub slice_bounds-slate-end : goal.slice_bounds-slate-end
 slice_bounds-slate-end c = omega (arith, few (goal.at.slice_bounds-slate-end c).Start)

@@ -2,13 +2,11 @@
 use mathlib.Core.Path.{sym, ◌∙◌}
 use native.Mathlib.Omega.{arith}
 use lib.ListN.{length-map}
-use Rattle.book.specs.Rows.{order_of, book_of}
-use Rattle.judge.specs.Promises.{claim_of, claims_of}
 use Rattle.judging.proofs.Turns.{turned_none, turned_no, turned_more, turned_all, claim_next}
 use Rattle.judging.proofs.claims.take_claims.Goals as goal
 
 pub loop-i-init : goal.loop-i-init
-loop-i-init c = (omega arith, turned_none (book_of c.args.rows.now) (claims_of c.args.claims.now) c.args.slate.now)
+loop-i-init c = (omega arith, turned_none c.args.rows.now c.args.claims.now c.args.slate.now)
 
 pub take_claim-requires : goal.take_claim-requires
 take_claim-requires c =
@@ -20,14 +18,14 @@ shape_of-slate-then-not-take_claim c = c.take_claim.ensures.long ∙ c.loop-i.in
 pub returns-then-not-take_claim : goal.returns-then-not-take_claim
 returns-then-not-take_claim c =
     let a = c.args in
-    turned_no (book_of a.rows.now) (claims_of a.claims.now) a.slate.now _ _ c.loop-i.invariant.1 c.take_claim.ensures
+    turned_no a.rows.now a.claims.now a.slate.now _ _ c.loop-i.invariant.1 c.take_claim.ensures
     (claim_next a.claims.now _ c.loop-i-test.true c.claim_at-c.ensures) c.if-not-take_claim.true-raw
 
 pub loop-i-preserved : goal.loop-i-preserved
 loop-i-preserved c =
     let a = c.args in (
       omega (arith, c.loop-i-test.true),
-      turned_more (book_of a.rows.now) (claims_of a.claims.now) a.slate.now _ _ c.loop-i.invariant.1 c.take_claim.ensures
+      turned_more a.rows.now a.claims.now a.slate.now _ _ c.loop-i.invariant.1 c.take_claim.ensures
           (claim_next a.claims.now _ c.loop-i-test.true c.claim_at-c.ensures) c.if-not-take_claim.false-raw,
     )
 
@@ -36,6 +34,6 @@ shape_of-slate c = c.loop-i.invariant.1.long
 
 pub returns : goal.returns
 returns c =
-    turned_all (book_of c.args.rows.now) (claims_of c.args.claims.now) c.args.slate.now _ _ c.loop-i.invariant.1
-    (c.requires.slate_len ∙ sym (length-map c.args.rows.now order_of))
-    (omega (arith, length-map c.args.claims.now claim_of, c.loop-i-test.false)) c.all_filled.ensures
+    turned_all c.args.rows.now c.args.claims.now c.args.slate.now _ _ c.loop-i.invariant.1
+    (c.requires.slate_len)
+    (omega (arith, c.loop-i-test.false)) c.all_filled.ensures

@@ -2,14 +2,13 @@
 use Prim.Native.Nat.{◌-◌}
 use mathlib.Core.Path.{◌≡◌}
 use lib.ListN.{length}
-use Rattle.book.specs.Rows.{book_of}
 use Rattle.judging.specs.Slates.{grants_by}
 use Rattle.judging.proofs.Granting.{Granted}
 use Rattle.judging.proofs.grants.grant_rows.Given as goal
 
 abbrev pub invariant-loop-i : goal.invariant-loop-i
 invariant-loop-i l =
-    (length l.slate ≡ length l.initial.slate) × Granted l.rows (grants_by (record { buys = l.shares; sells = l.shares }) (book_of l.rows)) l.slate l.v l.i
+    (length l.slate ≡ length l.initial.slate) × Granted l.rows (grants_by (record { buys = l.shares; sells = l.shares }) l.rows) l.slate l.v l.i
 
 abbrev pub decreases-loop-i : goal.decreases-loop-i
 decreases-loop-i l = length l.rows - l.i

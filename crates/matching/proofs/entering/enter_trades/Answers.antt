@@ -1,13 +1,12 @@
 -- No trade outside continuous trading or without a price; else one sweep.
 use mathlib.Core.Path.{refl}
-use Rattle.book.specs.Rows.{book_of}
 use Rattle.matching.proofs.Entries.{outside, unpriced, entered}
 use Rattle.matching.proofs.entering.enter_trades.Goals as goal
 
 pub returns-then-phase-ne-CONTINUOUS : goal.returns-then-phase-ne-CONTINUOUS
 returns-then-phase-ne-CONTINUOUS c =
     let e =
-    outside c.args.d c.args.a (book_of c.args.rows.now) _ c.requires.phase_value _ c.args.trades.now c.if-phase-ne-CONTINUOUS.true c.nothing_yet.ensures in
+    outside c.args.d c.args.a c.args.rows.now _ c.requires.phase_value _ c.args.trades.now c.if-phase-ne-CONTINUOUS.true c.nothing_yet.ensures in
     record { value = e.0; trades_after = e.1 }
 
 pub returns-then-price-eq0 : goal.returns-then-price-eq0

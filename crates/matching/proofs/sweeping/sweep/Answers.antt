@@ -6,7 +6,6 @@ use mathlib.Core.List.{List, [], ◌∷◌}
 use native.Mathlib.Omega.{arith}
 use Rattle.model.specs.Book.{queue}
 use Rattle.model.specs.declared.Order.{Order}
-use Rattle.book.specs.Rows.{book_of, trade_rows}
 use Rattle.book.specs.Writing.{fitted}
 use Rattle.matching.specs.declared.Swept.{Swept}
 use Rattle.matching.specs.Sweeping.{wants, swept, comes_to}
@@ -16,6 +15,7 @@ use Rattle.book.proofs.Lines.{line_end, line_cons, line_length}
 use Rattle.matching.proofs.Sweeps.{against, coming, Same, here, then, nobody, no_price, spent_new, price_opens, spent_same, trade_made, one_more, first_price_lem, outcome, no_next, next_new, price_last, trade_last, fewer}
 use Rattle.matching.proofs.sweeping.sweep.Goals as goal
 use Rattle.matching.proofs.sweeping.sweep.Goals.{After-order_at-best, After-order_at-order, After-places_of-line, At-orders, At-prices}
+use Rattle.model.specs.declared.Trade.{Trade}
 
 -- the whole line is the other side's queue
 all_of :
@@ -23,7 +23,7 @@ all_of :
     → line l.places_of-line.result.from l.places_of-line.result.to l.args.rows.now
     ≡ against l.args.t l.args.rows.now
 all_of l =
-    l.places_of-line.ensures.orders ∙ ap (λ n. queue n (book_of l.args.rows.now)) l.other_side.ensures
+    l.places_of-line.ensures.orders ∙ ap (λ n. queue n l.args.rows.now) l.other_side.ensures
 
 -- the first order of a price, and each that follows
 first_of_lem :
@@ -59,17 +59,17 @@ so_far o =
 
 -- and where no trade is to come
 ended :
-    (p : At-prices) {s : Swept} {left : ℕ} {os : List Order} {out : List (List ℕ)}
+    (p : At-prices) {s : Swept} {left : ℕ} {os : List Order} {out : List Trade}
     → Same p.args.t p.args.most p.nothing_yet-s.result p.args.quantity
     (line p.places_of-line.result.from p.places_of-line.result.to p.args.rows.now) p.args.trades.now
     s left os out
     → coming p.args.t p.args.most s left os ≡ []
     → (s ≡ comes_to (swept p.args.t p.args.most p.args.quantity p.args.rows.now))
-    × (out ≡ fitted (trade_rows (swept p.args.t p.args.most p.args.quantity p.args.rows.now)) p.args.trades.now)
+    × (out ≡ fitted (swept p.args.t p.args.most p.args.quantity p.args.rows.now) p.args.trades.now)
 ended p =
     let a = p.args in
     outcome a.t a.most a.quantity a.rows.now a.trades.now p.requires.stands p.nothing_yet-s.ensures
-    (p.places_of-line.ensures.orders ∙ ap (λ n. queue n (book_of a.rows.now)) p.other_side.ensures)
+    (p.places_of-line.ensures.orders ∙ ap (λ n. queue n a.rows.now) p.other_side.ensures)
 
 pub places_of-line-requires : goal.places_of-line-requires
 places_of-line-requires c =

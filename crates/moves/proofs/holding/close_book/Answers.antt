@@ -4,18 +4,17 @@ use mathlib.Core.Path.{◌≡◌}
 use native.Mathlib.Omega.{arith}
 use lib.ListN.{length}
 use Rattle.model.specs.ClockCall.{auction_trades}
-use Rattle.book.specs.Rows.{book_of}
 use Rattle.book.specs.Standing.{Ranked}
 use Rattle.moves.proofs.AuctionHeld.{made_of, start_ranked, held_fits, closed}
 use Rattle.moves.proofs.holding.close_book.Goals as goal
 use Rattle.moves.proofs.holding.close_book.Goals.{After-auction_trades-dealt, Start}
 
-in_order : (s : Start) → Ranked (book_of s.args.rows.now)
+in_order : (s : Start) → Ranked s.args.rows.now
 in_order s = start_ranked s.args.d s.args.rows.now s.args.trades.now s.requires.rows_in_bounds s.requires.underway
 
 -- as many as the auction has
-made : (e : After-auction_trades-dealt) → e.auction_trades-dealt.result.made ≡ length (auction_trades e.args.d (book_of e.args.rows.now))
-made e = made_of e.args.d (book_of e.args.rows.now) e.auction_trades-dealt.ensures.value
+made : (e : After-auction_trades-dealt) → e.auction_trades-dealt.result.made ≡ length (auction_trades e.args.d e.args.rows.now)
+made e = made_of e.args.d e.args.rows.now e.auction_trades-dealt.ensures.value
 
 pub auction_trades-dealt-requires : goal.auction_trades-dealt-requires
 auction_trades-dealt-requires c = in_order (goal.at.auction_trades-dealt-requires c).Start

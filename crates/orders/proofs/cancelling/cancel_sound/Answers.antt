@@ -6,7 +6,6 @@ use Rattle.model.specs.declared.CancelAnswer.{CancelAnswer}
 use Rattle.model.specs.Clock.{takes_cancels}
 use Rattle.model.specs.Refusals.{first_of}
 use Rattle.model.specs.Calls.{cancel_rules}
-use Rattle.book.specs.Rows.{book_of}
 use Rattle.book.specs.Standing.{Ranked}
 use Rattle.book.specs.Promises.{cancel_left}
 use Rattle.soundness.proofs.EveningClauses.{publishable}
@@ -16,8 +15,8 @@ use Rattle.orders.proofs.cancelling.cancel_sound.Goals as goal
 use Rattle.orders.proofs.cancelling.cancel_sound.Goals.{After-place_of-place, Else-rows-place, Start}
 
 -- the book stands in order
-in_order : (c : Start) → Ranked (book_of c.args.rows.now)
-in_order c = (ready_if c.args.d (book_of c.args.rows.now) c.requires).ranked
+in_order : (c : Start) → Ranked c.args.rows.now
+in_order c = (ready_if c.args.d c.args.rows.now c.requires).ranked
 
 pub returns-then-not-takes_cancels : goal.returns-then-not-takes_cancels
 returns-then-not-takes_cancels c =
@@ -39,7 +38,7 @@ returns-then-rows-place c =
     (eqb-false 12 0 refl)
 
 -- past the second no rule holds
-none : (c : Else-rows-place) → 0 ≡ first_of (cancel_rules c.args.d c.args.account c.args.number (book_of c.args.rows.now))
+none : (c : Else-rows-place) → 0 ≡ first_of (cancel_rules c.args.d c.args.account c.args.number c.args.rows.now)
 none c =
     let a = c.args in
     cancel_none a.d a.account a.number a.rows.now c.requires (sym c.takes_cancels.ensures ∙ c.if-not-takes_cancels.false) c.place_of-place.ensures c.if-rows-place.false
@@ -54,7 +53,7 @@ take_out-requires c =
 pub day_without-requires : goal.day_without-requires
 day_without-requires c =
     let a = c.args in
-    let r = ready_if a.d (book_of a.rows.now) c.requires in record { ranked = cancel_ranked a.d a.account a.number a.rows.now (none (goal.at.day_without-requires c).Else-rows-place) refl c.place_of-place.ensures c.take_out.new.rows (in_order (goal.at.day_without-requires c).Start) c.take_out.ensures; publishable = publishable a.d (book_of a.rows.now) r.sound r.evening }
+    let r = ready_if a.d a.rows.now c.requires in record { ranked = cancel_ranked a.d a.account a.number a.rows.now (none (goal.at.day_without-requires c).Else-rows-place) refl c.place_of-place.ensures c.take_out.new.rows (in_order (goal.at.day_without-requires c).Start) c.take_out.ensures; publishable = publishable a.d a.rows.now r.sound r.evening }
 
 pub returns : goal.returns
 returns c =

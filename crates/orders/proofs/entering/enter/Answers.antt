@@ -4,7 +4,6 @@ use native.Mathlib.Omega.{arith}
 use Prim.Native.Nat.{◌+◌, ◌<◌, ◌^◌}
 use mathlib.Core.Path.{◌≡◌}
 use Rattle.model.specs.Book.{best, other}
-use Rattle.book.specs.Rows.{book_of}
 use Rattle.matching.specs.Entering.{rest_at}
 use Rattle.orders.proofs.Entered.{rest_found, filled_fits, count_fits, room_for, then_publishable, then_ranked, then_joins, left_ranked, entered_is}
 use Rattle.orders.proofs.entering.enter.Goals as goal
@@ -17,8 +16,8 @@ numbers e = omega (arith, e.requires.taken.number)
 rest :
     (p : After-price_of_rest-p) →
     p.price_of_rest-p.result
-    ≡ rest_at p.args.a (best p.args.a.side (book_of p.args.rows.now)) (best (other p.args.a.side) (book_of p.args.rows.now)) p.enter_trades-s.result.filled p.enter_trades-s.result.last
-rest p = rest_found p.args.a (book_of p.args.rows.now) _ _ p.requires.own_value p.requires.other_value p.price_of_rest-p.ensures
+    ≡ rest_at p.args.a (best p.args.a.side p.args.rows.now) (best (other p.args.a.side) p.args.rows.now) p.enter_trades-s.result.filled p.enter_trades-s.result.last
+rest p = rest_found p.args.a p.args.rows.now _ _ p.requires.own_value p.requires.other_value p.price_of_rest-p.ensures
 
 pub enter_trades-s-requires : goal.enter_trades-s-requires
 enter_trades-s-requires c =

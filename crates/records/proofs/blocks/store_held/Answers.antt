@@ -5,7 +5,7 @@ use Rattle.records.proofs.Rows.{emptying_start, emptying_next, emptying_end}
 use Rattle.records.proofs.blocks.store_held.Goals as goal
 
 pub loop-i-init : goal.loop-i-init
-loop-i-init c = emptying_start _ _ _ _ _
+loop-i-init c = emptying_start _ _ _ _
 
 pub loop-i-preserved : goal.loop-i-preserved
 loop-i-preserved c =
@@ -14,4 +14,4 @@ loop-i-preserved c =
     c.put_declaration_bytes.ensures
 
 pub returns : goal.returns
-returns c = held_put _ c.args.rows.now _ c.requires (emptying_end _ _ _ _ _ c.loop-i.invariant c.loop-i-test.false)
+returns c = held_put _ c.args.rows.now _ c.requires (emptying_end _ _ _ _ c.loop-i.invariant c.loop-i-test.false)

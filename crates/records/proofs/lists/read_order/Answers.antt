@@ -1,6 +1,6 @@
 -- `records::lists::read_order` meets its contract: the five numbers that were read, by name. Assumes nothing.
 use mathlib.Core.Path.{ap}
-use Rattle.book.specs.Rows.{order_of}
+use Rattle.records.specs.Layout.{order_of}
 use Rattle.records.proofs.lists.read_order.Goals as goal
 
 pub returns : goal.returns

@@ -1,6 +1,5 @@
 -- Place by place: what is summed and what is left to sum make the whole, which is small enough.
 use native.Mathlib.Omega.{arith}
-use Rattle.book.specs.Rows.{book_of}
 use Rattle.soundness.proofs.Totals.{sum_none, sum_small, sum_more, sum_all, shares_within}
 use Rattle.soundness.proofs.places.shares_left.Goals as goal
 
@@ -11,7 +10,7 @@ pub overflow_add-sum : goal.overflow_add-sum
 overflow_add-sum c =
     let rows = c.args.rows.now in
     omega
-    (arith, sum_small rows c.loop-i.sum c.loop-i.i c.loop-i.invariant c.order_at-o.result c.loop-i-test.true c.order_at-o.ensures, shares_within (book_of rows) c.requires.stands.fair c.requires.few)
+    (arith, sum_small rows c.loop-i.sum c.loop-i.i c.loop-i.invariant c.order_at-o.result c.loop-i-test.true c.order_at-o.ensures, shares_within rows c.requires.stands.fair c.requires.few)
 
 pub loop-i-preserved : goal.loop-i-preserved
 loop-i-preserved c =
