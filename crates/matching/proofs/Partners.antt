@@ -1,11 +1,11 @@
 -- Which side a taker meets, whether it trades with an order, and the trade with it.
-use Prim.Native.Nat.{ℕ, ◌-◌, ◌≤◌, ◌<◌, min}
+use Prim.Native.Nat.{ℕ, ◌-◌, ◌≤◌, min}
 use mathlib.Core.Path.{◌≡◌, refl, ap, ◌∙◌}
 use mathlib.Core.Bool.{Bool, true, false, cond, ◌&&◌}
 use mathlib.Core.List.{List, [], ◌∷◌}
 use native.Mathlib.Omega.{arith}
 use lib.Dec.{ltb, eqb}
-use borrow.Author.Tests.{eq-eqb, ne_eqb, lt-ltb, le-ltb}
+use borrow.Author.Tests.{le-ltb}
 use Rattle.model.specs.declared.Order.{Order}
 use Rattle.model.specs.declared.Trade.{Trade}
 use Rattle.model.specs.declared.Taker.{Taker}
@@ -34,12 +34,6 @@ unfolding wants
 wants_nothing t q p e =
     let l : q ≤ 0 = omega arith in
     rw (le-ltb 0 q l)
-
-pub wants_by_limit : (t : Taker) (q p : ℕ) → (q ≡ 0 → ⊥) → wants t q p ≡ allows t p
-unfolding wants
-wants_by_limit t q p n =
-    let l : 0 < q = omega arith in
-    rw (lt-ltb 0 q l)
 
 -- a trade is for some shares, at a price that the limit allows
 pub wants_allows : (t : Taker) (q p : ℕ) → wants t q p ≡ true → allows t p ≡ true
@@ -80,40 +74,6 @@ sweep_spent t (o ∷ os) = sweep_none t 0 o os (wants_nothing t 0 o.price refl)
 -- ---- the trade
 
 module _ (t : Taker) (q : ℕ) (o : Order) where
-  pub trade_buy :
-      (n : ℕ)
-      → n ≡ min q o.left
-      → t.side ≡ 0
-      → ◌≡◌ {A = Trade}
-      (record {
-        price = o.price;
-        quantity = n;
-        buyer = t.number;
-        seller = o.number;
-        buyerleft = q - n;
-        sellerleft = o.left - n;
-      })
-      (trade_with t q o)
-  unfolding trade_with
-  trade_buy n e s = rw (eq-eqb t.side 0 s, e)
-
-  pub trade_sell :
-      (n : ℕ)
-      → n ≡ min q o.left
-      → (t.side ≡ 0 → ⊥)
-      → ◌≡◌ {A = Trade}
-      (record {
-        price = o.price;
-        quantity = n;
-        buyer = o.number;
-        seller = t.number;
-        buyerleft = o.left - n;
-        sellerleft = q - n;
-      })
-      (trade_with t q o)
-  unfolding trade_with
-  trade_sell n e s = rw (ne_eqb t.side 0 s, e)
-
   -- it takes no more than what is left
   pub trade_takes : (r : Trade) → r ≡ trade_with t q o → r.quantity ≤ q
   unfolding trade_with

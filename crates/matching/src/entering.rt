@@ -18,56 +18,56 @@ use model::{Asked, CONTINUOUS, Day, Order, Taker, Trade};
 const MOST_PRICES: u64 = 4_096;
 
 // The price itself, or the limit where the price is beyond it.
+#[tactic(auto, unfolding(model::specs::Matching::within))]
 pub fn within(side: u64, limit: u64, price: u64) -> u64
     ensures { result ≡ matching.within side limit price }
 {
     if side == 0 {
-        if price < limit { price } else { limit }
+        price.min(limit)
     } else {
-        if limit < price { price } else { limit }
+        price.max(limit)
     }
 }
 
 // A best price within the order's limit, 0 where the side is empty.
+#[tactic(auto, unfolding(crate::specs::Entering::best_for))]
 pub fn best_for(a: Asked, best: u64) -> u64
     ensures { result ≡ best_for a best }
 {
     if best == 0 {
-        return 0;
+        0
+    } else {
+        within(a.side, a.price, best)
     }
-    within(a.side, a.price, best)
 }
 
 // The price at which an order enters, 0 where it has none: from the best prices of its own side and of the other side.
+#[tactic(auto, unfolding(crate::specs::Entering::entry_at))]
 fn entry_price(a: Asked, own: u64, other: u64) -> u64
     ensures { result ≡ entry_at a own other }
 {
-    if a.kind == 1 {
-        return best_for(a, other);
+    match a.kind {
+        1 => best_for(a, other),
+        2 => best_for(a, own),
+        _ => a.price,
     }
-    if a.kind == 2 {
-        return best_for(a, own);
-    }
-    a.price
 }
 
 // The price at which what is left of it rests, 0 where it is withdrawn. The best prices are those on entry.
+#[tactic(auto, unfolding(crate::specs::Entering::rest_at))]
 pub fn price_of_rest(a: Asked, own: u64, other: u64, s: Swept) -> u64
     ensures { result ≡ rest_at a own other s.filled s.last }
 {
-    if a.kind == 3 {
-        return 0;
+    match a.kind {
+        3 => 0,
+        4 if s.filled == 0 => best_for(a, own),
+        4 => s.last,
+        _ => entry_price(a, own, other),
     }
-    if a.kind == 4 {
-        if s.filled == 0 {
-            return best_for(a, own);
-        }
-        return s.last;
-    }
-    entry_price(a, own, other)
 }
 
 // How many of the best prices a kind may trade at.
+#[tactic(auto, unfolding(crate::specs::Entering::most_prices))]
 fn most_prices(kind: u64) -> u64
     ensures { result ≡ most_prices kind }
 {
@@ -105,5 +105,5 @@ pub fn enter_trades(
         number: d.issued + 1,
         limit: price,
     };
-    sweep(rows, &mut *trades, t, a.quantity, most_prices(a.kind))
+    sweep(rows, trades, t, a.quantity, most_prices(a.kind))
 }

@@ -17,8 +17,8 @@ pub fn settle_entry(rows: &mut [Order], side: u64, shares: u64)
     ensures rows_after_2 { (ts : List Trade) → SweptBy side ts rows.old → filled ts ≡ shares → rows.new ≡ arranged (length rows.old) (settle ts rows.old) }
 {
     if side == 0 {
-        off_sells(&mut *rows, shares);
+        off_sells(rows, shares);
     } else {
-        off_buys(&mut *rows, shares);
+        off_buys(rows, shares);
     }
 }

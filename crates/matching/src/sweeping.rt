@@ -8,10 +8,11 @@ ghost use Rattle.matching.specs.Sweeping as sweeping;
 ghost use Rattle.matching.specs.Sweeping.{swept, comes_to, one_price, one_trade};
 
 use crate::Swept;
+use book::put_trade;
 use book::seats::places_of;
-use book::{order_at, put_trade, smaller};
 use model::{Order, Taker, Trade};
 
+#[tactic(auto, unfolding(model::specs::Book::other))]
 pub fn other_side(side: u64) -> u64
     ensures { result ≡ other side }
 {
@@ -19,6 +20,7 @@ pub fn other_side(side: u64) -> u64
 }
 
 // A price that a buy with this limit may pay, or a sell take.
+#[tactic(auto, unfolding(model::specs::Matching::meets))]
 pub fn meets(side: u64, limit: u64, price: u64) -> bool
     ensures { result ≡ matching.meets side limit price }
 {
@@ -30,20 +32,19 @@ pub fn meets(side: u64, limit: u64, price: u64) -> bool
 }
 
 // A taker that wants `left` more trades at this price.
+#[tactic(auto, unfolding(crate::specs::Sweeping::wants))]
 fn wants(t: Taker, left: u64, price: u64) -> bool
     ensures { result ≡ sweeping.wants t left price }
 {
-    if left == 0 {
-        return false;
-    }
-    meets(t.side, t.limit, price)
+    0 < left && meets(t.side, t.limit, price)
 }
 
 // The trade with a partner, at the partner's price, and what it leaves of both.
+#[tactic(auto, unfolding(model::specs::Matching::trade_with))]
 fn trade_with(t: Taker, left: u64, o: Order) -> Trade
     ensures { result ≡ matching.trade_with t left o }
 {
-    let quantity = smaller(left, o.left);
+    let quantity = left.min(o.left);
     let wanted = left - quantity;
     let rest = o.left - quantity;
     if t.side == 0 {
@@ -68,6 +69,7 @@ fn trade_with(t: Taker, left: u64, o: Order) -> Trade
 }
 
 // Before the first trade.
+#[tactic(auto, using(crate::proofs::Tallies::nothing_yet))]
 pub fn nothing_yet() -> Swept
     ensures { result ≡ comes_to [] }
 {
@@ -80,19 +82,20 @@ pub fn nothing_yet() -> Swept
 }
 
 // One price more.
+#[tactic(auto, unfolding(crate::specs::Sweeping::one_price))]
 fn with_price(s: Swept, price: u64) -> Swept
     requires { s.levels + 1 < 2 ^ 64 }
     ensures { result ≡ one_price s price }
 {
     Swept {
-        trades: s.trades,
-        filled: s.filled,
         levels: s.levels + 1,
         last: price,
+        ..s
     }
 }
 
 // One trade more, at the last price.
+#[tactic(auto, unfolding(crate::specs::Sweeping::one_trade))]
 fn with_trade(s: Swept, t: Trade) -> Swept
     requires trades_bound { s.trades + 1 < 2 ^ 64 }
     requires quantity_bound { s.filled + t.quantity < 2 ^ 64 }
@@ -101,8 +104,7 @@ fn with_trade(s: Swept, t: Trade) -> Swept
     Swept {
         trades: s.trades + 1,
         filled: s.filled + t.quantity,
-        levels: s.levels,
-        last: s.last,
+        ..s
     }
 }
 
@@ -118,17 +120,13 @@ pub fn sweep(rows: &[Order], trades: &mut [Trade], t: Taker, quantity: u64, most
     let mut left = quantity;
     let mut s = nothing_yet();
     'prices: while at < end {
-        let best = order_at(rows, at);
-        let price = best.price;
-        if most <= s.levels {
-            break 'prices;
-        }
-        if !wants(t, left, price) {
+        let price = rows[at].price;
+        if most <= s.levels || !wants(t, left, price) {
             break 'prices;
         }
         s = with_price(s, price);
         'orders: while at < end {
-            let order = order_at(rows, at);
+            let order = rows[at];
             if order.price != price {
                 break 'orders;
             }
@@ -136,7 +134,7 @@ pub fn sweep(rows: &[Order], trades: &mut [Trade], t: Taker, quantity: u64, most
                 break 'prices;
             }
             let trade = trade_with(t, left, order);
-            put_trade(&mut *trades, s.trades, trade);
+            put_trade(trades, s.trades, trade);
             s = with_trade(s, trade);
             left -= trade.quantity;
             at += 1;

@@ -1,10 +1,11 @@
 -- At every turn of either loop the trades made since the loop began, with those still to come, are those that were to come
 -- then (`Same`); between two prices the next order begins another one.
-use Prim.Native.Nat.{ℕ, ◌+◌}
+use Prim.Native.Nat.{ℕ, ◌+◌, ◌≤◌, ◌<◌}
+use lib.ListN.{length, get_or}
 use mathlib.Core.Path.{◌≡◌, refl, sym, ap, ◌∙◌}
 use mathlib.Core.List.{List, [], ◌∷◌}
 use native.Mathlib.Omega.{arith}
-use Rattle.model.specs.Book.{queue}
+use Rattle.model.specs.Book.{free, queue}
 use Rattle.model.specs.declared.Order.{Order}
 use Rattle.book.specs.Writing.{fitted}
 use Rattle.matching.specs.declared.Swept.{Swept}
@@ -14,8 +15,9 @@ use Rattle.book.specs.Lines.{line}
 use Rattle.book.proofs.Lines.{line_end, line_cons, line_length}
 use Rattle.matching.proofs.Sweeps.{against, coming, Same, here, then, nobody, no_price, spent_new, price_opens, spent_same, trade_made, one_more, first_price_lem, outcome, no_next, next_new, price_last, trade_last, fewer}
 use Rattle.matching.proofs.sweeping.sweep.Goals as goal
-use Rattle.matching.proofs.sweeping.sweep.Goals.{After-order_at-best, After-order_at-order, After-places_of-line, At-orders, At-prices}
+use Rattle.matching.proofs.sweeping.sweep.Goals.{After-places_of-line, At-orders, At-prices, then-most-s-via-then-most-s, then-most-s-via-else-most-s+then-not-wants}
 use Rattle.model.specs.declared.Trade.{Trade}
+use Rattle.std.proofs.lemmas.List.{get_or_default}
 
 -- the whole line is the other side's queue
 all_of :
@@ -25,22 +27,13 @@ all_of :
 all_of l =
     l.places_of-line.ensures.orders ∙ ap (λ n. queue n l.args.rows.now) l.other_side.ensures
 
--- the first order of a price, and each that follows
-first_of_lem :
-    (c : After-order_at-best)
-    → line c.prices.at c.places_of-line.result.to c.args.rows.now
-    ≡ c.order_at-best.result
-    ∷ line (c.prices.at + 1) c.places_of-line.result.to c.args.rows.now
-first_of_lem c =
-    line_cons _ _ _ c.prices-test.true c.places_of-line.ensures.within c.order_at-best.ensures
-
-next_of :
-    (c : After-order_at-order)
-    → line c.orders.at c.places_of-line.result.to c.args.rows.now
-    ≡ c.order_at-order.result
-    ∷ line (c.orders.at + 1) c.places_of-line.result.to c.args.rows.now
-next_of c =
-    line_cons _ _ _ c.orders-test.true c.places_of-line.ensures.within c.order_at-order.ensures
+-- a line that is not at its end begins with the order at its first place
+begins :
+    (at end : ℕ) (rows : List Order) (d : Order)
+    → at < end
+    → end ≤ length rows
+    → line at end rows ≡ get_or rows at d ∷ line (at + 1) end rows
+begins at end rows d h k = line_cons at end rows h k (get_or_default rows at d free (omega arith))
 
 -- what holds from the function's start to a turn at the orders of a price
 so_far :
@@ -51,7 +44,7 @@ so_far :
 so_far o =
     let a = o.args in
     let wanted = sym o.wants.ensures ∙ o.if-not-wants.false in
-    let first = line_cons _ _ _ o.prices-test.true o.places_of-line.ensures.within o.order_at-best.ensures in
+    let first = begins _ _ _ _ o.prices-test.true o.places_of-line.ensures.within in
     then a.t a.most o.prices.invariant.0
     (then a.t a.most
     (price_opens a.t a.most _ _ _ first o.prices.invariant.1 o.if-most-s.false wanted o.with_price-s.ensures)
@@ -83,10 +76,6 @@ prices-init c =
           c.nothing_yet-s.ensures (all_of (goal.at.prices-init c).After-places_of-line),
     )
 
-pub order_at-best-requires : goal.order_at-best-requires
-order_at-best-requires c =
-    omega (arith, c.prices-test.true, c.places_of-line.ensures.within)
-
 pub with_price-s-requires : goal.with_price-s-requires
 with_price-s-requires c =
     omega (arith, c.if-most-s.false, c.ranges.most)
@@ -105,10 +94,6 @@ pub prices-preserved-in-orders : goal.prices-preserved-in-orders
 prices-preserved-in-orders c =
     (so_far (goal.at.prices-preserved-in-orders c).At-orders, no_next _ (line_end _ _ _ c.orders-test.false))
 
-pub order_at-order-requires : goal.order_at-order-requires
-order_at-order-requires c =
-    omega (arith, c.orders-test.true, c.places_of-line.ensures.within)
-
 pub prices-smaller : goal.prices-smaller
 prices-smaller c =
     fewer _ _ c.orders.s _ _ c.with_price-s.ensures c.orders.invariant.1
@@ -116,14 +101,14 @@ prices-smaller c =
 
 pub prices-preserved : goal.prices-preserved
 prices-preserved c =
-    (so_far (goal.at.prices-preserved c).At-orders, next_new _ _ (next_of (goal.at.prices-preserved c).After-order_at-order) c.orders.invariant.2 (λ z. omega (arith, c.if-order-price.true)))
+    (so_far (goal.at.prices-preserved c).At-orders, next_new _ _ (begins _ _ _ _ c.orders-test.true c.places_of-line.ensures.within) c.orders.invariant.2 c.if-order-price.true)
 
 pub with_trade-s-requires : goal.with_trade-s-requires
 with_trade-s-requires c =
     let a = c.args in
     let all = c.places_of-line in
     let more =
-    one_more a.t a.most _ _ _ (next_of (goal.at.with_trade-s-requires c).After-order_at-order) c.trade_with-trade.ensures (so_far (goal.at.with_trade-s-requires c).At-orders)
+    one_more a.t a.most _ _ _ (begins _ _ _ _ c.orders-test.true c.places_of-line.ensures.within) c.trade_with-trade.ensures (so_far (goal.at.with_trade-s-requires c).At-orders)
     c.nothing_yet-s.ensures
     (omega (
       arith,
@@ -160,7 +145,7 @@ orders-preserved c =
     let kept = trade_last _ _ _ c.with_trade-s.ensures in
     let wanted = ap (wants _ _) at_price ∙ sym c.wants-in-orders.ensures ∙ c.if-not-wants-2.false in (
       then a.t a.most c.orders.invariant.0
-          (trade_made a.t a.most _ _ _ (next_of (goal.at.orders-preserved c).After-order_at-order)
+          (trade_made a.t a.most _ _ _ (begins _ _ _ _ c.orders-test.true c.places_of-line.ensures.within)
           (at_price ∙ sym c.orders.invariant.2)
           c.trade_with-trade.ensures wanted c.put_trade.ensures
           c.with_trade-s.ensures),
@@ -188,24 +173,15 @@ shape_of-trades-then-most-s c =
 pub returns-then-most-s : goal.returns-then-most-s
 returns-then-most-s c =
     let a = c.args in
+    let none : coming a.t a.most c.prices.s c.prices.left (line c.prices.at c.places_of-line.result.to a.rows.now) ≡ [] =
+    elim c.then-most-s.branch [
+      | then-most-s-via-then-most-s w ↦ no_price a.t a.most c.prices.s c.prices.left a.trades.now (begins _ _ _ free c.prices-test.true c.places_of-line.ensures.within) c.prices.invariant.1 w.if-most-s.true
+      | then-most-s-via-else-most-s+then-not-wants w ↦
+          spent_new a.t a.most c.prices.s c.prices.left a.trades.now (begins _ _ _ _ c.prices-test.true c.places_of-line.ensures.within) c.prices.invariant.1 w.if-most-s.false
+          (sym w.wants.ensures ∙ w.if-not-wants.true)
+    ] in
     let all =
-    ended (goal.at.returns-then-most-s c).At-prices c.prices.invariant.0
-    (no_price a.t a.most c.prices.s c.prices.left a.trades.now
-    (first_of_lem (goal.at.returns-then-most-s c).After-order_at-best) c.prices.invariant.1 c.if-most-s.true) in
-    record { value = all.0; trades_after = all.1 }
-
-pub shape_of-trades-then-not-wants : goal.shape_of-trades-then-not-wants
-shape_of-trades-then-not-wants c =
-    c.prices.invariant.0.long
-
-pub returns-then-not-wants : goal.returns-then-not-wants
-returns-then-not-wants c =
-    let a = c.args in
-    let all =
-    ended (goal.at.returns-then-not-wants c).At-prices c.prices.invariant.0
-    (spent_new a.t a.most c.prices.s c.prices.left a.trades.now
-    (first_of_lem (goal.at.returns-then-not-wants c).After-order_at-best) c.prices.invariant.1 c.if-most-s.false
-    (sym c.wants.ensures ∙ c.if-not-wants.true)) in
+    ended (goal.at.returns-then-most-s c).At-prices c.prices.invariant.0 none in
     record { value = all.0; trades_after = all.1 }
 
 pub shape_of-trades-then-not-wants-2 : goal.shape_of-trades-then-not-wants-2
@@ -220,5 +196,5 @@ returns-then-not-wants-2 c =
     let all =
     ended (goal.at.returns-then-not-wants-2 c).At-prices (so_far (goal.at.returns-then-not-wants-2 c).At-orders)
     (spent_same a.t a.most c.orders.s c.orders.left a.trades.now
-    (next_of (goal.at.returns-then-not-wants-2 c).After-order_at-order) (at_price ∙ sym c.orders.invariant.2) spent) in
+    (begins _ _ _ _ c.orders-test.true c.places_of-line.ensures.within) (at_price ∙ sym c.orders.invariant.2) spent) in
     record { value = all.0; trades_after = all.1 }
