@@ -1,5 +1,5 @@
 -- What is left of a side at a price that nobody left is better than: the head and those right behind it that stand at it.
-use Prim.Native.Nat.{ℕ, suc, ◌+◌, ◌≤◌, ◌<◌}
+use Prim.Native.Nat.{ℕ, suc, ◌+◌, ◌≤◌, ◌<◌, max}
 use mathlib.Core.Path.{◌≡◌, refl, sym, ap, ◌∙◌}
 use mathlib.Core.Bool.{Bool, true, false, cond}
 use mathlib.Core.List.{List, [], ◌∷◌}
@@ -93,6 +93,8 @@ run_reach side p (o ∷ os) n f = elim (ℕ_discrete o.price p) [
 pub record Adds (rows : List Order) (from end p sum at : ℕ) : Type 0 where
   pub whole : sum + run_of p (line at end rows) ≡ run_of p (line from end rows)
   pub places : at + alike p (line at end rows) ≡ from + alike p (line from end rows)
+  pub near : at ≤ max from end
+  pub far : from ≤ at
 
 tier_is :
     (from p : ℕ) (os : List Order) {sum at : ℕ}
@@ -118,13 +120,16 @@ module _ (rows : List Order) (from end p : ℕ) (short : end ≤ length rows) wh
         record {
           whole = omega (arith, k.whole, ap (run_of p) begins, run_on p o (line (at + 1) end rows) n);
           places = omega (arith, k.places, ap (alike p) begins, alike_on p o (line (at + 1) end rows) n);
+          near = omega arith;
+          far = omega (arith, k.far);
         }
 
-  pub run_all : {sum at : ℕ} → Adds rows from end p sum at → end ≤ at → record { shares = sum; behind = at } ≡ tier_from from p (line from end rows)
-  run_all {sum} {at} k l =
+  pub run_all : {sum at behind : ℕ} → Adds rows from end p sum at → end ≤ at → behind ≡ max from end → record { shares = sum; behind = behind } ≡ tier_from from p (line from end rows)
+  run_all {sum} {at} {behind} k l b =
+      let z : alike p (line at end rows) ≡ 0 = ap (alike p) (line_end at end rows l) ∙ alike_nobody p in
       tier_is from p (line from end rows)
       (omega (arith, k.whole, ap (run_of p) (line_end at end rows l), run_nobody p))
-      (omega (arith, k.places, ap (alike p) (line_end at end rows l), alike_nobody p))
+      (omega (arith, b, z, k.places, k.near, k.far))
 
 -- ---- of a head and those behind it
 

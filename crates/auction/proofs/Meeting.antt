@@ -8,7 +8,7 @@ use native.Mathlib.Decide.{dec_lt, ℕ_discrete}
 use native.Mathlib.Omega.{arith}
 use lib.ListN.{take}
 use lib.Dec.{ltb, leb}
-use borrow.Author.Tests.{ltb-true, leb-true, leb-false, le-leb, lt-ltb, le-ltb, eq-eqb, ne_eqb}
+use borrow.Author.Tests.{ltb-true, leb-true, leb-false, le-leb, lt-ltb, eq-eqb, ne_eqb}
 use Rattle.model.specs.declared.Order.{Order}
 use Rattle.model.specs.Book.{queue}
 use Rattle.model.specs.Matching.{meets}
@@ -64,18 +64,6 @@ pub record Walked (rows : List Order) (middle end : ℕ) (c : Crossed) (buy sell
 -- ---- the test
 
 module _ (buy sell : Head) where
-  pub no_buy : buy.left ≡ 0 → false ≡ crossing buy sell
-  unfolding crossing
-  no_buy z = rw (le-ltb 0 buy.left (omega arith))
-
-  pub no_sell : (buy.left ≡ 0 → ⊥) → sell.left ≡ 0 → false ≡ crossing buy sell
-  unfolding crossing
-  no_sell n z = rw (lt-ltb 0 buy.left (omega arith), le-ltb 0 sell.left (omega arith))
-
-  pub both_there : (buy.left ≡ 0 → ⊥) → (sell.left ≡ 0 → ⊥) → leb sell.price buy.price ≡ crossing buy sell
-  unfolding crossing
-  both_there n m = rw (lt-ltb 0 buy.left (omega arith), lt-ltb 0 sell.left (omega arith))
-
   -- they trade with each other
   crossing_true : crossing buy sell ≡ true → (0 < buy.left) × (0 < sell.left) × (sell.price ≤ buy.price)
   unfolding crossing
@@ -347,44 +335,3 @@ module _ (rows : List Order) (ranked : Ranked rows) {middle end : ℕ} (w : Stre
           buying = λ x. ⊎_elim (λ y. y.1) (λ y. absurd (omega (arith, y.0))) k.buying;
           selling = λ x. ⊎_elim (λ y. y.1) (λ y. absurd (omega (arith, y.0))) k.selling;
         }
-
--- ---- the small steps
-
-module _ (p : ℕ) (h : Head) where
-  pub higher_none : h.left ≡ 0 → p ≡ higher p h
-  unfolding higher
-  higher_none z = rw (eq-eqb h.left 0 z)
-
-  pub higher_head : (h.left ≡ 0 → ⊥) → p < h.price → h.price ≡ higher p h
-  unfolding higher
-  higher_head z l = rw (ne_eqb h.left 0 z) (omega arith)
-
-  pub higher_own : (h.left ≡ 0 → ⊥) → h.price ≤ p → p ≡ higher p h
-  unfolding higher
-  higher_own z l = rw (ne_eqb h.left 0 z) (omega arith)
-
-  pub lower_none : h.left ≡ 0 → p ≡ lower p h
-  unfolding lower
-  lower_none z = rw (eq-eqb h.left 0 z)
-
-  pub lower_head : (h.left ≡ 0 → ⊥) → h.price < p → h.price ≡ lower p h
-  unfolding lower
-  lower_head z l = rw (ne_eqb h.left 0 z) (omega arith)
-
-  pub lower_own : (h.left ≡ 0 → ⊥) → p ≤ h.price → p ≡ lower p h
-  unfolding lower
-  lower_own z l = rw (ne_eqb h.left 0 z) (omega arith)
-
-module _ (c : Crossed) (buy sell : Head) where
-  pub span_none : c.shares ≡ 0 → record { lo = 0; hi = 0 } ≡ span_of c buy sell
-  unfolding span_of
-  span_none z = rw (eq-eqb c.shares 0 z)
-
-  pub span_some :
-      {lo hi : ℕ}
-      → (c.shares ≡ 0 → ⊥)
-      → lo ≡ higher c.sell buy
-      → hi ≡ lower c.buy sell
-      → record { lo = lo; hi = hi } ≡ span_of c buy sell
-  unfolding span_of
-  span_some z e f = rw (ne_eqb c.shares 0 z, e, f)

@@ -1,6 +1,6 @@
 -- The price list: the qualifying prices from the asked one on are a run, as many of it as there are places for are written, and
 -- the loop that writes them at the front of a lent list.
-use Prim.Native.Nat.{ℕ, zero, suc, ◌+◌, ◌-◌, ◌≤◌, ◌<◌, min, zero-le}
+use Prim.Native.Nat.{ℕ, zero, suc, ◌+◌, ◌-◌, ◌≤◌, ◌<◌, min, max, zero-le}
 use mathlib.Core.Path.{◌≡◌, refl, sym, ap, ◌∙◌}
 use mathlib.Core.Logic.{⊎_elim}
 use mathlib.Core.List.{List, [], ◌∷◌, ◌++◌}
@@ -44,32 +44,30 @@ front_fitted l d i e = elim (dec_le (length l) (length d)) [
 ]
 
 -- ---- the loop
--- i prices from the first on are written, and p is the next
-pub record Filled (first count : ℕ) (d : List ℕ) (out : List ℕ) (i p : ℕ) : Type 0 where
+-- i prices from the first on are written
+pub record Filled (first count : ℕ) (d : List ℕ) (out : List ℕ) (i : ℕ) : Type 0 where
   pub done : i ≤ count
   pub room : count ≤ length d
-  pub next : p ≡ first + i
   pub long : length out ≡ length d
   pub same : out ≡ front (from first count) d i
 
 module _ (first count : ℕ) (d : List ℕ) where
-  pub filled_start : count ≤ length d → Filled first count d d 0 first
-  filled_start h = record { done = zero-le; room = h; next = omega arith; long = refl; same = refl }
+  pub filled_start : count ≤ length d → Filled first count d d 0
+  filled_start h = record { done = zero-le; room = h; long = refl; same = refl }
 
-  pub filled_next : {out : List ℕ} {i p : ℕ} → Filled first count d out i p → i < count → Filled first count d (set out i p) (i + 1) (p + 1)
-  filled_next {out} {i} {p} f h =
+  pub filled_next : {out : List ℕ} {i : ℕ} → Filled first count d out i → i < count → Filled first count d (set out i (first + i)) (i + 1)
+  filled_next {out} {i} f h =
       let l = from first count in
-      let v : p ≡ get_or l i 0 = f.next ∙ sym (run_at first count i 0 h) in
+      let v : first + i ≡ get_or l i 0 = sym (run_at first count i 0 h) in
       record {
         done = omega arith;
         room = f.room;
-        next = omega (arith, f.next);
-        long = length-set out i p ∙ f.long;
+        long = length-set out i (first + i) ∙ f.long;
         same = rw (f.same, v) (front_next l d i (omega (arith, f.room)) (omega (arith, run_length first count)));
       }
 
-  pub filled_end : {out : List ℕ} {i p : ℕ} → Filled first count d out i p → count ≤ i → out ≡ from first count ++ drop count d
-  filled_end {out} {i} {p} f h =
+  pub filled_end : {out : List ℕ} {i : ℕ} → Filled first count d out i → count ≤ i → out ≡ from first count ++ drop count d
+  filled_end {out} {i} f h =
       let e : i ≡ count = omega (arith, f.done) in
       let t : take count (from first count) ≡ from first count = take_all count (from first count) (omega (arith, run_length first count)) in
       rw (e, t) at f.same
@@ -153,6 +151,13 @@ module _ (os : List Order) (asked : ℕ) {s : Span} (e : s ≡ ends (qualifying 
   pub due_from : (s.lo ≡ 0 → ⊥) → s.lo ≤ asked → from asked (s.hi + 1 - asked) ≡ due asked os
   unfolding due
   due_from h k = let t = spanned os e h in rw t.list (sym (keep_from asked s.lo s.hi k t.some))
+
+  -- from the later of the two
+  pub due_later : (s.lo ≡ 0 → ⊥) → {p : ℕ} → p ≡ max s.lo asked → from p (s.hi + 1 - p) ≡ due asked os
+  due_later h {p} e = elim (dec_le s.lo asked) [
+    | yes k ↦ let q : p ≡ asked = omega arith in rw q (due_from h k)
+    | no k ↦ let q : p ≡ s.lo = omega arith in rw q (due_all h (omega arith))
+  ]
 
   pub due_past : s.hi < asked → due asked os ≡ []
   unfolding from

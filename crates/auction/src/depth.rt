@@ -5,29 +5,23 @@ ghost use Rattle.book.specs.Standing.{Ranked};
 ghost use Rattle.auction.specs.Interest.{brings, interest_at};
 
 use crate::Interest;
-use book::smaller;
 use model::Order;
 
 // The shares that an order brings to a side at price p.
+#[tactic(auto, unfolding(crate::specs::Interest::brings, crate::specs::Interest::trades_for, model::specs::Book::stands_on, model::specs::Book::is_live, model::specs::Matching::meets))]
 fn shares_at(o: Order, side: u64, p: u64) -> u64
     ensures { result ≡ brings side p o }
 {
-    if o.number == 0 {
-        return 0;
+    let reaches = if side == 0 {
+        p <= o.price
+    } else {
+        o.price <= p
+    };
+    if o.number != 0 && o.side == side && reaches {
+        o.left
+    } else {
+        0
     }
-    if o.side != side {
-        return 0;
-    }
-    if side == 0 {
-        if p <= o.price {
-            return o.left;
-        }
-        return 0;
-    }
-    if o.price <= p {
-        return o.left;
-    }
-    0
 }
 
 // All buys at `least` or above, and all sells at `most` or below.
@@ -37,12 +31,9 @@ pub fn interest_at(rows: &[Order], least: u64, most: u64) -> Interest
 {
     let mut demand: u64 = 0;
     let mut supply: u64 = 0;
-    let mut i: usize = 0;
-    while i < rows.len() {
-        let o = book::order_at(rows, i);
-        demand += shares_at(o, 0, least);
-        supply += shares_at(o, 1, most);
-        i += 1;
+    for o in rows {
+        demand += shares_at(*o, 0, least);
+        supply += shares_at(*o, 1, most);
     }
     Interest { demand, supply }
 }
@@ -53,5 +44,5 @@ pub fn volume_at(rows: &[Order], p: u64) -> u64
     ensures { result ≡ volume rows.now p }
 {
     let both = interest_at(rows, p, p);
-    smaller(both.demand, both.supply)
+    both.demand.min(both.supply)
 }

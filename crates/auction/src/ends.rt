@@ -13,26 +13,24 @@ use book::seats::{free_from, sells_from};
 use model::Order;
 
 // The price or, where it is higher, that of the head.
+#[tactic(auto, unfolding(crate::specs::Walks::higher))]
 fn higher(p: u64, h: Head) -> u64
     ensures { result ≡ walks.higher p h }
 {
-    if h.left == 0 {
-        return p;
-    }
-    if p < h.price { h.price } else { p }
+    if h.left == 0 { p } else { p.max(h.price) }
 }
 
+// The price or, where it is lower, that of the head.
+#[tactic(auto, unfolding(crate::specs::Walks::lower))]
 fn lower(p: u64, h: Head) -> u64
     ensures { result ≡ walks.lower p h }
 {
-    if h.left == 0 {
-        return p;
-    }
-    if h.price < p { h.price } else { p }
+    if h.left == 0 { p } else { p.min(h.price) }
 }
 
 // The qualifying prices, where the heads do not trade with each other: not below the last sell that traded or the next buy, not
 // above the last buy that traded or the next sell.
+#[tactic(auto, unfolding(crate::specs::Walks::span_of))]
 pub fn span_at(c: Crossed, buy: Head, sell: Head) -> Span
     ensures { result ≡ span_of c buy sell }
 {
@@ -53,8 +51,5 @@ pub fn span_of(rows: &[Order]) -> Span
     let middle = sells_from(rows);
     let end = free_from(rows);
     let stop = walk(rows, middle, end);
-    let c = stop.crossed;
-    let buy = stop.buy;
-    let sell = stop.sell;
-    span_at(c, buy, sell)
+    span_at(stop.crossed, stop.buy, stop.sell)
 }

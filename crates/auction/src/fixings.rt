@@ -28,14 +28,11 @@ pub fn fixing_of(rows: &[Order], reference: u64) -> Fixing
         };
     }
     // what has traded is the volume; the surplus is what is left of the buys, less what is left of the sells
-    let crossed = stop.crossed;
-    let buy = stop.buy;
-    let sell = stop.sell;
-    let buys = left_at(rows, middle, buy, price);
-    let sells = left_at(rows, end, sell, price);
+    let buys = left_at(rows, middle, stop.buy, price);
+    let sells = left_at(rows, end, stop.sell, price);
     Fixing {
         price,
-        volume: crossed.shares,
+        volume: stop.crossed.shares,
         surplus: surplus_of(buys, sells),
     }
 }

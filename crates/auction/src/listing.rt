@@ -5,8 +5,8 @@ ghost use Rattle.model.specs.AuctionCalls.{due};
 ghost use Rattle.book.specs.Standing.{Ranked};
 ghost use Rattle.auction.specs.Fitting.{run_within};
 
-use crate::Run;
 use crate::ends::span_of;
+use crate::{Run, Span};
 use model::Order;
 
 // The prices from the first to hi, as many as there are places for.
@@ -34,9 +34,7 @@ pub fn run_of(rows: &[Order], places: usize, asked: u64) -> Run
     requires { Ranked rows.now }
     ensures { result ≡ run_within places (due asked rows.now) }
 {
-    let span = span_of(rows);
-    let lo = span.lo;
-    let hi = span.hi;
+    let Span { lo, hi } = span_of(rows);
     if lo == 0 || hi < asked {
         return Run {
             first: 0,
@@ -44,10 +42,7 @@ pub fn run_of(rows: &[Order], places: usize, asked: u64) -> Run
             next: 0,
         };
     }
-    if asked < lo {
-        return run_between(lo, hi, places);
-    }
-    run_between(asked, hi, places)
+    run_between(lo.max(asked), hi, places)
 }
 
 // Writes the prices of a run to the list's front; the rest of it stays.
@@ -55,12 +50,7 @@ pub fn write_run(prices: &mut [u64], run: Run)
     requires { (run.count ≤ length prices.old) × (run.first + run.count ≤ 1_000_000) }
     ensures { prices.new ≡ from run.first run.count ++ drop run.count prices.old }
 {
-    let count = run.count;
-    let mut p: u64 = run.first;
-    let mut i: usize = 0;
-    while i < count {
-        prices[i] = p;
-        p += 1;
-        i += 1;
+    for i in 0..run.count {
+        prices[i] = run.first + (i as u64);
     }
 }

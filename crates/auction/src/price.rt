@@ -7,10 +7,10 @@ ghost use Rattle.book.specs.Lines.{line};
 ghost use Rattle.auction.specs.Spans.{flatter_by, beside_of, nearest_in};
 ghost use Rattle.auction.specs.Walks.{left_at, StopOf};
 
-use crate::Stop;
 use crate::ends::span_at;
 use crate::tiers::run_from;
 use crate::walk::walk;
+use crate::{Span, Stop};
 use book::Head;
 use book::seats::{free_from, sells_from};
 use model::Order;
@@ -22,10 +22,7 @@ pub fn left_at(rows: &[Order], end: usize, h: Head, p: u64) -> u64
     requires rows_bound { left_at p h (line (h.at + 1) end rows.now) ≤ 4_096_000_000 }
     ensures { result ≡ left_at p h (line (h.at + 1) end rows.now) }
 {
-    if h.left == 0 {
-        return 0;
-    }
-    if h.price != p {
+    if h.left == 0 || h.price != p {
         return 0;
     }
     let others = run_from(rows, h.at + 1, end, p);
@@ -33,6 +30,7 @@ pub fn left_at(rows: &[Order], end: usize, h: Head, p: u64) -> u64
 }
 
 // The difference beside an end: 0 where a price lies between the ends, else that of the other end.
+#[tactic(auto, unfolding(crate::specs::Spans::beside_of))]
 fn beside(lo: u64, hi: u64, gap: u64) -> u64
     requires { lo ≤ 999_999 }
     ensures { result ≡ beside_of lo hi gap }
@@ -48,16 +46,17 @@ fn flatter(end: u64, gap: u64, next: u64, other: u64) -> u64
 }
 
 // The price from a to b that is nearest to the reference price.
+#[tactic(auto, unfolding(crate::specs::Spans::nearest_in))]
 fn nearest(reference: u64, a: u64, b: u64) -> u64
     ensures { result ≡ nearest_in reference a b }
 {
     if reference < a {
-        return a;
+        a
+    } else if b < reference {
+        b
+    } else {
+        reference
     }
-    if b < reference {
-        return b;
-    }
-    reference
 }
 
 // Where the walk has ended, the price that the two tie rules leave, 0 where none qualifies: a look at who is left at an end.
@@ -68,12 +67,8 @@ pub fn price_at(rows: &[Order], middle: usize, end: usize, stop: Stop, reference
     requires stop_of { StopOf rows.now middle end stop }
     ensures { result ≡ get_or (left_by rows.now reference) 0 0 }
 {
-    let c = stop.crossed;
-    let buy = stop.buy;
-    let sell = stop.sell;
-    let span = span_at(c, buy, sell);
-    let lo = span.lo;
-    let hi = span.hi;
+    let Stop { crossed, buy, sell } = stop;
+    let Span { lo, hi } = span_at(crossed, buy, sell);
     // none, or one alone
     if lo == hi {
         return lo;

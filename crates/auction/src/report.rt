@@ -5,7 +5,6 @@ ghost use Rattle.model.specs.AuctionCalls.{report_at};
 ghost use Rattle.book.specs.Standing.{Ranked};
 
 use crate::depth::interest_at;
-use book::smaller;
 use model::{Order, ReportReply};
 
 // Demand minus supply.
@@ -29,7 +28,7 @@ pub fn report_at(rows: &[Order], price: u64) -> ReportReply
         };
     }
     let both = interest_at(rows, price, price);
-    let volume = smaller(both.demand, both.supply);
+    let volume = both.demand.min(both.supply);
     let surplus = surplus_of(both.demand, both.supply);
     ReportReply::Priced {
         price,

@@ -4,7 +4,6 @@ ghost use Rattle.book.specs.Lines.{line};
 ghost use Rattle.auction.specs.Tiers.{run_of, tier_from};
 
 use crate::Tier;
-use book::order_at;
 use model::Order;
 
 // The orders from a place on, up to the end of their side, for as long as they stand at price p.
@@ -14,9 +13,8 @@ pub fn run_from(rows: &[Order], from: usize, end: usize, p: u64) -> Tier
     ensures { result ≡ tier_from from p (line from end rows.now) }
 {
     let mut sum: u64 = 0;
-    let mut at = from;
-    while at < end {
-        let o = order_at(rows, at);
+    for at in from..end {
+        let o = rows[at];
         if o.price != p {
             return Tier {
                 shares: sum,
@@ -24,10 +22,9 @@ pub fn run_from(rows: &[Order], from: usize, end: usize, p: u64) -> Tier
             };
         }
         sum += o.left;
-        at += 1;
     }
     Tier {
         shares: sum,
-        behind: at,
+        behind: from.max(end),
     }
 }

@@ -6,23 +6,19 @@ ghost use Rattle.auction.specs.Walks as walks;
 ghost use Rattle.auction.specs.Walks.{crossed_by, StopOf};
 
 use crate::{Crossed, Stop};
+use book::Head;
 use book::heads::{head_at, head_past};
-use book::{Head, smaller};
 use model::Order;
 
 // Do the heads trade with each other?
+#[tactic(auto, unfolding(crate::specs::Walks::crossing))]
 fn crossing(buy: Head, sell: Head) -> bool
     ensures { result ≡ walks.crossing buy sell }
 {
-    if buy.left == 0 {
-        return false;
-    }
-    if sell.left == 0 {
-        return false;
-    }
-    sell.price <= buy.price
+    0 < buy.left && 0 < sell.left && sell.price <= buy.price
 }
 
+#[tactic(auto, unfolding(crate::specs::Walks::crossed_by))]
 fn crossed_by(c: Crossed, q: u64, buy: u64, sell: u64) -> Crossed
     requires { c.shares + q < 2 ^ 64 }
     ensures { result ≡ crossed_by c q buy sell }
@@ -53,7 +49,7 @@ pub fn walk(rows: &[Order], middle: usize, end: usize) -> Stop
         sell: 0,
     };
     while crossing(buy, sell) {
-        let q = smaller(buy.left, sell.left);
+        let q = buy.left.min(sell.left);
         c = crossed_by(c, q, buy.price, sell.price);
         buy = head_past(rows, middle, buy, q);
         sell = head_past(rows, end, sell, q);

@@ -1,14 +1,11 @@
 -- By the head's two tests.
+use mathlib.Core.Logic.{⊎_elim}
 use native.Mathlib.Omega.{arith}
 use Rattle.auction.proofs.Leaving.{left_none, left_off, left_most, left_with}
 use Rattle.auction.proofs.price.left_at.Goals as goal
 
 pub returns-then-h-eq0 : goal.returns-then-h-eq0
-returns-then-h-eq0 c = left_none _ _ _ c.if-h-eq0.true
-
-pub returns-then-h-p : goal.returns-then-h-p
-returns-then-h-p c =
-    left_off _ _ _ c.if-h-eq0.false c.if-h-p.true
+returns-then-h-eq0 c = ⊎_elim (λ w. left_none _ _ _ w) (λ w. left_off _ _ _ w.0 w.1) c.then-h-eq0.either
 
 pub overflow_add-h : goal.overflow_add-h
 overflow_add-h c =

@@ -11,4 +11,4 @@ surplus_of-surplus-requires c = both_small _ _ c.interest_at-both.ensures c.requ
 pub returns : goal.returns
 returns c =
     report_some _ _ c.interest_at-both.ensures c.requires
-    c.if-price-eq0.false c.smaller-volume.ensures c.surplus_of-surplus.ensures
+    c.if-price-eq0.false c.min-volume.ensures c.surplus_of-surplus.ensures

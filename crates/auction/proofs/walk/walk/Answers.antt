@@ -22,28 +22,28 @@ loop-q-init c =
 pub crossed_by-c-requires : goal.crossed_by-c-requires
 crossed_by-c-requires c =
     let meet = sym c.crossing.ensures ∙ c.loop-q-test.true in
-    shares_fit_lem c.args.rows.now c.requires.ranked (sides (goal.at.crossed_by-c-requires c).Start) c.loop-q.invariant meet c.smaller-q.ensures
+    shares_fit_lem c.args.rows.now c.requires.ranked (sides (goal.at.crossed_by-c-requires c).Start) c.loop-q.invariant meet c.min-q.ensures
 
 pub head_past-buy-requires : goal.head_past-buy-requires
 head_past-buy-requires c =
     let meet = sym c.crossing.ensures ∙ c.loop-q-test.true in
-    record { end_in_bounds = (sides (goal.at.head_past-buy-requires c).Start).short_buys; at_lt_end = buy_inside c.args.rows.now c.requires.ranked (sides (goal.at.head_past-buy-requires c).Start) c.loop-q.invariant meet c.smaller-q.ensures }
+    record { end_in_bounds = (sides (goal.at.head_past-buy-requires c).Start).short_buys; at_lt_end = buy_inside c.args.rows.now c.requires.ranked (sides (goal.at.head_past-buy-requires c).Start) c.loop-q.invariant meet c.min-q.ensures }
 
 pub head_past-sell-requires : goal.head_past-sell-requires
 head_past-sell-requires c =
     let meet = sym c.crossing.ensures ∙ c.loop-q-test.true in
-    record { end_in_bounds = (sides (goal.at.head_past-sell-requires c).Start).short_sells; at_lt_end = sell_inside c.args.rows.now c.requires.ranked (sides (goal.at.head_past-sell-requires c).Start) c.loop-q.invariant meet c.smaller-q.ensures }
+    record { end_in_bounds = (sides (goal.at.head_past-sell-requires c).Start).short_sells; at_lt_end = sell_inside c.args.rows.now c.requires.ranked (sides (goal.at.head_past-sell-requires c).Start) c.loop-q.invariant meet c.min-q.ensures }
 
 pub loop-q-smaller : goal.loop-q-smaller
 loop-q-smaller c =
     let meet = sym c.crossing.ensures ∙ c.loop-q-test.true in
-    walk_less c.args.rows.now c.requires.ranked (sides (goal.at.loop-q-smaller c).Start) c.loop-q.invariant meet c.smaller-q.ensures
+    walk_less c.args.rows.now c.requires.ranked (sides (goal.at.loop-q-smaller c).Start) c.loop-q.invariant meet c.min-q.ensures
     c.head_past-buy.ensures
 
 pub loop-q-preserved : goal.loop-q-preserved
 loop-q-preserved c =
     let meet = sym c.crossing.ensures ∙ c.loop-q-test.true in
-    walked_next c.args.rows.now c.requires.ranked (sides (goal.at.loop-q-preserved c).Start) c.loop-q.invariant meet c.smaller-q.ensures
+    walked_next c.args.rows.now c.requires.ranked (sides (goal.at.loop-q-preserved c).Start) c.loop-q.invariant meet c.min-q.ensures
     c.crossed_by-c.ensures c.head_past-buy.ensures c.head_past-sell.ensures
 
 pub returns : goal.returns
