@@ -13,7 +13,7 @@ ghost use Rattle.pairing.specs.Dealing.{share_of, dealt, LeavesBoth};
 
 use book::heads::{head_at, head_past};
 use book::seats::{free_from, sells_from};
-use book::{Head, put_trade, smaller};
+use book::{Head, put_trade};
 use model::{Order, Trade};
 
 // The trade of the two heads while so many shares of the volume are left. What it leaves is of the whole orders, not of the parts that
@@ -22,19 +22,15 @@ fn trade_of_heads(buy: Head, sell: Head, left: u64, price: u64) -> Trade
     ensures value { result ≡ dealt price (share_of left buy) (share_of left sell) }
     ensures leaves_both { LeavesBoth buy sell result }
 {
-    let buying = buy.left;
-    let selling = sell.left;
-    let granted = smaller(left, buying);
-    let quantity = smaller(granted, selling);
-    let buyerleft = buying - quantity;
-    let sellerleft = selling - quantity;
+    let granted = left.min(buy.left);
+    let quantity = granted.min(sell.left);
     Trade {
         price,
         quantity,
         buyer: buy.number,
         seller: sell.number,
-        buyerleft,
-        sellerleft,
+        buyerleft: buy.left - quantity,
+        sellerleft: sell.left - quantity,
     }
 }
 
@@ -50,15 +46,14 @@ pub fn pair_at(rows: &[Order], trades: &mut [Trade], price: u64, shares: u64) ->
     let mut left = shares;
     let mut buy = head_at(rows, 0, middle);
     let mut sell = head_at(rows, middle, end);
-    let mut made: usize = 0;
+    let mut made = 0;
     while 0 < left {
         let trade = trade_of_heads(buy, sell, left, price);
-        let quantity = trade.quantity;
-        put_trade(&mut *trades, made, trade);
+        put_trade(trades, made, trade);
         made += 1;
-        buy = head_past(rows, middle, buy, quantity);
-        sell = head_past(rows, end, sell, quantity);
-        left -= quantity;
+        buy = head_past(rows, middle, buy, trade.quantity);
+        sell = head_past(rows, end, sell, trade.quantity);
+        left -= trade.quantity;
     }
     made
 }

@@ -16,5 +16,5 @@ pub fn settle_auction(rows: &mut [Order], shares: u64)
     ensures rows_after { rows.new ≡ placed (length rows.old) (off_front shares (queue 0 rows.old) ++ off_front shares (queue 1 rows.old)) }
     ensures by_index { (p : ℕ) → volume rows.old p ≡ shares → rows.new ≡ arranged (length rows.old) (settle (trades_at p rows.old) rows.old) }
 {
-    off_both(&mut *rows, shares);
+    off_both(rows, shares);
 }
