@@ -3,11 +3,11 @@ use Rattle.std.specs.Prelude.{if◌then◌else◌}
 use Prim.Native.Nat.{ℕ, zero, suc, ◌+◌, ◌%◌, ◌≤◌, ◌<◌}
 use mathlib.Core.Path.{◌≡◌, refl, sym, ap, ◌∙◌}
 use mathlib.Core.Bool.{Bool, true, false, and-false}
-use mathlib.Core.List.{List, []}
+use mathlib.Core.List.{List}
 use native.Mathlib.Decide.{ℕ_discrete}
 use native.Mathlib.Numerals.{add-one}
 use native.Mathlib.Omega.{arith}
-use lib.ListN.{length, get_or, set, replicate, length-set, length-replicate, length-map}
+use lib.ListN.{length, get_or, set, replicate, length-set, length-replicate}
 use lib.Seq.{get_or-set_same, get_or-set_other}
 use borrow.Author.Tests.{eq-eqb, ne_eqb}
 use Rattle.model.specs.declared.Order.{Order}
@@ -153,15 +153,3 @@ module _ (rows : List Order) (i : ℕ) (tops under : List ℕ) where
   piled_all h k p =
       let e : i ≡ length rows = omega arith in
       rw (sym e) p
-
-module _ (o : Order) (i : ℕ) (tops under : List ℕ) where
-  pub not_piled : o.number ≡ 0 → (tops ≡ tops_with o i tops) × (under ≡ under_with o i tops under)
-  unfolding tops_with under_with is_live
-  not_piled z = rw (eq-eqb o.number 0 z) (refl, refl)
-
-  pub is_piled :
-      (o.number ≡ 0 → ⊥)
-      → (set tops (o.number % 65_536) (i + 1) ≡ tops_with o i tops)
-      × (set under i (get_or tops (o.number % 65_536) 0) ≡ under_with o i tops under)
-  unfolding tops_with under_with is_live
-  is_piled n = rw (ne_eqb o.number 0 n) (refl, refl)

@@ -5,32 +5,21 @@
 ghost use Rattle.std.specs.Prelude.{◌≡◌, ◌≤◌, ◌<◌, length};
 ghost use Rattle.lookup.specs.Piles.{none_yet, tops_with, under_with, Piled, place_by};
 
-use book::order_at;
-use model::{MOST_PLACES, Order};
+use model::Order;
 
 // Numbers go up to 999,999, so that no pile has more than sixteen.
 pub const PILES: usize = 65_536;
 
-// No pile has anything on it.
-pub fn no_tops() -> [u16; PILES]
-    ensures { result ≡ none_yet 65_536 }
+// No order lies on a pile yet: `PILES` tops, or as many places with nothing under them.
+#[tactic(auto, unfolding(crate::specs::Piles::none_yet))]
+pub fn none_yet<const N: usize>() -> [u16; N]
+    ensures { result ≡ none_yet N }
 {
-    [0; PILES]
-}
-
-pub fn nothing_under() -> [u16; MOST_PLACES]
-    ensures { result ≡ none_yet 4_096 }
-{
-    [0; MOST_PLACES]
-}
-
-fn wide(x: u16) -> usize
-    ensures { result ≡ x }
-{
-    x as usize
+    [0; N]
 }
 
 // The order at place i goes on top of its pile. A free place lies on none.
+#[tactic(auto, unfolding(crate::specs::Piles::tops_with, crate::specs::Piles::under_with, model::specs::Book::is_live))]
 fn pile_order(tops: &mut [u16], under: &mut [u16], o: Order, i: usize)
     requires tops_len { length tops.old ≡ 65_536 }
     requires i_in_bounds { i < length under.old }
@@ -38,13 +27,11 @@ fn pile_order(tops: &mut [u16], under: &mut [u16], o: Order, i: usize)
     ensures tops_after { tops.new ≡ tops_with o i tops.old }
     ensures under_after { under.new ≡ under_with o i tops.old under.old }
 {
-    if o.number == 0 {
-        return;
+    if o.number != 0 {
+        let pile = (o.number % 65_536) as usize;
+        under[i] = tops[pile];
+        tops[pile] = (i + 1) as u16;
     }
-    let pile = (o.number % 65_536) as usize;
-    let top = tops[pile];
-    under[i] = top;
-    tops[pile] = (i + 1) as u16;
 }
 
 // Every order on its pile.
@@ -54,11 +41,8 @@ pub fn pile_orders(rows: &[Order], tops: &mut [u16], under: &mut [u16])
     requires rows_in_bounds { length rows.now ≤ length under.old }
     ensures { Piled rows.now (length rows.now) tops.new under.new }
 {
-    let mut i = 0;
-    while i < rows.len() {
-        let o = order_at(rows, i);
-        pile_order(&mut *tops, &mut *under, o, i);
-        i += 1;
+    for (i, o) in rows.iter().enumerate() {
+        pile_order(tops, under, *o, i);
     }
 }
 
@@ -68,13 +52,12 @@ pub fn place_by(rows: &[Order], tops: &[u16], under: &[u16], number: u64) -> usi
     ensures { result ≡ place_by number rows.now }
 {
     let pile = (number % 65_536) as usize;
-    let mut at = wide(tops[pile]);
+    let mut at = usize::from(tops[pile]);
     while 0 < at {
-        let o = order_at(rows, at - 1);
-        if o.number == number {
+        if rows[at - 1].number == number {
             return at;
         }
-        at = wide(under[at - 1]);
+        at = usize::from(under[at - 1]);
     }
     0
 }

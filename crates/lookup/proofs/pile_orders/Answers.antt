@@ -1,7 +1,8 @@
 -- `lookup::pile_orders` meets its contract: place by place one order more lies on its pile. Assumes nothing.
 use mathlib.Core.Path.{refl, ◌∙◌}
 use native.Mathlib.Omega.{arith}
-use lib.ListN.{length-map}
+use Rattle.std.proofs.lemmas.List.{get_or_default}
+use Rattle.model.specs.Book.{free}
 use Rattle.lookup.proofs.Piling.{piled_none, piled_on, piled_all}
 use Rattle.lookup.proofs.pile_orders.Goals as goal
 
@@ -11,7 +12,7 @@ loop-i-init c =
 
 pub loop-i-preserved : goal.loop-i-preserved
 loop-i-preserved c =
-    let q = piled_on c.args.rows.now _ _ _ c.loop-i.invariant.3 c.order_at-o.ensures c.loop-i-test.true (c.pile_order.ensures.tops_after, c.pile_order.ensures.under_after) in
+    let q = piled_on c.args.rows.now _ _ _ c.loop-i.invariant.3 (get_or_default _ _ _ free c.loop-i-test.true) c.loop-i-test.true (c.pile_order.ensures.tops_after, c.pile_order.ensures.under_after) in
     (omega (arith, c.loop-i-test.true), q.0 ∙ c.loop-i.invariant.1, q.1 ∙ c.loop-i.invariant.2, q.2)
 
 pub shape_of-tops : goal.shape_of-tops
