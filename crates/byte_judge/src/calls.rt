@@ -9,8 +9,8 @@ ghost use Rattle.byte_judge.specs.Claims.{claims_in};
 use crate::claims::take_byte_claims;
 use judge::Verdict;
 use judging::calls::{price_verdict, set_up, slate_room};
-use lookup::{no_tops, nothing_under};
-use model::{Day, Order};
+use lookup::{PILES, none_yet};
+use model::{Day, MOST_PLACES, Order};
 use records::ORDER_BYTES;
 use records::lists::load_book;
 use records::rooms::{FEW_PLACES, FEWEST_PLACES, room, small_room, tiny_room};
@@ -40,8 +40,8 @@ fn byte_claims_right(rows: &[Order], claims: &[u8], price: u64) -> bool
     ensures { result ≡ claims_right price rows.now (claims_in claims.now) }
 {
     let n = rows.len();
-    let mut tops = no_tops();
-    let mut under = nothing_under();
+    let mut tops = none_yet::<PILES>();
+    let mut under = none_yet::<MOST_PLACES>();
     let mut slate = slate_room();
     byte_claims_decide(
         rows,

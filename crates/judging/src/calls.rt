@@ -13,7 +13,7 @@ use auction::depth::volume_at;
 use auction::price::auction_price;
 use figures::reference_of;
 use judge::{Claim, Verdict};
-use lookup::{no_tops, nothing_under, pile_orders};
+use lookup::{PILES, none_yet, pile_orders};
 use model::{Day, MOST_PLACES, Order};
 use soundness::is_sound;
 
@@ -75,8 +75,8 @@ fn claims_right(rows: &[Order], claims: &[Claim], price: u64) -> bool
     ensures { result ≡ claims_right price rows.now claims.now }
 {
     let n = rows.len();
-    let mut tops = no_tops();
-    let mut under = nothing_under();
+    let mut tops = none_yet::<PILES>();
+    let mut under = none_yet::<MOST_PLACES>();
     let mut slate = slate_room();
     claims_decide(
         rows,

@@ -19,4 +19,4 @@ slice_bounds-byte_claims_decide-end-3 c = sym (length-take-le _ c.slate_room-sla
 
 pub byte_claims_decide-requires : goal.byte_claims_decide-requires
 byte_claims_decide-requires c =
-    record { ranked = c.requires; tops_value = c.no_tops-tops.ensures; rows_in_bounds = omega (arith, few (goal.at.byte_claims_decide-requires c).Start, none_length 4_096 c.nothing_under-under.ensures); slate_len = length-take-le _ c.slate_room-slate.result (omega (arith, few (goal.at.byte_claims_decide-requires c).Start)) }
+    record { ranked = c.requires; tops_value = c.none_yet-tops.ensures; rows_in_bounds = omega (arith, few (goal.at.byte_claims_decide-requires c).Start, none_length 4_096 c.none_yet-under.ensures); slate_len = length-take-le _ c.slate_room-slate.result (omega (arith, few (goal.at.byte_claims_decide-requires c).Start)) }
