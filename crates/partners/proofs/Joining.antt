@@ -1,11 +1,11 @@
 -- The list of partners as it is filled: from none on, by one confirmation after the other. Assumes nothing.
-use Prim.Native.Nat.{ℕ, zero, suc, ◌≤◌, ◌<◌}
+use Prim.Native.Nat.{ℕ, zero, suc, ◌<◌}
 use mathlib.Core.Path.{◌≡◌, refl, sym, ap, ◌∙◌}
-use mathlib.Core.List.{List, [], ◌∷◌, ◌++◌, append-nil}
+use mathlib.Core.List.{List, [], ◌∷◌, ◌++◌}
 use native.Mathlib.Omega.{arith}
 use native.Mathlib.Decide.{ℕ_discrete, dec_lt}
 use native.Mathlib.Nat.{not-suc-le-zero, le_of_suc-le-suc}
-use lib.ListN.{length, get_or, set, drop, replicate, length-map, length-set, drop_of_length-le}
+use lib.ListN.{length, get_or, set, replicate, length-map, length-set}
 use lib.Seq.{get_or-set_same, get_or-set_other, ext_get_or}
 use Rattle.model.specs.declared.Declaration.{Declaration}
 use Rattle.model.specs.declared.Trade.{Trade}
@@ -15,13 +15,6 @@ use Rattle.partners.specs.Partners.{partner_in}
 use Rattle.partners.specs.Places.{at, partners_in}
 use Rattle.partners.proofs.Line.{InLine, later_larger}
 use Rattle.partners.proofs.Naming.{Leaves, names_none, partner_skip, partner_before, partner_of_buyer, partner_of_seller}
-
--- zeros so far: at the end nothing else
-pub zeros_all : (l d : List ℕ) (i : ℕ) → i ≤ length d → length d ≤ i → l ≡ replicate i 0 ++ drop i d → l ≡ replicate (length d) 0
-zeros_all l d i h k e =
-    let same : i ≡ length d = omega arith in
-    let rest : drop i d ≡ [] = drop_of_length-le d k in
-    e ∙ ap (λ (t : List ℕ). replicate i 0 ++ t) rest ∙ append-nil (replicate i 0) ∙ ap (λ (n : ℕ). replicate n 0) same
 
 -- where nobody is confirmed nobody has a partner
 pub partners_none : (held : List Declaration) → replicate (length held) 0 ≡ partners_in [] held

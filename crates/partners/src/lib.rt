@@ -10,20 +10,9 @@ ghost use Rattle.partners.specs.Partners.{partners};
 ghost use Rattle.partners.specs.Places.{at, is_on, places_on, BothSorted};
 
 use classes::{before, sort_places};
-use declarations::declaration_at;
 use model::{Declaration, MOST_PLACES};
 
-// No place has a partner.
-fn no_partners(partner: &mut [u64])
-    ensures { partner.new ≡ replicate (length partner.old) 0 }
-{
-    let mut i = 0;
-    while i < partner.len() {
-        partner[i] = 0;
-        i += 1;
-    }
-}
-
+#[tactic(auto, unfolding(crate::specs::Places::is_on, model::specs::Blocks::is_held, model::specs::Arrival::is_taken))]
 fn is_on(x: Declaration, side: u64) -> bool
     ensures { result ≡ is_on side x }
 {
@@ -37,14 +26,11 @@ fn gather(rows: &[Declaration], side: u64, places: &mut [usize]) -> usize
     ensures places_after { take result places.new ≡ places_on side 0 rows.now }
 {
     let mut count = 0;
-    let mut i = 0;
-    while i < rows.len() {
-        let x = declaration_at(rows, i);
-        if is_on(x, side) {
+    for (i, x) in rows.iter().enumerate() {
+        if is_on(*x, side) {
             places[count] = i;
             count += 1;
         }
-        i += 1;
     }
     count
 }
@@ -56,8 +42,8 @@ fn gather_sorted(rows: &[Declaration], side: u64, places: &mut [usize], room: &m
     ensures upper_bound { result ≤ length places.old }
     ensures sorted { Sorted (class_at rows.now) (places_on side 0 rows.now) (take result places.new) }
 {
-    let count = gather(rows, side, &mut *places);
-    sort_places(rows, &mut places[..count], &mut *room);
+    let count = gather(rows, side, places);
+    sort_places(rows, &mut places[..count], room);
     count
 }
 
@@ -68,10 +54,8 @@ fn join(rows: &[Declaration], partner: &mut [u64], p: usize, q: usize)
     requires partner_len { length partner.old ≡ length rows.now }
     ensures { partner.new ≡ set (set partner.old p (at rows.now q).number) q (at rows.now p).number }
 {
-    let x = declaration_at(rows, p);
-    let y = declaration_at(rows, q);
-    partner[p] = y.number;
-    partner[q] = x.number;
+    partner[p] = rows[q].number;
+    partner[q] = rows[p].number;
 }
 
 // One walk over both sides: of two classes the earlier one is passed by, and two of the same class are each other's partner.
@@ -83,10 +67,7 @@ fn pair_up(rows: &[Declaration], buyers: &[usize], sellers: &[usize], partner: &
 {
     let mut i = 0;
     let mut j = 0;
-    while i < buyers.len() {
-        if sellers.len() <= j {
-            return;
-        }
+    while i < buyers.len() && j < sellers.len() {
         let p = buyers[i];
         let q = sellers[j];
         if before(rows, p, q) {
@@ -94,7 +75,7 @@ fn pair_up(rows: &[Declaration], buyers: &[usize], sellers: &[usize], partner: &
         } else if before(rows, q, p) {
             j += 1;
         } else {
-            join(rows, &mut *partner, p, q);
+            join(rows, partner, p, q);
             i += 1;
             j += 1;
         }
@@ -117,10 +98,10 @@ fn find_with(
     requires sellers_in_bounds { length sellers.old ≤ length room.old }
     ensures { partner.new ≡ partners rows.now }
 {
-    let buying = gather_sorted(rows, 0, &mut *buyers, &mut *room);
-    let selling = gather_sorted(rows, 1, &mut *sellers, &mut *room);
-    no_partners(&mut *partner);
-    pair_up(rows, &buyers[..buying], &sellers[..selling], &mut *partner);
+    let buying = gather_sorted(rows, 0, buyers, room);
+    let selling = gather_sorted(rows, 1, sellers, room);
+    partner.fill(0);
+    pair_up(rows, &buyers[..buying], &sellers[..selling], partner);
 }
 
 // Places for the largest list, in a function of its own, so that no proof looks into its numbers.
@@ -137,11 +118,5 @@ pub fn find_partners(rows: &[Declaration], partner: &mut [u64])
     let mut buyers = places_room();
     let mut sellers = places_room();
     let mut room = places_room();
-    find_with(
-        rows,
-        &mut *partner,
-        &mut buyers[..],
-        &mut sellers[..],
-        &mut room[..],
-    );
+    find_with(rows, partner, &mut buyers, &mut sellers, &mut room);
 }

@@ -1,7 +1,7 @@
 -- `partners::find_partners` meets its contract: each room has a place for the longest list. Assumes nothing.
 use Prim.Native.Nat.{◌≤◌}
 use native.Mathlib.Omega.{arith}
-use lib.ListN.{length, length-map}
+use lib.ListN.{length}
 use Rattle.partners.proofs.find_partners.Goals as goal
 
 pub find_with-requires : goal.find_with-requires

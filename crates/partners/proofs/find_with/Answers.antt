@@ -1,8 +1,6 @@
 -- `partners::find_with` meets its contract. Assumes nothing.
-use Prim.Native.Nat.{ℕ}
-use mathlib.Core.Path.{sym, ap, ◌∙◌}
+use mathlib.Core.Path.{sym}
 use native.Mathlib.Omega.{arith}
-use lib.ListN.{replicate}
 use lib.Seq.{length-take-le}
 use Rattle.partners.proofs.find_with.Goals as goal
 
@@ -16,6 +14,6 @@ slice_bounds-pair_up-end-4 c =
     let g = c.gather_sorted-selling in
     sym (length-take-le _ g.new.places (omega (arith, g.ensures.upper_bound, g.auto.places)))
 
-pub pair_up-requires : goal.pair_up-requires
-pair_up-requires c =
-    record { declared = c.requires.declared; both_sorted = record { buying = c.gather_sorted-buying.ensures.sorted; selling = c.gather_sorted-selling.ensures.sorted }; partner_value = c.no_partners.ensures ∙ ap (λ (k : ℕ). replicate k 0) c.requires.partner_len }
+pub pair_up-requires-clause-both_sorted : goal.pair_up-requires-clause-both_sorted
+pair_up-requires-clause-both_sorted c =
+    record { buying = c.gather_sorted-buying.ensures.sorted; selling = c.gather_sorted-selling.ensures.sorted }

@@ -1,7 +1,9 @@
 -- `partners::gather` meets its contract: place by place, what is gathered and what is left stay the whole. Assumes nothing.
 use Prim.Native.Nat.{◌<◌}
 use native.Mathlib.Omega.{arith}
-use lib.ListN.{length, length-map}
+use lib.ListN.{length}
+use Rattle.std.proofs.lemmas.List.{get_or_default}
+use Rattle.model.specs.Blocks.{undeclared}
 use Rattle.partners.proofs.Gathering.{gathering_start, gathering_on, gathering_off, gathering_end}
 use borrow.Author.Rules.{rules}
 use Rattle.partners.proofs.gather.Goals as goal
@@ -31,9 +33,9 @@ loop-i-preserved c =
     let h = c.loop-i-test.true in
     elim c.if-is_on.branch [
       | then-is_on w ↦
-          gathering_on _ c.args.rows.now _ _ _ _ l.invariant h c.declaration_at-x.ensures c.is_on.ensures c.requires w.if-is_on.true w.places-is w.count-is
+          gathering_on _ c.args.rows.now _ _ _ _ l.invariant h (get_or_default _ _ _ undeclared c.loop-i-test.true) c.is_on.ensures c.requires w.if-is_on.true w.places-is w.count-is
       | else-is_on w ↦
-          gathering_off _ c.args.rows.now _ _ _ _ l.invariant h c.declaration_at-x.ensures c.is_on.ensures w.if-is_on.false w.places-is w.count-is
+          gathering_off _ c.args.rows.now _ _ _ _ l.invariant h (get_or_default _ _ _ undeclared c.loop-i-test.true) c.is_on.ensures w.if-is_on.false w.places-is w.count-is
     ]
 
 pub shape_of-places : goal.shape_of-places
