@@ -1,60 +1,33 @@
 -- A walk to the earliest declaration that fits, and what is met there.
 use Prim.Native.Nat.{ℕ, suc, ◌+◌, ◌≤◌, ◌<◌}
-use mathlib.Core.Path.{◌≡◌, refl, sym, ap, ◌∙◌}
-use mathlib.Core.Bool.{Bool, true, false, cond}
+use mathlib.Core.Path.{◌≡◌, refl}
+use mathlib.Core.Bool.{Bool, true, false, cond, not}
 use mathlib.Core.List.{List, [], ◌∷◌}
 use native.Mathlib.Omega.{arith}
-use native.Mathlib.Numerals.{add-one}
-use lib.ListN.{length, get_or, drop, drop_of_length-le}
-use lib.Seq.{drop-cons}
+use native.Mathlib.Decide.{dec_lt}
+use borrow.Author.Tests.{lt-ltb, le-ltb}
+use lib.Dec.{ltb}
+use Rattle.std.specs.Prelude.{Option, Some, None, MatchOption}
+use Rattle.std.specs.List.{position, position_or_len}
+use lib.ListN.{length, get_or}
 use Rattle.model.specs.declared.Declaration.{Declaration}
 use Rattle.model.specs.Blocks.{undeclared, fits}
 use Rattle.model.specs.Words.{Each}
 use Rattle.held.specs.Meeting.{earliest, joining, meeting}
 
 module _ (x : Declaration) where
-  earliest_here : (y : Declaration) (ys : List Declaration) → fits x y ≡ true → earliest x (y ∷ ys) ≡ 0
+  -- the first place whose declaration fits
+  first_place : (held : List Declaration) → position_or_len (fits x) held ≡ earliest x held
   unfolding earliest
-  earliest_here y ys e = rw e
-
-  earliest_later : (y : Declaration) (ys : List Declaration) → fits x y ≡ false → earliest x (y ∷ ys) ≡ suc (earliest x ys)
-  unfolding earliest
-  earliest_later y ys e = rw e
-
-  -- i places have been passed
-  pub record Passed (held : List Declaration) (i : ℕ) : Type 0 where
-    pub short : i ≤ length held
-    pub same : i + earliest x (drop i held) ≡ earliest x held
-
-  pub passed_none : (held : List Declaration) → Passed held 0
-  passed_none held = record { short = omega arith; same = omega arith }
-
-  module _ (held : List Declaration) {i : ℕ} (w : Passed held i) where
-    module _ {y : Declaration} (h : i < length held) (e : y ≡ get_or held i undeclared) where
-      here : drop i held ≡ y ∷ drop (suc i) held
-      here = drop-cons held i undeclared h ∙ ap (λ (z : Declaration). z ∷ drop (suc i) held) (sym e)
-
-      pub found_place : fits x y ≡ true → i ≡ earliest x held
-      found_place t = omega (arith, ap (earliest x) here, earliest_here y (drop (suc i) held) t, w.same)
-
-      pub passed_more : fits x y ≡ false → Passed held (i + 1)
-      passed_more t =
-          let next : drop (i + 1) held ≡ drop (suc i) held = ap (λ (n : ℕ). drop n held) (add-one i) in
-          record {
-            short = omega arith;
-            same =
-                omega (
-                  arith,
-                  ap (earliest x) here,
-                  earliest_later y (drop (suc i) held) t,
-                  ap (earliest x) next,
-                  w.same,
-                );
-          }
-
-    pub passed_all : length held ≤ i → i ≡ earliest x held
-    unfolding earliest
-    passed_all h = omega (arith, ap (earliest x) (drop_of_length-le held {i = i} h), w.same)
+  first_place [] = refl
+  first_place (y ∷ ys) = go (fits x y) (first_place ys)
+    where
+      go :
+          (b : Bool)
+          → position_or_len (fits x) ys ≡ earliest x ys
+          → cond (not b) (1 + position_or_len (fits x) ys) 0 ≡ cond b 0 (suc (earliest x ys))
+      go true e = refl
+      go false e = omega arith
 
   -- ---- what is met
 
@@ -66,6 +39,19 @@ module _ (x : Declaration) where
       go : (b : Bool) → earliest x ys ≤ length ys → cond b 0 (suc (earliest x ys)) ≤ suc (length ys)
       go true h = omega arith
       go false h = omega arith
+
+  pub found_place :
+      (held : List Declaration) {r : Option ℕ}
+      → r ≡ position (fits x) held
+      → MatchOption r (earliest x held ≡ length held) (λ place. (place < length held) × (place ≡ earliest x held))
+  found_place held {r} e = rw (e, first_place held) (go (dec_lt (earliest x held) (length held)))
+    where
+      go :
+          Dec (earliest x held < length held)
+          → MatchOption (cond (ltb (earliest x held) (length held)) (Some (earliest x held)) None) (earliest x held ≡ length held)
+          (λ place. (place < length held) × (place ≡ earliest x held))
+      go (yes h) = rw (lt-ltb (earliest x held) (length held) h) (h, refl)
+      go (no h) = rw (le-ltb (earliest x held) (length held) (omega arith)) (omega (arith, earliest_bound held))
 
   -- the one that is found fits
   pub earliest_fits :

@@ -37,10 +37,6 @@ none_declared x e =
     rw
     (eqb-true x.side 0 (and_left _ _ e2), eqb-true x.account 0 (and_right (eqb x.side 0) _ e2), eqb-true x.counter 0 (and_right (eqb x.side 0 && eqb x.account 0) _ e3), eqb-true x.quantity 0 (and_right (eqb x.side 0 && eqb x.account 0 && eqb x.counter 0) _ e4), eqb-true x.price 0 (and_right (eqb x.side 0 && eqb x.account 0 && eqb x.counter 0 && eqb x.quantity 0) _ e5), eqb-true x.agreement 0 (and_right (eqb x.side 0 && eqb x.account 0 && eqb x.counter 0 && eqb x.quantity 0 && eqb x.price 0) _ e6), eqb-true x.number 0 (and_right (eqb x.side 0 && eqb x.account 0 && eqb x.counter 0 && eqb x.quantity 0 && eqb x.price 0 && eqb x.agreement 0) _ e))
 
-pub undeclared_formed : (d : Day) → is_formed d undeclared ≡ true
-unfolding is_undeclared undeclared
-undeclared_formed d = refl
-
 -- a declaration, test by test
 pub record Tested (d : Day) (x : Declaration) : Type 0 where
   pub side : leb x.side 1 ≡ true

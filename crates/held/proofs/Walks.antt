@@ -1,40 +1,19 @@
--- Walks along a list, with a test at each place: of the place alone, and of each place beside the next. What is told so far leaves
--- the question to the rest.
+-- Walks along a list, with a test of each place beside the next: what is told so far leaves the question to the rest. And tests
+-- that all places pass.
 use Prim.Native.Nat.{ℕ, suc, ◌+◌, ◌-◌, ◌≤◌, ◌<◌}
 use mathlib.Core.Path.{◌≡◌, refl, sym, ap, ◌∙◌}
 use mathlib.Core.Bool.{Bool, true, false, ◌&&◌}
 use mathlib.Core.List.{List, [], ◌∷◌}
 use native.Mathlib.Omega.{arith}
-use native.Mathlib.Numerals.{add-one}
-use lib.ListN.{length, get_or, drop, length-drop, drop_of_length-le}
+use lib.ListN.{length, get_or, drop, length-drop}
 use lib.Seq.{drop-cons}
+use Rattle.std.specs.List.{list_all}
 use Rattle.model.specs.Lists.{all}
 use Rattle.model.specs.Arrival.{may_arrive, in_arrival}
 use Rattle.model.specs.Words.{Each}
 use Rattle.model.proofs.Bools.{and_left, and_right}
 
 module _ {A : Type 0} (none : A) (xs : List A) where
-  -- ---- whether all pass a test
-
-  module _ (p : A → Bool) {i : ℕ} (w : all p xs ≡ all p (drop i xs)) where
-    module _ {x : A} (inside : i < length xs) (e : x ≡ get_or xs i none) where
-      here : all p xs ≡ (p x && all p (drop (i + 1) xs))
-      unfolding all
-      here =
-          w
-          ∙ ap (all p) (drop-cons xs i none inside)
-          ∙ rw (sym e, add-one i)
-
-      pub all_fails : p x ≡ false → false ≡ all p xs
-      all_fails f = sym (here ∙ rw f)
-
-      pub all_next : p x ≡ true → all p xs ≡ all p (drop (i + 1) xs)
-      all_next f = here ∙ rw f
-
-    pub all_ends : length xs ≤ i → true ≡ all p xs
-    unfolding all
-    all_ends h = sym (w ∙ ap (all p) (drop_of_length-le xs {i = i} h))
-
   -- ---- whether each place may be followed by the next
 
   module _ (number : A → ℕ) where
@@ -85,6 +64,12 @@ module _ {A : Type 0} (none : A) (xs : List A) where
           alone (y ∷ z ∷ ys) l = absurd (omega arith)
 
 -- ---- what all pass, each does
+
+-- the library's word for it
+pub all_is : {A : Type 0} (p : A → Bool) (xs : List A) → list_all p xs ≡ all p xs
+unfolding all
+all_is p [] = refl
+all_is p (x ∷ xs) = ap (λ (b : Bool). p x && b) (all_is p xs)
 
 module _ {A : Type 0} (p : A → Bool) where
   pub all_each : (xs : List A) → all p xs ≡ true → Each (λ x. p x ≡ true) xs

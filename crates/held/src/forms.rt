@@ -5,7 +5,6 @@ ghost use Rattle.model.specs.Limits.{is_price};
 ghost use Rattle.model.specs.Blocks.{is_block};
 ghost use Rattle.model.specs.SoundBlocks.{is_undeclared, is_declaration};
 
-use declarations::declaration_at;
 use limits::{in_band, is_price};
 use model::{Day, Declaration};
 
@@ -22,68 +21,43 @@ pub fn is_block(price: u64, quantity: u64) -> bool
     requires { is_price price ≡ true }
     ensures { result ≡ is_block price quantity }
 {
-    if quantity > MOST_OF_A_BLOCK {
-        return false;
-    }
-    LEAST_SHARES <= quantity || LEAST_MONEY <= price * quantity
+    quantity <= MOST_OF_A_BLOCK && (LEAST_SHARES <= quantity || LEAST_MONEY <= price * quantity)
 }
 
 // All zeros.
+#[tactic(auto, unfolding(model::specs::SoundBlocks::is_undeclared))]
 fn is_undeclared(x: Declaration) -> bool
     ensures { result ≡ is_undeclared x }
 {
-    if x.side != 0 {
-        return false;
-    }
-    if x.account != 0 {
-        return false;
-    }
-    if x.counter != 0 {
-        return false;
-    }
-    if x.quantity != 0 {
-        return false;
-    }
-    if x.price != 0 {
-        return false;
-    }
-    if x.agreement != 0 {
-        return false;
-    }
-    x.number == 0
+    x.side == 0
+        && x.account == 0
+        && x.counter == 0
+        && x.quantity == 0
+        && x.price == 0
+        && x.agreement == 0
+        && x.number == 0
 }
 
 // A side, and two accounts.
 fn names_parties(x: Declaration) -> bool
     ensures { result ≡ (leb x.side 1 && not (eqb x.account 0) && not (eqb x.counter 0)) }
 {
-    if x.side > 1 {
-        return false;
-    }
-    x.account != 0 && x.counter != 0
+    x.side <= 1 && x.account != 0 && x.counter != 0
 }
 
 // Parties, on a limited day a price in the band, the size of a block, and a number among those issued.
+#[tactic(auto, using(crate::proofs::Sizes::band_only), unfolding(model::specs::SoundBlocks::is_declaration))]
 fn is_declaration(d: Day, x: Declaration) -> bool
     requires { is_price d.close ≡ true }
     ensures { result ≡ is_declaration d x }
 {
-    if !names_parties(x) {
-        return false;
-    }
-    if d.limited != 1 {
-        return false;
-    }
-    if !is_price(x.price) {
-        return false;
-    }
-    if !is_block(x.price, x.quantity) {
-        return false;
-    }
-    if !in_band(d.close, x.price) {
-        return false;
-    }
-    1 <= x.number && x.number <= d.blocks.issued
+    names_parties(x)
+        && d.limited == 1
+        && is_price(x.price)
+        && is_block(x.price, x.quantity)
+        && in_band(d.close, x.price)
+        && 1 <= x.number
+        && x.number <= d.blocks.issued
 }
 
 fn is_formed(d: Day, x: Declaration) -> bool
@@ -98,12 +72,5 @@ pub fn all_formed(d: Day, rows: &[Declaration]) -> bool
     requires { is_price d.close ≡ true }
     ensures { result ≡ all (λ x. is_undeclared x || is_declaration d x) rows.now }
 {
-    let mut i = 0;
-    while i < rows.len() {
-        if !is_formed(d, declaration_at(rows, i)) {
-            return false;
-        }
-        i += 1;
-    }
-    true
+    rows.iter().all(|x| is_formed(d, *x))
 }

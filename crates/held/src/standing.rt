@@ -5,16 +5,17 @@ ghost use Rattle.model.specs.Arrival.{may_arrive, in_arrival};
 ghost use Rattle.model.specs.Sound.{has_places, between};
 ghost use Rattle.model.specs.Blocks.{is_held};
 
-use declarations::declaration_at;
 use model::{Declaration, MOST_PLACES};
 
 // 1 to 4,096 places.
+#[tactic(auto, unfolding(model::specs::Sound::has_places))]
 pub fn has_places(rows: &[Declaration]) -> bool
     ensures { result ≡ has_places rows.now }
 {
     1 <= rows.len() && rows.len() <= MOST_PLACES
 }
 
+#[tactic(auto, unfolding(model::specs::Blocks::is_held, model::specs::Arrival::is_taken))]
 pub fn is_held(x: Declaration) -> bool
     ensures { result ≡ is_held x }
 {
@@ -22,32 +23,26 @@ pub fn is_held(x: Declaration) -> bool
 }
 
 // Whether the place y may stand right behind the place x.
+#[tactic(auto, unfolding(model::specs::Arrival::may_arrive, model::specs::Blocks::is_held))]
 fn may_arrive(x: Declaration, y: Declaration) -> bool
     ensures { result ≡ may_arrive (λ z. z.number) x y }
 {
-    if !is_held(y) {
-        return true;
-    }
-    if !is_held(x) {
-        return false;
-    }
-    x.number < y.number
+    !is_held(y) || (is_held(x) && x.number < y.number)
 }
 
 // Each place may be followed by the next one.
 pub fn is_in_arrival(rows: &[Declaration]) -> bool
     ensures { result ≡ in_arrival (λ x. x.number) rows.now }
 {
-    let mut i = 1;
-    while i < rows.len() {
-        if !may_arrive(declaration_at(rows, i - 1), declaration_at(rows, i)) {
+    for i in 1..rows.len() {
+        if !may_arrive(rows[i - 1], rows[i]) {
             return false;
         }
-        i += 1;
     }
     true
 }
 
+#[tactic(auto, unfolding(model::specs::Sound::between))]
 fn is_between(least: u64, most: u64, n: u64) -> bool
     ensures { result ≡ between least most n }
 {
@@ -60,8 +55,5 @@ pub fn fits_hours(time: u64, rows: &[Declaration]) -> bool
     requires rows_value { in_arrival (λ x. x.number) rows.now ≡ true }
     ensures { result ≡ (between 33_300 55_799 time || not (any is_held rows.now)) }
 {
-    if is_between(33_300, 55_799, time) {
-        return true;
-    }
-    !is_held(declaration_at(rows, 0))
+    is_between(33_300, 55_799, time) || !is_held(rows[0])
 }

@@ -1,26 +1,17 @@
--- The places passed so far are taken.
-use mathlib.Core.Path.{sym, ◌∙◌}
-use native.Mathlib.Omega.{arith}
-use lib.ListN.{length-map}
-use borrow.Author.Tests.{not-true, not-false}
-use Rattle.arrivals.proofs.Lines.{in_line}
-use Rattle.held.proofs.Holding.{number_of, held_past, held_here, held_all}
+-- The declarations from the front on up to the first free place.
+use mathlib.Core.Path.{◌∙◌}
+use borrow.Author.Rules.{rules}
+use borrow.Author.Tests.{tests}
+use Rattle.std.proofs.lemmas.Iterator.{YieldsList-from_slice}
+use Rattle.std.proofs.lemmas.Iterator.Consumers.{count_from_yields_List}
+use Rattle.std.proofs.lemmas.Iterator.Search.{YieldsList-from_take_while}
+use Rattle.model.specs.Blocks.{is_held}
+use Rattle.held.proofs.Holding.{held_first}
 use Rattle.held.proofs.entering.count_held.Goals as goal
-
-pub returns-then-not-is_held : goal.returns-then-not-is_held
-returns-then-not-is_held c =
-    let rows = c.args.rows.now in
-    held_here rows (in_line number_of _ c.requires.arrived) _ c.loop-i.invariant
-    (c.declaration_at.ensures) (sym c.is_held.ensures ∙ not-true _ c.if-not-is_held.true-raw)
-
-pub loop-i-preserved : goal.loop-i-preserved
-loop-i-preserved c =
-    let rows = c.args.rows.now in
-    held_past rows (in_line number_of _ c.requires.arrived) _ c.loop-i.invariant
-    (c.declaration_at.ensures) (sym c.is_held.ensures ∙ not-false _ c.if-not-is_held.false-raw)
 
 pub returns : goal.returns
 returns c =
-    let rows = c.args.rows.now in
-    held_all rows (in_line number_of _ c.requires.arrived) _ c.loop-i.invariant
-    (omega (arith, c.loop-i-test.false))
+    let t = c.take_while.ensures in
+    count_from_yields_List _ c.count.result c.count.ensures.ran
+    (YieldsList-from_take_while _ is_held (YieldsList-from_slice c.args.rows.now cc) t.closure t.done (λ x b q k. search (rules, tests)))
+    ∙ held_first c.args.rows.now c.requires.arrived

@@ -1,30 +1,13 @@
--- A walk from the first place on.
-use Prim.Native.Nat.{◌≤◌}
-use mathlib.Core.Path.{sym, ◌∙◌}
-use native.Mathlib.Omega.{arith}
-use lib.ListN.{length, length-map}
-use Rattle.held.proofs.Earliest.{passed_none, found_place, passed_more, passed_all}
+-- The first place whose declaration fits, or none.
+use borrow.Author.Rules.{rules}
+use borrow.Author.Tests.{tests}
+use Rattle.std.proofs.lemmas.Iterator.{YieldsList-from_slice}
+use Rattle.std.proofs.lemmas.Iterator.Search.{position_from_yields_List}
+use Rattle.model.specs.Blocks.{fits}
+use Rattle.held.proofs.Earliest.{found_place}
 use Rattle.held.proofs.entering.earliest_fit.Goals as goal
-
-pub loop-i-init : goal.loop-i-init
-loop-i-init c = passed_none _ _
-
-pub returns-then-fit : goal.returns-then-fit
-returns-then-fit c =
-    let a = c.args in
-    found_place a.x a.rows.now c.loop-i.invariant
-    (omega (arith, c.loop-i-test.true))
-    (c.declaration_at.ensures) (sym c.fit.ensures ∙ c.if-fit.true)
-
-pub loop-i-preserved : goal.loop-i-preserved
-loop-i-preserved c =
-    let a = c.args in
-    passed_more a.x a.rows.now c.loop-i.invariant
-    (omega (arith, c.loop-i-test.true))
-    (c.declaration_at.ensures) (sym c.fit.ensures ∙ c.if-fit.false)
 
 pub returns : goal.returns
 returns c =
-    let a = c.args in
-    let past : length a.rows.now ≤ c.loop-i.i = omega (arith, c.loop-i-test.false) in
-    passed_all a.x a.rows.now c.loop-i.invariant past
+    found_place c.args.x c.args.rows.now
+    (position_from_yields_List (fits c.args.x) _ _ c.position.result c.position.ensures.ran (YieldsList-from_slice c.args.rows.now cc) (λ y b q k. search (rules, tests)))

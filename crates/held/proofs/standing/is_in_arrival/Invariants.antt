@@ -1,6 +1,4 @@
 -- Those passed so far are in order of arrival; the rest is still to be told.
-use Prim.Native.Nat.{◌-◌}
-use lib.ListN.{length}
 use Rattle.model.specs.declared.Declaration.{Declaration}
 use Rattle.model.specs.Blocks.{undeclared}
 use Rattle.held.proofs.Walks.{Arrived}
@@ -8,6 +6,3 @@ use Rattle.held.proofs.standing.is_in_arrival.Given as goal
 
 abbrev pub invariant-loop-i : goal.invariant-loop-i
 invariant-loop-i l = Arrived undeclared l.rows (λ (x : Declaration). x.number) l.i
-
-abbrev pub decreases-loop-i : goal.decreases-loop-i
-decreases-loop-i l = length l.rows - l.i
