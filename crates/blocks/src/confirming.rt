@@ -7,7 +7,7 @@ ghost use Rattle.partners.specs.Partners.{agreed, alone};
 ghost use Rattle.blocks.specs.Confirming.{place_trades, Added, Stayed, followed};
 
 use book::{Dealt, put_trade};
-use declarations::{declaration_at, free_rest, put_declaration};
+use declarations::free_rest;
 use model::{Declaration, Trade};
 
 // A buyer that has a partner is confirmed with it: the trade stands behind those so far.
@@ -16,13 +16,7 @@ fn confirm_place(trades: &mut [Trade], sofar: Dealt, x: Declaration, partner: u6
     requires quantity_bound { sofar.shares + x.quantity < 2 ^ 64 }
     ensures { Added sofar (place_trades x partner) trades.old result trades.new }
 {
-    if x.number == 0 {
-        return sofar;
-    }
-    if x.side != 0 {
-        return sofar;
-    }
-    if partner == 0 {
+    if x.number == 0 || x.side != 0 || partner == 0 {
         return sofar;
     }
     let trade = Trade {
@@ -33,7 +27,7 @@ fn confirm_place(trades: &mut [Trade], sofar: Dealt, x: Declaration, partner: u6
         buyerleft: 0,
         sellerleft: 0,
     };
-    put_trade(&mut *trades, sofar.made, trade);
+    put_trade(trades, sofar.made, trade);
     Dealt {
         made: sofar.made + 1,
         shares: sofar.shares + x.quantity,
@@ -48,12 +42,8 @@ pub fn write_confirmed(rows: &[Declaration], trades: &mut [Trade], partner: &[u6
     ensures trades_after { trades.new ≡ fitted (agreed rows.now partner.now) trades.old }
 {
     let mut sofar = Dealt { made: 0, shares: 0 };
-    let mut i = 0;
-    while i < rows.len() {
-        let x = declaration_at(rows, i);
-        let p = partner[i];
-        sofar = confirm_place(&mut *trades, sofar, x, p);
-        i += 1;
+    for (i, x) in rows.iter().enumerate() {
+        sofar = confirm_place(trades, sofar, *x, partner[i]);
     }
     sofar
 }
@@ -63,11 +53,12 @@ fn stay_place(rows: &mut [Declaration], kept: usize, x: Declaration, partner: u6
     requires { kept < length rows.old }
     ensures { Stayed x partner kept rows.old result rows.new }
 {
-    if partner != 0 {
-        return kept;
+    if partner == 0 {
+        rows[kept] = x;
+        kept + 1
+    } else {
+        kept
     }
-    put_declaration(&mut *rows, kept, x);
-    kept + 1
 }
 
 // Those without a partner close up, and free places follow.
@@ -76,12 +67,9 @@ pub fn close_up(rows: &mut [Declaration], partner: &[u64])
     ensures { rows.new ≡ followed (length rows.old) (alone rows.old partner.now) }
 {
     let mut kept = 0;
-    let mut i = 0;
-    while i < rows.len() {
-        let x = declaration_at(rows, i);
-        let p = partner[i];
-        kept = stay_place(&mut *rows, kept, x, p);
-        i += 1;
+    for (i, p) in partner.iter().enumerate() {
+        let x = rows[i];
+        kept = stay_place(rows, kept, x, *p);
     }
-    free_rest(&mut *rows, kept);
+    free_rest(rows, kept);
 }

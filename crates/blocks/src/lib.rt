@@ -35,7 +35,7 @@ fn count_with(rows: &[Declaration], partner: &mut [u64]) -> usize
     requires partner_len { length partner.old ≡ length rows.now }
     ensures { result ≡ length (confirmations rows.now) }
 {
-    find_partners(rows, &mut *partner);
+    find_partners(rows, partner);
     let found = write_confirmed(rows, &mut [], partner);
     found.made
 }
@@ -51,27 +51,17 @@ pub fn count_confirmed(rows: &[Declaration]) -> usize
 }
 
 // Whether there are 1 to 4,096 places, and the declarations at them are sound.
+#[tactic(auto, using(held::proofs::Formed::declared, held::proofs::Formed::some_places, crate::proofs::Confirmed::none_due), unfolding(model::specs::SoundBlocks::sound_blocks, model::specs::Clock::confirming_from))]
 pub fn blocks_sound(d: Day, rows: &[Declaration]) -> bool
     requires close_value { is_price d.close ≡ true }
     requires d_value { blocks_fit d ≡ true }
     ensures { result ≡ (has_places rows.now && sound_blocks d rows.now) }
 {
-    if !has_places(rows) {
-        return false;
-    }
-    if !all_formed(d, rows) {
-        return false;
-    }
-    if !is_in_arrival(rows) {
-        return false;
-    }
-    if !fits_hours(d.time, rows) {
-        return false;
-    }
-    if d.time < CONFIRMING_FROM {
-        return true;
-    }
-    count_confirmed(rows) == 0
+    has_places(rows)
+        && all_formed(d, rows)
+        && is_in_arrival(rows)
+        && fits_hours(d.time, rows)
+        && (d.time < CONFIRMING_FROM || count_confirmed(rows) == 0)
 }
 
 // The trades are written, and those confirmed leave at once.
@@ -82,9 +72,9 @@ fn confirm_with(rows: &mut [Declaration], trades: &mut [Trade], partner: &mut [u
     ensures trades_after { trades.new ≡ fitted (confirmations rows.old) trades.old }
     ensures rows_after { rows.new ≡ held_in (length rows.old) (unnamed (confirmations rows.old) rows.old) }
 {
-    find_partners(rows, &mut *partner);
-    let found = write_confirmed(rows, &mut *trades, partner);
-    close_up(&mut *rows, partner);
+    find_partners(rows, partner);
+    let found = write_confirmed(rows, trades, partner);
+    close_up(rows, partner);
     found
 }
 
@@ -97,19 +87,20 @@ pub fn confirm_all(rows: &mut [Declaration], trades: &mut [Trade]) -> Dealt
 {
     let n = rows.len();
     let mut partner = partner_room();
-    confirm_with(&mut *rows, &mut *trades, &mut partner[..n])
+    confirm_with(rows, trades, &mut partner[..n])
 }
 
 // Confirmed shares are kept in a field of their own.
+#[tactic(auto, unfolding(model::specs::Figures::tally_blocks, model::specs::Figures::with_block_figures))]
 pub fn tally_blocks(d: Day, shares: u64) -> Day
     requires { d.blocks.shares + shares < 2 ^ 64 }
     ensures { (ts : List Trade) → filled ts ≡ shares → result ≡ tally_blocks ts d }
 {
-    let mut tallied = d;
-    let blocks = Blocks {
-        issued: d.blocks.issued,
-        shares: d.blocks.shares + shares,
-    };
-    tallied.blocks = blocks;
-    tallied
+    Day {
+        blocks: Blocks {
+            shares: d.blocks.shares + shares,
+            ..d.blocks
+        },
+        ..d
+    }
 }

@@ -2,7 +2,7 @@
 use Prim.Native.Nat.{◌≤◌}
 use mathlib.Core.Path.{sym}
 use native.Mathlib.Omega.{arith}
-use lib.ListN.{length, length-map}
+use lib.ListN.{length}
 use lib.Seq.{length-take-le}
 use Rattle.blocks.proofs.count_confirmed.Goals as goal
 use Rattle.blocks.proofs.count_confirmed.Goals.{Start}

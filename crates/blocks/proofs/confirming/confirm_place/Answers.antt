@@ -2,15 +2,15 @@
 use Rattle.partners.specs.Partners.{confirmed_with}
 use Rattle.blocks.proofs.Dealing.{free_adds_none, seller_adds_none, alone_adds_none, buyer_adds}
 use Rattle.blocks.proofs.confirming.confirm_place.Goals as goal
+use Rattle.blocks.proofs.confirming.confirm_place.Goals.{then-x-eq0-via-then-x-eq0, then-x-eq0-via-else-x-eq0+then-x-ne0, then-x-eq0-via-else-x-eq0+else-x-ne0+then-partner-eq0}
 
 pub returns-then-x-eq0 : goal.returns-then-x-eq0
-returns-then-x-eq0 c = free_adds_none _ _ _ _ c.if-x-eq0.true
-
-pub returns-then-x-ne0 : goal.returns-then-x-ne0
-returns-then-x-ne0 c = seller_adds_none _ _ _ _ c.if-x-ne0.true
-
-pub returns-then-partner-eq0 : goal.returns-then-partner-eq0
-returns-then-partner-eq0 c = alone_adds_none _ _ _ _ c.if-partner-eq0.true
+returns-then-x-eq0 c =
+    elim c.then-x-eq0.branch [
+      | then-x-eq0-via-then-x-eq0 w ↦ free_adds_none _ _ _ _ w.if-x-eq0.true
+      | then-x-eq0-via-else-x-eq0+then-x-ne0 w ↦ seller_adds_none _ _ _ _ w.if-x-ne0.true
+      | then-x-eq0-via-else-x-eq0+else-x-ne0+then-partner-eq0 w ↦ alone_adds_none _ _ _ _ w.if-partner-eq0.true
+    ]
 
 pub returns : goal.returns
 unfolding confirmed_with

@@ -1,11 +1,6 @@
 -- Place by place.
-use Prim.Native.Nat.{◌-◌}
-use lib.ListN.{length}
 use Rattle.blocks.proofs.Dealing.{Dealing}
 use Rattle.blocks.proofs.confirming.write_confirmed.Given as goal
 
 abbrev pub invariant-loop-i : goal.invariant-loop-i
 invariant-loop-i l = Dealing l.rows l.partner l.initial.trades l.trades l.sofar l.i
-
-abbrev pub decreases-loop-i : goal.decreases-loop-i
-decreases-loop-i l = length l.rows - l.i
