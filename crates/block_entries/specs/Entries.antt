@@ -11,7 +11,6 @@ use Rattle.model.specs.Blocks.{is_held}
 use Rattle.model.specs.Refusals.{first_of}
 use Rattle.held.specs.Meeting.{joining}
 use Rattle.block_entries.specs.Rules.{asked_rules}
-use Rattle.model.specs.Book.{free}
 
 unfoldable pub held_answer : Day → BlockAnswer
 held_answer d = record { reply = BlockReply.TheVariants.Held (next_block d); made = 0; day = issue_block d }

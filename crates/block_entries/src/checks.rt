@@ -10,13 +10,11 @@ use limits::{in_band, is_price};
 use model::{AskedBlock, DAY_END, Day};
 
 // 9:15 to 11:30 and 13:00 to 15:30.
+#[tactic(auto, unfolding(model::specs::Clock::long_hours))]
 fn is_long_hours(time: u64) -> bool
     ensures { result ≡ long_hours time }
 {
-    if time < 41_400 {
-        return 33_300 <= time;
-    }
-    46_800 <= time && time < DAY_END
+    (33_300 <= time && time < 41_400) || (46_800 <= time && time < DAY_END)
 }
 
 fn lacks_account(a: AskedBlock) -> bool

@@ -9,7 +9,6 @@ ghost use Rattle.model.specs.Book.{free};
 
 use blocks::tally_blocks;
 use book::put_trade;
-use declarations::{declaration_at, put_declaration};
 use held::entering::take_out;
 use model::{AskedBlock, BlockAnswer, BlockReply, Blocks, Day, Declaration, Trade};
 
@@ -24,6 +23,7 @@ pub fn block_refused(d: Day, n: u64) -> BlockAnswer
 }
 
 // What is asked, under the next number.
+#[tactic(auto, unfolding(held::specs::Meeting::asking, model::specs::Figures::next_block))]
 pub fn declaration_of(d: Day, a: AskedBlock) -> Declaration
     requires { d.blocks.issued ≤ 999_999 }
     ensures { result ≡ asking d a }
@@ -40,17 +40,18 @@ pub fn declaration_of(d: Day, a: AskedBlock) -> Declaration
 }
 
 // One declaration number more is issued.
+#[tactic(auto, unfolding(model::specs::Figures::issue_block, model::specs::Figures::with_block_figures, model::specs::Figures::next_block))]
 fn issued_one(d: Day) -> Day
     requires { d.blocks.issued ≤ 999_999 }
     ensures { result ≡ issue_block d }
 {
-    let mut issued = d;
-    let blocks = Blocks {
-        issued: d.blocks.issued + 1,
-        shares: d.blocks.shares,
-    };
-    issued.blocks = blocks;
-    issued
+    Day {
+        blocks: Blocks {
+            issued: d.blocks.issued + 1,
+            ..d.blocks
+        },
+        ..d
+    }
 }
 
 // It stands at the first free place.
@@ -60,7 +61,7 @@ pub fn hold(d: Day, rows: &mut [Declaration], free: usize, x: Declaration) -> Bl
     ensures value { result ≡ held_answer d }
     ensures rows_after { rows.new ≡ set rows.old free x }
 {
-    put_declaration(&mut *rows, free, x);
+    rows[free] = x;
     let next = issued_one(d);
     BlockAnswer {
         reply: BlockReply::Held(next.blocks.issued),
@@ -70,6 +71,7 @@ pub fn hold(d: Day, rows: &mut [Declaration], free: usize, x: Declaration) -> Bl
 }
 
 // The confirmation of a buyer and a seller; nothing is left of either.
+#[tactic(auto, unfolding(model::specs::Blocks::confirmation))]
 fn confirmation_of(b: Declaration, s: Declaration) -> Trade
     ensures { result ≡ confirmation b s }
 {
@@ -84,6 +86,7 @@ fn confirmation_of(b: Declaration, s: Declaration) -> Trade
 }
 
 // The new one buys, or the other does.
+#[tactic(auto, unfolding(held::specs::Meeting::joining))]
 fn join(x: Declaration, y: Declaration) -> Trade
     ensures { result ≡ joining x y }
 {
@@ -109,9 +112,9 @@ pub fn confirm(
     ensures trades_after { trades.new ≡ set trades.old 0 (joining x (get_or rows.old place undeclared)) }
     ensures rows_after { rows.new ≡ take place rows.old ++ (drop (place + 1) rows.old ++ (undeclared ∷ [])) }
 {
-    let trade = join(x, declaration_at(rows, place));
-    put_trade(&mut *trades, 0, trade);
-    take_out(&mut *rows, place);
+    let trade = join(x, rows[place]);
+    put_trade(trades, 0, trade);
+    take_out(rows, place);
     let next = tally_blocks(issued_one(d), x.quantity);
     BlockAnswer {
         reply: BlockReply::Confirmed(next.blocks.issued),
