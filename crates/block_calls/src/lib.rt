@@ -38,10 +38,9 @@ fn enter(
     if d.time < CONFIRMING_FROM {
         return hold(d, &mut *rows, free, x);
     }
-    let place = earliest_fit(rows, x);
-    if rows.len() <= place {
+    let Some(place) = earliest_fit(rows, x) else {
         return hold(d, &mut *rows, free, x);
-    }
+    };
     // 13: the lent list has no place for its confirmation
     if trades.len() == 0 {
         return block_refused(d, 13);
