@@ -18,7 +18,8 @@ ghost use Rattle.declarations.specs.Declared.{Declared};
 use crate::confirming::{close_up, write_confirmed};
 use book::Dealt;
 use held::forms::all_formed;
-use held::standing::{fits_hours, has_places, is_in_arrival};
+use held::standing::{fits_hours, is_in_arrival};
+use limits::places::has_places;
 use model::{Blocks, CONFIRMING_FROM, Day, Declaration, MOST_PLACES, Trade};
 use partners::find_partners;
 

@@ -1,5 +1,5 @@
 -- How many declarations are held: in order of arrival they stand first, so it is the first free place.
-use Prim.Native.Nat.{ℕ, suc, ◌+◌, ◌≤◌, ◌<◌}
+use Prim.Native.Nat.{ℕ, suc, ◌≤◌, ◌<◌}
 use mathlib.Core.Path.{◌≡◌, refl, sym, ap, ◌∙◌}
 use mathlib.Core.Bool.{Bool, true, false, not, ◌||◌}
 use Rattle.std.specs.List.{take_while}
@@ -16,7 +16,7 @@ use Rattle.model.specs.Lists.{keep, all, any}
 use Rattle.model.specs.Blocks.{undeclared, is_held}
 use Rattle.model.specs.Words.{Each}
 use Rattle.book.proofs.Lists.{none_kept}
-use Rattle.arrivals.proofs.Lines.{InLine, taken_number, untaken_number, taken_before, before_taken, all_taken}
+use Rattle.arrivals.proofs.Lines.{InLine, taken_number, untaken_number, before_taken, all_taken}
 
 abbrev pub number_of : Declaration → ℕ
 number_of x = x.number

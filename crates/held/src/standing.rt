@@ -1,19 +1,12 @@
-// How the declarations stand: in 1 to 4,096 places, in order of arrival, free places last, and held only in a day's hours.
+// How the declarations stand: in order of arrival, free places last, and held only in a day's hours.
 ghost use Rattle.std.specs.Prelude.{◌≡◌, true, not, ◌||◌, ◌≤◌, length};
 ghost use Rattle.model.specs.Lists.{any};
 ghost use Rattle.model.specs.Arrival.{may_arrive, in_arrival};
-ghost use Rattle.model.specs.Sound.{has_places, between};
+ghost use Rattle.model.specs.Sound.{between};
 ghost use Rattle.model.specs.Blocks.{is_held};
 
-use model::{Declaration, MOST_PLACES};
-
-// 1 to 4,096 places.
-#[tactic(auto, unfolding(model::specs::Sound::has_places))]
-pub fn has_places(rows: &[Declaration]) -> bool
-    ensures { result ≡ has_places rows.now }
-{
-    1 <= rows.len() && rows.len() <= MOST_PLACES
-}
+use limits::places::is_between;
+use model::Declaration;
 
 #[tactic(auto, unfolding(model::specs::Blocks::is_held, model::specs::Arrival::is_taken))]
 pub fn is_held(x: Declaration) -> bool
@@ -40,13 +33,6 @@ pub fn is_in_arrival(rows: &[Declaration]) -> bool
         }
     }
     true
-}
-
-#[tactic(auto, unfolding(model::specs::Sound::between))]
-fn is_between(least: u64, most: u64, n: u64) -> bool
-    ensures { result ≡ between least most n }
-{
-    least <= n && n <= most
 }
 
 // None is held before 9:15 or from 15:30 on. In order of arrival one is held where the first place is taken.

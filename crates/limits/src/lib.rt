@@ -3,6 +3,8 @@
 // also keeps every product small.
 #![tactic(auto)]
 
+pub mod places;
+
 ghost use Rattle.std.specs.Prelude.{◌≡◌, ◌&&◌};
 ghost use Rattle.model.specs.Limits.{is_price, in_size, is_odd_lot, is_quantity, in_band, buy_in_range, sell_in_range, in_range};
 

@@ -5,7 +5,7 @@ use native.Mathlib.Omega.{arith}
 use Rattle.std.proofs.lemmas.List.{get_or_default}
 use borrow.Author.Tests.{not-true, not-false}
 use Rattle.model.specs.Blocks.{undeclared}
-use Rattle.held.proofs.Walks.{arrived_start, arrived_fails, arrived_next, arrived_ends}
+use Rattle.arrivals.proofs.Passing.{arrived_start, arrived_fails, arrived_next, arrived_ends}
 use Rattle.held.proofs.standing.is_in_arrival.Goals as goal
 
 pub loop-i-init : goal.loop-i-init
