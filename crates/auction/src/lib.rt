@@ -20,7 +20,7 @@ pub struct Interest {
     pub supply: u64,
 }
 
-// The prices that qualify are all from lo to hi; both are 0 where none does.
+// The prices that qualify are all from lo to hi; both are 0 where none does, as the definition `ends` has it.
 #[derive(Clone, Copy)]
 pub struct Span {
     pub lo: u64,
@@ -50,7 +50,8 @@ pub struct Tier {
     pub behind: usize,
 }
 
-// What an auction would come to: its price, the volume and the signed surplus there, zeros where no price stands.
+// What an auction would come to: its price, the volume and the signed surplus there, zeros where no price stands, as the definition
+// `fixing_at` has it.
 #[derive(Clone, Copy)]
 pub struct Fixing {
     pub price: u64,
@@ -58,7 +59,7 @@ pub struct Fixing {
     pub surplus: i64,
 }
 
-// Prices without a gap: the first, how many are written, and the next one due behind those, or 0.
+// Prices without a gap: the first, how many are written, and the next one due behind those, or 0, as the definition `run_within` has it.
 #[derive(Clone, Copy)]
 pub struct Run {
     pub first: u64,

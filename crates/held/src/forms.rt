@@ -24,7 +24,7 @@ pub fn is_block(price: u64, quantity: u64) -> bool
     quantity <= MOST_OF_A_BLOCK && (LEAST_SHARES <= quantity || LEAST_MONEY <= price * quantity)
 }
 
-// All zeros.
+// All zeros, test by test as the definition has them: the record has no derived equality.
 #[tactic(auto, unfolding(model::specs::SoundBlocks::is_undeclared))]
 fn is_undeclared(x: Declaration) -> bool
     ensures { result ≡ is_undeclared x }

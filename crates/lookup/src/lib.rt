@@ -1,5 +1,6 @@
 // An order of the book found by its number, without a look at the others. Numbers with the same remainder lie on one pile: a list has
-// the top of each pile, and another one, for each place, what lies under it. Places are counted from 1 here, and 0 is none.
+// the top of each pile, and another one, for each place, what lies under it. Places are counted from 1 here, and 0 is none, as
+// the definition `place_by` has it.
 #![tactic(auto)]
 
 ghost use Rattle.std.specs.Prelude.{◌≡◌, ◌≤◌, ◌<◌, length};

@@ -29,7 +29,7 @@ pub fn within(side: u64, limit: u64, price: u64) -> u64
     }
 }
 
-// A best price within the order's limit, 0 where the side is empty.
+// A best price within the order's limit, 0 where the side is empty: a number, as the definition `best` has it.
 #[tactic(auto, unfolding(crate::specs::Entering::best_for))]
 pub fn best_for(a: Asked, best: u64) -> u64
     ensures { result ≡ best_for a best }

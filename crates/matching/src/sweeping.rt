@@ -109,6 +109,7 @@ fn with_trade(s: Swept, t: Trade) -> Swept
 }
 
 // The trades of a taker with the `most` best prices of the other side. All are counted; a list that is too short gets the first.
+// Two labelled loops, left from inside: the project's paper names this form.
 pub fn sweep(rows: &[Order], trades: &mut [Trade], t: Taker, quantity: u64, most: u64) -> Swept
     requires { Ranked rows.now }
     ensures value { result ≡ comes_to (swept t most quantity rows.now) }

@@ -109,7 +109,7 @@ fn places_room() -> [usize; MOST_PLACES] {
     [0; MOST_PLACES]
 }
 
-// The number of each place's partner, 0 where it has none.
+// The number of each place's partner, 0 where it has none, as the definition `partners` has it.
 pub fn find_partners(rows: &[Declaration], partner: &mut [u64])
     requires declared { Declared rows.now }
     requires partner_len { length partner.old ≡ length rows.now }
