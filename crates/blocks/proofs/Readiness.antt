@@ -13,7 +13,7 @@ use Rattle.model.specs.Clock.{confirming_from}
 use Rattle.model.specs.Limits.{is_price}
 use Rattle.model.specs.Arrival.{in_arrival}
 use Rattle.model.specs.Book.{in_order}
-use Rattle.model.specs.Sound.{has_places, is_mark, sound_figures, sound_anywhere, screen_fits, halt_fits, fixed_fits, sound, blocks_fit, between}
+use Rattle.model.specs.Sound.{has_places, sound_figures, sound_anywhere, screen_fits, halt_fits, fixed_fits, sound, blocks_fit, between}
 use Rattle.model.specs.Blocks.{is_held, fits}
 use Rattle.model.specs.SoundBlocks.{is_undeclared, is_declaration, sound_blocks}
 use Rattle.model.specs.Refusals.{unsound, unsound_blocks}
@@ -39,14 +39,6 @@ sound_close d main e =
     let figures =
     and_left _ _ (and_left _ _ (and_left _ _ (and_left _ _ (and_left _ _ (and_left _ _ (and_left _ _ anywhere)))))) in
     and_left _ _ (and_left _ _ (and_left _ _ figures))
-
-pub sound_mark : (d : Day) (main : List Order) → sound d main ≡ true → d.limited ≤ 1
-unfolding sound sound_anywhere sound_figures is_mark
-sound_mark d main e =
-    let anywhere = and_left _ _ (and_left _ _ (and_left _ _ (and_left _ _ (and_left _ _ e)))) in
-    let figures =
-    and_left _ _ (and_left _ _ (and_left _ _ (and_left _ _ (and_left _ _ (and_left _ _ (and_left _ _ anywhere)))))) in
-    leb-true d.limited 1 (and_right (is_price d.close) (leb d.limited 1) (and_left _ _ (and_left _ _ figures)))
 
 pub sound_blocks_lem : (d : Day) (main : List Order) → sound d main ≡ true → blocks_fit d ≡ true
 unfolding sound

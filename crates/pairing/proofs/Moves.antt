@@ -82,9 +82,6 @@ pub pass_stands : (t : ℕ) (h : Held) → Standing h.book → Standing (pass t 
 pass_stands t h s =
     ⊎_elim (λ e. rw e s) (λ a. a.quiet.stands) (pass_either h s t)
 
-pub through_stands : (ts : List ℕ) (h : Held) → Standing h.book → Standing (through ts h).book
-through_stands ts h s = through_keeps (λ k. Standing k.book) pass_stands ts h s
-
 -- ---- where no buy reaches a sell nothing trades
 
 module _ (ts : List Trade) where

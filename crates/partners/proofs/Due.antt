@@ -3,12 +3,12 @@ use Rattle.std.specs.Prelude.{if◌then◌else◌}
 use Prim.Native.Nat.{ℕ, ◌≤◌}
 use mathlib.Core.Path.{◌≡◌, refl, sym, ap, ◌∙◌}
 use mathlib.Core.Logic.{◌⊎◌, inl, inr, ⊎_elim}
-use mathlib.Core.Bool.{Bool, true, false, not, and-false}
-use mathlib.Core.List.{List, [], ◌∷◌, ◌++◌, map, nil≢cons}
+use mathlib.Core.Bool.{Bool, true, false, not}
+use mathlib.Core.List.{List, [], ◌∷◌, ◌++◌, nil≢cons}
 use native.Mathlib.Omega.{arith}
 use native.Mathlib.Decide.{ℕ_discrete}
 use lib.ListN.{length, get_or}
-use lib.Dec.{eqb, ltb}
+use lib.Dec.{ltb}
 use borrow.Author.Tests.{eq-eqb, ne_eqb, lt-ltb}
 use Rattle.model.specs.declared.Declaration.{Declaration}
 use Rattle.model.specs.declared.Trade.{Trade}
@@ -20,11 +20,10 @@ use Rattle.model.specs.Words.{Each}
 use Rattle.model.proofs.Bools.{and_both, not_both, not_true_false}
 use Rattle.book.proofs.Lists.{each, each_keep, each_at, at_each}
 use Rattle.declarations.specs.Declared.{WellFormed, Declared}
-use Rattle.partners.specs.Partners.{partner_in, partners, is_buyer, agreed}
+use Rattle.partners.specs.Partners.{is_buyer}
 use Rattle.partners.proofs.Tests.{any_none, none_any, each_of_kept, same_when_false}
 use Rattle.partners.proofs.Turns.{none_earliest, turn_nobody}
 use Rattle.partners.proofs.Buyers.{Fitting, fits_fitting, fitting_fits, other_buyer, other_seller, free_side, free_price}
-use Rattle.partners.proofs.Walked.{walked}
 
 -- nobody fits anybody
 abbrev Unfit : List Declaration → List Declaration → Type 0
@@ -139,17 +138,6 @@ unfit_any held u = none_any _ held (each _ _ held (λ x h. none_any (fits x) hel
 any_unfit : (held : List Declaration) → any (λ x. any (fits x) held) held ≡ false → Unfit held held
 any_unfit held e = each _ _ held (λ x h. any_none (fits x) held h) (any_none (λ x. any (fits x) held) held e)
 
-unpaired : (held : List Declaration) → any (λ p. not (eqb p 0)) (map (λ (x : Declaration). partner_in [] x.number) held) ≡ false
-unfolding any partner_in
-unpaired [] = refl
-unpaired (x ∷ held) = unpaired held
-
-agreed_none : (held : List Declaration) (ps : List ℕ) → Each (λ p. not (eqb p 0) ≡ false) ps → agreed held ps ≡ []
-unfolding agreed
-agreed_none [] ps e = refl
-agreed_none (x ∷ held) [] e = refl
-agreed_none (x ∷ held) (p ∷ ps) e = rw (e.0, and-false (is_buyer x)) (agreed_none held ps e.1)
-
 module _ (held : List Declaration) (d : Declared held) where
   none_due : confirmations held ≡ [] → any (λ x. any (fits x) held) held ≡ false
   unfolding confirmations is_buyer
@@ -159,15 +147,7 @@ module _ (held : List Declaration) (d : Declared held) where
   unfolding confirmations is_buyer
   due_none e = unfit_none (keep is_buyer held) held (each_keep _ is_buyer held (any_unfit held e))
 
-  -- somebody has a partner exactly where somebody is confirmed
-  none_partner : confirmations held ≡ [] → any (λ p. not (eqb p 0)) (partners held) ≡ false
-  unfolding partners
-  none_partner e =
-      ap (λ (ts : List Trade). any (λ p. not (eqb p 0)) (map (λ (x : Declaration). partner_in ts x.number) held)) e ∙ unpaired held
-
-  partner_none : any (λ p. not (eqb p 0)) (partners held) ≡ false → confirmations held ≡ []
-  partner_none e = walked held d ∙ agreed_none held (partners held) (any_none (λ p. not (eqb p 0)) (partners held) e)
-
+  -- two fit exactly where somebody is confirmed
   pub due : any (λ x. any (fits x) held) held ≡ ltb 0 (length (confirmations held))
   due = same_when_false _ _ (λ e. none (due_none e)) (λ e. none_due (empty (confirmations held) e))
     where
@@ -177,6 +157,3 @@ module _ (held : List Declaration) (d : Declared held) where
       empty : (ts : List Trade) → ltb 0 (length ts) ≡ false → ts ≡ []
       empty [] e = refl
       empty (t ∷ ts) e = absurd (not_both (lt-ltb 0 (length (t ∷ ts)) (omega arith)) e)
-
-  pub due_partners : any (λ x. any (fits x) held) held ≡ any (λ p. not (eqb p 0)) (partners held)
-  due_partners = same_when_false _ _ (λ e. none_partner (due_none e)) (λ e. none_due (partner_none e))

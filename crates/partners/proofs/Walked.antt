@@ -6,14 +6,13 @@ use mathlib.Core.Path.{◌≡◌, refl, sym, ap, ◌∙◌}
 use mathlib.Core.Logic.{⊎_elim}
 use mathlib.Core.Bool.{Bool, true, false, not, ◌&&◌}
 use mathlib.Core.List.{List, [], ◌∷◌, ◌++◌, map, append_assoc}
-use lib.ListN.{length, get_or, length-map, get_or-map}
 use lib.Dec.{eqb}
 use borrow.Author.Tests.{eq-eqb, ne_eqb}
 use Rattle.model.specs.declared.Declaration.{Declaration}
 use Rattle.model.specs.declared.Trade.{Trade}
 use Rattle.model.specs.Lists.{keep, any}
 use Rattle.model.specs.Matching.{is_in}
-use Rattle.model.specs.Blocks.{undeclared, fits, confirmation, unnamed, in_turn, confirmations}
+use Rattle.model.specs.Blocks.{fits, confirmation, unnamed, in_turn, confirmations}
 use Rattle.model.specs.Words.{Each}
 use Rattle.book.proofs.Lists.{each, both, every, each_append}
 use Rattle.declarations.specs.Declared.{WellFormed, Declared}
@@ -116,10 +115,6 @@ unfolding keep alone
 alone_kept f [] = refl
 alone_kept f (x ∷ held) = ap (λ (l : List Declaration). if eqb (f x.number) 0 then x ∷ l else l) (alone_kept f held)
 
-pub partners_length : (held : List Declaration) → length (partners held) ≡ length held
-unfolding partners
-partners_length held = length-map held (λ x. partner_in (confirmations held) x.number)
-
 module _ (held : List Declaration) (d : Declared held) where
   -- one walk over the places writes the confirmations
   pub walked : confirmations held ≡ agreed held (partners held)
@@ -148,10 +143,3 @@ module _ (held : List Declaration) (d : Declared held) where
   free_partner =
       partner_none 0 (confirmations held)
       (each Numbered (Leaves 0) (confirmations held) (λ t h. names_none 0 t h.buyer h.seller) confirmed_numbers)
-
-  -- the partner of a place; past the end there is none
-  pub partner_at : (i : ℕ) → get_or (partners held) i 0 ≡ partner_in (confirmations held) (get_or held i undeclared).number
-  unfolding partners undeclared
-  partner_at i =
-      ap (λ (n : ℕ). get_or (map (λ (x : Declaration). partner_in (confirmations held) x.number) held) i n) (sym free_partner)
-      ∙ get_or-map (λ (x : Declaration). partner_in (confirmations held) x.number) held i undeclared
