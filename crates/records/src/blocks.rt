@@ -5,7 +5,6 @@ ghost use Rattle.records.specs.Layout.{declaration_in, declaration_bytes, declar
 
 use crate::DECLARATION_BYTES;
 use crate::numbers::{put_numbers, read_numbers};
-use declarations::{declaration_at, put_declaration};
 use model::Declaration;
 
 fn read_declaration(b: &[u8], at: usize) -> Declaration
@@ -46,10 +45,8 @@ pub fn load_held(b: &[u8], rows: &mut [Declaration])
     requires { length rows.old ≡ length b.now / 56 }
     ensures { rows.new ≡ declarations_in b.now }
 {
-    let mut i: usize = 0;
-    while i < rows.len() {
-        put_declaration(&mut *rows, i, read_declaration(b, DECLARATION_BYTES * i));
-        i += 1;
+    for (i, x) in rows.iter_mut().enumerate() {
+        *x = read_declaration(b, DECLARATION_BYTES * i);
     }
 }
 
@@ -58,9 +55,7 @@ pub fn store_held(b: &mut [u8], rows: &[Declaration])
     requires { 56 * length rows.now ≤ length b.old }
     ensures { b.new ≡ over (declarations_bytes rows.now) b.old }
 {
-    let mut i: usize = 0;
-    while i < rows.len() {
-        put_declaration_bytes(&mut *b, DECLARATION_BYTES * i, declaration_at(rows, i));
-        i += 1;
+    for (i, x) in rows.iter().enumerate() {
+        put_declaration_bytes(b, DECLARATION_BYTES * i, *x);
     }
 }

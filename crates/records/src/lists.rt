@@ -5,7 +5,6 @@ ghost use Rattle.records.specs.Layout.{order_in, order_bytes, trade_bytes, book_
 
 use crate::numbers::{put_numbers, read_numbers};
 use crate::{ORDER_BYTES, TRADE_BYTES};
-use book::{order_at, put_order, trade_at};
 use model::{Order, Trade};
 
 fn read_order(b: &[u8], at: usize) -> Order
@@ -51,10 +50,8 @@ pub fn load_book(b: &[u8], rows: &mut [Order])
     requires { length rows.old ≡ length b.now / 40 }
     ensures { rows.new ≡ book_in b.now }
 {
-    let mut i: usize = 0;
-    while i < rows.len() {
-        put_order(&mut *rows, i, read_order(b, ORDER_BYTES * i));
-        i += 1;
+    for (i, o) in rows.iter_mut().enumerate() {
+        *o = read_order(b, ORDER_BYTES * i);
     }
 }
 
@@ -63,10 +60,8 @@ pub fn store_book(b: &mut [u8], rows: &[Order])
     requires { 40 * length rows.now ≤ length b.old }
     ensures { b.new ≡ over (book_bytes rows.now) b.old }
 {
-    let mut i: usize = 0;
-    while i < rows.len() {
-        put_order_bytes(&mut *b, ORDER_BYTES * i, order_at(rows, i));
-        i += 1;
+    for (i, o) in rows.iter().enumerate() {
+        put_order_bytes(b, ORDER_BYTES * i, *o);
     }
 }
 
@@ -75,9 +70,7 @@ pub fn store_trades(b: &mut [u8], list: &[Trade])
     requires { 48 * length list.now ≤ length b.old }
     ensures { b.new ≡ over (trades_bytes list.now) b.old }
 {
-    let mut i: usize = 0;
-    while i < list.len() {
-        put_trade_bytes(&mut *b, TRADE_BYTES * i, trade_at(list, i));
-        i += 1;
+    for (i, t) in list.iter().enumerate() {
+        put_trade_bytes(b, TRADE_BYTES * i, *t);
     }
 }

