@@ -1,5 +1,5 @@
 -- How many bytes a day and the lists have. Assumes nothing.
-use Prim.Native.Nat.{ℕ, ◌*◌}
+use Prim.Native.Nat.{◌*◌}
 use mathlib.Core.Path.{◌≡◌}
 use mathlib.Core.List.{List}
 use lib.ListN.{length}
@@ -9,7 +9,7 @@ use Rattle.model.specs.declared.Trade.{Trade}
 use Rattle.model.specs.declared.Day.{Day}
 pub use Rattle.records.specs.Lengths.{length_bytes, length_order, length_declaration, length_trade}
 use Rattle.octets.proofs.Parts.{length_flat}
-use Rattle.records.specs.Layout.{bytes, order_bytes, declaration_bytes, trade_bytes, book_bytes, declarations_bytes, trades_bytes, day_row, day_bytes}
+use Rattle.records.specs.Layout.{order_bytes, declaration_bytes, trade_bytes, book_bytes, declarations_bytes, trades_bytes, day_row, day_bytes}
 
 pub length_day : (d : Day) → length (day_bytes d) ≡ 352
 unfolding day_bytes
