@@ -6,11 +6,11 @@ ghost use Rattle.byte_books.specs.Changing.{change_left, book_call, Changed, boo
 use crate::{BookAsked, BookReply};
 use day::events::cancel_call;
 use day::opening::open_call;
-use model::Order;
+use model::{MOST_PLACES, Order};
 use records::ORDER_BYTES;
 use records::days::day_in;
 use records::lists::{load_book, store_book};
-use records::rooms::{FEW_PLACES, FEWEST_PLACES, room, small_room, tiny_room};
+use records::rooms::{FEW_PLACES, FEWEST_PLACES, order_room};
 
 // The call on rows. An opening reads nothing of the old day.
 fn change_rows(day: &[u8], rows: &mut [Order], asked: BookAsked) -> BookReply
@@ -18,11 +18,9 @@ fn change_rows(day: &[u8], rows: &mut [Order], asked: BookAsked) -> BookReply
     ensures { change_left result rows.new ≡ book_call (day_in day.now) rows.old asked }
 {
     match asked {
-        BookAsked::Open { close, mark } => {
-            return BookReply::Open(open_call(rows, close, mark));
-        }
+        BookAsked::Open { close, mark } => BookReply::Open(open_call(rows, close, mark)),
         BookAsked::Cancel { account, number } => {
-            return BookReply::Cancel(cancel_call(day_in(day), rows, account, number));
+            BookReply::Cancel(cancel_call(day_in(day), rows, account, number))
         }
     }
 }
@@ -33,40 +31,22 @@ fn change_in(day: &[u8], book: &mut [u8], rows: &mut [Order], asked: BookAsked) 
     requires rows_len { length rows.old ≡ length book.old / 40 }
     ensures { Changed (book_on day.now book.old asked) book.old result book.new }
 {
-    load_book(book, &mut *rows);
-    let told = change_rows(day, &mut *rows, asked);
+    load_book(book, rows);
+    let told = change_rows(day, rows, asked);
     store_book(book, rows);
     told
 }
 
-// In the largest room.
-fn change_in_large(day: &[u8], book: &mut [u8], asked: BookAsked) -> BookReply
+// In a room of so many places. Never inlined, so that a call sets up the room that it takes, and no larger one.
+#[inline(never)]
+fn change_in_room<const PLACES: usize>(day: &[u8], book: &mut [u8], asked: BookAsked) -> BookReply
+    requires places_bound { PLACES ≤ 4_096 }
     requires day_len { length day.now ≡ 352 }
-    requires book_len_bound { length book.old / 40 ≤ 4_096 }
+    requires book_len_bound { length book.old / 40 ≤ PLACES }
     ensures { Changed (book_on day.now book.old asked) book.old result book.new }
 {
     let n = book.len() / ORDER_BYTES;
-    let mut rows = room();
-    change_in(day, book, &mut rows[..n], asked)
-}
-
-fn change_in_small(day: &[u8], book: &mut [u8], asked: BookAsked) -> BookReply
-    requires day_len { length day.now ≡ 352 }
-    requires book_len_bound { length book.old / 40 ≤ 1_024 }
-    ensures { Changed (book_on day.now book.old asked) book.old result book.new }
-{
-    let n = book.len() / ORDER_BYTES;
-    let mut rows = small_room();
-    change_in(day, book, &mut rows[..n], asked)
-}
-
-fn change_in_tiny(day: &[u8], book: &mut [u8], asked: BookAsked) -> BookReply
-    requires day_len { length day.now ≡ 352 }
-    requires book_len_bound { length book.old / 40 ≤ 64 }
-    ensures { Changed (book_on day.now book.old asked) book.old result book.new }
-{
-    let n = book.len() / ORDER_BYTES;
-    let mut rows = tiny_room();
+    let mut rows = order_room::<PLACES>();
     change_in(day, book, &mut rows[..n], asked)
 }
 
@@ -78,10 +58,10 @@ pub fn change_bytes(day: &[u8], book: &mut [u8], asked: BookAsked) -> BookReply
 {
     let n = book.len() / ORDER_BYTES;
     if n <= FEWEST_PLACES {
-        return change_in_tiny(day, book, asked);
+        change_in_room::<FEWEST_PLACES>(day, book, asked)
+    } else if n <= FEW_PLACES {
+        change_in_room::<FEW_PLACES>(day, book, asked)
+    } else {
+        change_in_room::<MOST_PLACES>(day, book, asked)
     }
-    if n <= FEW_PLACES {
-        return change_in_small(day, book, asked);
-    }
-    change_in_large(day, book, asked)
 }

@@ -5,21 +5,18 @@ ghost use Rattle.byte_books.specs.Reading.{read_refusal, read_call, read_on};
 
 use crate::{ReadAsked, ReadReply};
 use day::auctions::{Listing, list_run, report_call};
-use model::{Day, Order, ReportReply};
+use model::{Day, MOST_PLACES, Order, ReportReply};
 use records::ORDER_BYTES;
 use records::days::day_in;
 use records::lists::load_book;
-use records::rooms::{FEW_PLACES, FEWEST_PLACES, room, small_room, tiny_room};
+use records::rooms::{FEW_PLACES, FEWEST_PLACES, order_room};
 
 pub fn read_refusal(asked: ReadAsked, n: u64) -> ReadReply
     ensures { result ≡ read_refusal asked n }
 {
     match asked {
         ReadAsked::Report => ReadReply::Report(ReportReply::Refused(n)),
-        ReadAsked::List {
-            places: _,
-            asked: _,
-        } => ReadReply::List(Listing::Refused(n)),
+        ReadAsked::List { .. } => ReadReply::List(Listing::Refused(n)),
     }
 }
 
@@ -38,38 +35,20 @@ fn read_in(day: &[u8], book: &[u8], rows: &mut [Order], asked: ReadAsked) -> Rea
     requires rows_len { length rows.old ≡ length book.now / 40 }
     ensures { result ≡ read_on day.now book.now asked }
 {
-    load_book(book, &mut *rows);
+    load_book(book, rows);
     read_rows(day_in(day), rows, asked)
 }
 
-// In the largest room.
-fn read_in_large(day: &[u8], book: &[u8], asked: ReadAsked) -> ReadReply
+// In a room of so many places. Never inlined, so that a call sets up the room that it takes, and no larger one.
+#[inline(never)]
+fn read_in_room<const PLACES: usize>(day: &[u8], book: &[u8], asked: ReadAsked) -> ReadReply
+    requires places_bound { PLACES ≤ 4_096 }
     requires day_len { length day.now ≡ 352 }
-    requires book_len_bound { length book.now / 40 ≤ 4_096 }
+    requires book_len_bound { length book.now / 40 ≤ PLACES }
     ensures { result ≡ read_on day.now book.now asked }
 {
     let n = book.len() / ORDER_BYTES;
-    let mut rows = room();
-    read_in(day, book, &mut rows[..n], asked)
-}
-
-fn read_in_small(day: &[u8], book: &[u8], asked: ReadAsked) -> ReadReply
-    requires day_len { length day.now ≡ 352 }
-    requires book_len_bound { length book.now / 40 ≤ 1_024 }
-    ensures { result ≡ read_on day.now book.now asked }
-{
-    let n = book.len() / ORDER_BYTES;
-    let mut rows = small_room();
-    read_in(day, book, &mut rows[..n], asked)
-}
-
-fn read_in_tiny(day: &[u8], book: &[u8], asked: ReadAsked) -> ReadReply
-    requires day_len { length day.now ≡ 352 }
-    requires book_len_bound { length book.now / 40 ≤ 64 }
-    ensures { result ≡ read_on day.now book.now asked }
-{
-    let n = book.len() / ORDER_BYTES;
-    let mut rows = tiny_room();
+    let mut rows = order_room::<PLACES>();
     read_in(day, book, &mut rows[..n], asked)
 }
 
@@ -81,10 +60,10 @@ pub fn read_bytes(day: &[u8], book: &[u8], asked: ReadAsked) -> ReadReply
 {
     let n = book.len() / ORDER_BYTES;
     if n <= FEWEST_PLACES {
-        return read_in_tiny(day, book, asked);
+        read_in_room::<FEWEST_PLACES>(day, book, asked)
+    } else if n <= FEW_PLACES {
+        read_in_room::<FEW_PLACES>(day, book, asked)
+    } else {
+        read_in_room::<MOST_PLACES>(day, book, asked)
     }
-    if n <= FEW_PLACES {
-        return read_in_small(day, book, asked);
-    }
-    read_in_large(day, book, asked)
 }

@@ -13,7 +13,7 @@ use lookup::{PILES, none_yet};
 use model::{Day, MOST_PLACES, Order};
 use records::ORDER_BYTES;
 use records::lists::load_book;
-use records::rooms::{FEW_PLACES, FEWEST_PLACES, room, small_room, tiny_room};
+use records::rooms::{FEW_PLACES, FEWEST_PLACES, order_room};
 
 // Whether every claim joins, and each order's claims add up to what is granted at the price.
 fn byte_claims_decide(
@@ -30,8 +30,8 @@ fn byte_claims_decide(
     requires slate_len { length slate.old ≡ length rows.now }
     ensures { result ≡ claims_right price rows.now (claims_in claims.now) }
 {
-    set_up(rows, &mut *tops, &mut *under, &mut *slate, price);
-    take_byte_claims(rows, tops, under, &mut *slate, claims)
+    set_up(rows, tops, under, slate, price);
+    take_byte_claims(rows, tops, under, slate, claims)
 }
 
 // The same, with room for piles and slate.
@@ -57,20 +57,10 @@ fn byte_claims_right(rows: &[Order], claims: &[u8], price: u64) -> bool
 fn judge_rows(d: Day, rows: &[Order], claims: &[u8], price: u64) -> Verdict
     ensures { result ≡ judge_call d price rows.now (claims_in claims.now) }
 {
-    let told = price_verdict(d, rows, price);
-    match told {
-        Verdict::Refused(_) => {
-            return told;
-        }
-        Verdict::No => {
-            return told;
-        }
-        Verdict::Yes => {
-            if byte_claims_right(rows, claims, price) {
-                return Verdict::Yes;
-            }
-            return Verdict::No;
-        }
+    match price_verdict(d, rows, price) {
+        Verdict::Yes if byte_claims_right(rows, claims, price) => Verdict::Yes,
+        Verdict::Yes => Verdict::No,
+        told => told,
     }
 }
 
@@ -78,35 +68,19 @@ fn judge_in(d: Day, book: &[u8], rows: &mut [Order], claims: &[u8], price: u64) 
     requires { length rows.old ≡ length book.now / 40 }
     ensures { result ≡ judge_call d price (book_in book.now) (claims_in claims.now) }
 {
-    load_book(book, &mut *rows);
+    load_book(book, rows);
     judge_rows(d, rows, claims, price)
 }
 
-// In the largest room.
-fn judge_in_large(d: Day, book: &[u8], claims: &[u8], price: u64) -> Verdict
-    requires { length book.now / 40 ≤ 4_096 }
+// In a room of so many places. Never inlined, so that a call sets up the room that it takes, and no larger one.
+#[inline(never)]
+fn judge_in_room<const PLACES: usize>(d: Day, book: &[u8], claims: &[u8], price: u64) -> Verdict
+    requires places_bound { PLACES ≤ 4_096 }
+    requires book_len_bound { length book.now / 40 ≤ PLACES }
     ensures { result ≡ judge_call d price (book_in book.now) (claims_in claims.now) }
 {
     let n = book.len() / ORDER_BYTES;
-    let mut rows = room();
-    judge_in(d, book, &mut rows[..n], claims, price)
-}
-
-fn judge_in_small(d: Day, book: &[u8], claims: &[u8], price: u64) -> Verdict
-    requires { length book.now / 40 ≤ 1_024 }
-    ensures { result ≡ judge_call d price (book_in book.now) (claims_in claims.now) }
-{
-    let n = book.len() / ORDER_BYTES;
-    let mut rows = small_room();
-    judge_in(d, book, &mut rows[..n], claims, price)
-}
-
-fn judge_in_tiny(d: Day, book: &[u8], claims: &[u8], price: u64) -> Verdict
-    requires { length book.now / 40 ≤ 64 }
-    ensures { result ≡ judge_call d price (book_in book.now) (claims_in claims.now) }
-{
-    let n = book.len() / ORDER_BYTES;
-    let mut rows = tiny_room();
+    let mut rows = order_room::<PLACES>();
     judge_in(d, book, &mut rows[..n], claims, price)
 }
 
@@ -117,10 +91,10 @@ pub fn judge_bytes(d: Day, book: &[u8], claims: &[u8], price: u64) -> Verdict
 {
     let n = book.len() / ORDER_BYTES;
     if n <= FEWEST_PLACES {
-        return judge_in_tiny(d, book, claims, price);
+        judge_in_room::<FEWEST_PLACES>(d, book, claims, price)
+    } else if n <= FEW_PLACES {
+        judge_in_room::<FEW_PLACES>(d, book, claims, price)
+    } else {
+        judge_in_room::<MOST_PLACES>(d, book, claims, price)
     }
-    if n <= FEW_PLACES {
-        return judge_in_small(d, book, claims, price);
-    }
-    judge_in_large(d, book, claims, price)
 }

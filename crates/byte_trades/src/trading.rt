@@ -5,13 +5,10 @@ ghost use Rattle.byte_trades.specs.Trading.{trade_refusal, trade_call, Traded, t
 
 use crate::{TradeAnswer, TradeAsked, TradeReply};
 use day::events::{clock_call, order_call};
-use model::{ClockReply, Day, Order, OrderReply, Trade};
+use model::{ClockReply, Day, MOST_PLACES, Order, OrderReply, Trade};
 use records::days::day_in;
 use records::lists::{load_book, store_book, store_trades};
-use records::rooms::{
-    FEW_PLACES, FEWEST_PLACES, room, small_room, small_trade_room, tiny_room, tiny_trade_room,
-    trade_room,
-};
+use records::rooms::{FEW_PLACES, FEWEST_PLACES, order_room, trade_room};
 use records::{ORDER_BYTES, TRADE_BYTES};
 
 pub fn trade_refusal(asked: TradeAsked, n: u64) -> TradeReply
@@ -30,23 +27,19 @@ fn trade_rows(d: Day, rows: &mut [Order], list: &mut [Trade], asked: TradeAsked)
     match asked {
         TradeAsked::Order(a) => {
             let answer = order_call(d, rows, list, a);
-            let told = answer.reply;
-            let next = answer.day;
-            return TradeAnswer {
-                reply: TradeReply::Order(told),
+            TradeAnswer {
+                reply: TradeReply::Order(answer.reply),
                 made: answer.made,
-                day: next,
-            };
+                day: answer.day,
+            }
         }
         TradeAsked::Clock(time) => {
             let answer = clock_call(d, rows, list, time);
-            let told = answer.reply;
-            let next = answer.day;
-            return TradeAnswer {
-                reply: TradeReply::Clock(told),
+            TradeAnswer {
+                reply: TradeReply::Clock(answer.reply),
                 made: answer.made,
-                day: next,
-            };
+                day: answer.day,
+            }
         }
     }
 }
@@ -66,9 +59,9 @@ fn trade_in(
     requires list_len { length list.old ≡ length book.old / 40 }
     ensures { Traded (trade_on day.now book.old trades.old asked) book.old trades.old result book.new trades.new }
 {
-    load_book(book, &mut *rows);
+    load_book(book, rows);
     let d = day_in(day);
-    let answer = trade_rows(d, &mut *rows, &mut *list, asked);
+    let answer = trade_rows(d, rows, list, asked);
     let made = answer.made;
     if trades.len() / TRADE_BYTES < made {
         return TradeAnswer {
@@ -82,37 +75,22 @@ fn trade_in(
     answer
 }
 
-// In the largest rooms.
-fn trade_in_large(day: &[u8], book: &mut [u8], trades: &mut [u8], asked: TradeAsked) -> TradeAnswer
+// In rooms of so many places. Never inlined, so that a call sets up the room that it takes, and no larger one.
+#[inline(never)]
+fn trade_in_room<const PLACES: usize>(
+    day: &[u8],
+    book: &mut [u8],
+    trades: &mut [u8],
+    asked: TradeAsked,
+) -> TradeAnswer
+    requires places_bound { PLACES ≤ 4_096 }
     requires day_len { length day.now ≡ 352 }
-    requires book_len_bound { length book.old / 40 ≤ 4_096 }
+    requires book_len_bound { length book.old / 40 ≤ PLACES }
     ensures { Traded (trade_on day.now book.old trades.old asked) book.old trades.old result book.new trades.new }
 {
     let n = book.len() / ORDER_BYTES;
-    let mut rows = room();
-    let mut list = trade_room();
-    trade_in(day, book, trades, &mut rows[..n], &mut list[..n], asked)
-}
-
-fn trade_in_small(day: &[u8], book: &mut [u8], trades: &mut [u8], asked: TradeAsked) -> TradeAnswer
-    requires day_len { length day.now ≡ 352 }
-    requires book_len_bound { length book.old / 40 ≤ 1_024 }
-    ensures { Traded (trade_on day.now book.old trades.old asked) book.old trades.old result book.new trades.new }
-{
-    let n = book.len() / ORDER_BYTES;
-    let mut rows = small_room();
-    let mut list = small_trade_room();
-    trade_in(day, book, trades, &mut rows[..n], &mut list[..n], asked)
-}
-
-fn trade_in_tiny(day: &[u8], book: &mut [u8], trades: &mut [u8], asked: TradeAsked) -> TradeAnswer
-    requires day_len { length day.now ≡ 352 }
-    requires book_len_bound { length book.old / 40 ≤ 64 }
-    ensures { Traded (trade_on day.now book.old trades.old asked) book.old trades.old result book.new trades.new }
-{
-    let n = book.len() / ORDER_BYTES;
-    let mut rows = tiny_room();
-    let mut list = tiny_trade_room();
+    let mut rows = order_room::<PLACES>();
+    let mut list = trade_room::<PLACES>();
     trade_in(day, book, trades, &mut rows[..n], &mut list[..n], asked)
 }
 
@@ -124,10 +102,10 @@ pub fn trade_bytes(day: &[u8], book: &mut [u8], trades: &mut [u8], asked: TradeA
 {
     let n = book.len() / ORDER_BYTES;
     if n <= FEWEST_PLACES {
-        return trade_in_tiny(day, book, trades, asked);
+        trade_in_room::<FEWEST_PLACES>(day, book, trades, asked)
+    } else if n <= FEW_PLACES {
+        trade_in_room::<FEW_PLACES>(day, book, trades, asked)
+    } else {
+        trade_in_room::<MOST_PLACES>(day, book, trades, asked)
     }
-    if n <= FEW_PLACES {
-        return trade_in_small(day, book, trades, asked);
-    }
-    trade_in_large(day, book, trades, asked)
 }

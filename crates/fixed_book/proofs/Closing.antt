@@ -22,35 +22,6 @@ use Rattle.fixed_book.proofs.Sides.{live_taken}
 
 -- ---- one order
 
-module _ (from to : ℕ) (book : List Order) where
-  pub none_up : {o : Order} → o ≡ get_or book from free → is_live o ≡ false → BroughtUp from to book book to
-  none_up {o} e f = record { live = λ g. absurd (not_both (rw e g) f); none = λ _. (refl, refl) }
-
-  pub stays_up : {o : Order} → o ≡ get_or book from free → is_live o ≡ true → from ≡ to → BroughtUp from to book book (to + 1)
-  stays_up {o} e f s =
-      record {
-        live = λ _. (rw (← s) (sym (set-set book from free (get_or book from free) ∙ set-get_or book from free)), refl);
-        none = λ g. absurd (not_both f (rw e g));
-      }
-
-pub goes_up :
-    (from to : ℕ) (rows : List Order) {o p : Order} {rows₁ rows₂ : List Order}
-    → o ≡ get_or rows from free
-    → is_live o ≡ true
-    → p ≡ free
-    → rows₁ ≡ set rows from p
-    → rows₂ ≡ set rows₁ to o
-    → BroughtUp from to rows rows₂ (to + 1)
-goes_up from to rows {o} {p} {rows₁} {rows₂} e f g h k =
-    let it : o ≡ get_or rows from free = e in
-    let book₂ : rows₂ ≡ set (set rows from p) to o =
-    k ∙ ap (λ (l : List Order). set l to o) (h)
-    in
-    record {
-      live = λ _. (book₂ ∙ ap (λ (x : Order). set (set rows from x) to o) g ∙ ap (set (set rows from free) to) it, refl);
-      none = λ z. absurd (not_both f (rw it z));
-    }
-
 -- ---- the loop
 
 pub record Closing (book₀ book : List Order) (to i : ℕ) : Type 0 where

@@ -26,33 +26,9 @@ use Rattle.fixed_book.specs.Heads.{may_trade, brings, head_share, shares_from, h
 -- ---- one order
 
 module _ (close side : ℕ) (o : Order) where
-  pub void_out : is_void close o ≡ true → false ≡ may_trade close side o
-  unfolding may_trade
-  void_out e = rw e
-
-  pub valid_on : is_void close o ≡ false → stands_on side o ≡ may_trade close side o
-  unfolding may_trade
-  valid_on e = rw e
-
   pub trades_on : may_trade close side o ≡ true → stands_on side o ≡ true
   unfolding may_trade
   trades_on e = and_right (not (is_void close o)) (stands_on side o) e
-
--- the trade of two heads
-pub heads_deal :
-    (close : ℕ) (b s : Head) (q : ℕ)
-    → q ≡ min b.left s.left
-    → record {
-      price = close;
-      quantity = q;
-      buyer = b.number;
-      seller = s.number;
-      buyerleft = b.left - q;
-      sellerleft = s.left - q;
-    }
-    ≡ dealt close (head_share b) (head_share s)
-unfolding dealt
-heads_deal close b s q e = rw e
 
 -- ---- heads and those behind them
 

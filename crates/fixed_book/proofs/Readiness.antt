@@ -95,15 +95,6 @@ says_none_void close book =
     (says_none (is_void close) (λ o. is_void close o ≡ true) (λ o. says_itself (is_void close o)) book)
 
 -- the same, one test after the other
-module _ (book : List Order) where
-  pub no_buys : any (stands_on 0) book ≡ false → true ≡ one_sided book
-  unfolding one_sided
-  no_buys e = rw e
-
-  pub then_no_sells : any (stands_on 0) book ≡ true → {r : Bool} → r ≡ any (stands_on 1) book → not r ≡ one_sided book
-  unfolding one_sided
-  then_no_sells e f = rw (e, f)
-
 module _ (d : Day) (book : List Order) where
   abbrev rests_right : Bool
   rests_right = ltb d.time matching_from || (one_sided book && not (any (is_void (close_price d)) book))

@@ -1,5 +1,4 @@
--- A walk along the places by a test: all pass it, or one does. And a walk of each place beside the next, for the order of arrival.
--- Assumes nothing.
+-- A walk of each place beside the next, for the order of arrival. Assumes nothing.
 use Prim.Native.Nat.{ℕ, suc, ◌+◌, ◌-◌, ◌≤◌, ◌<◌}
 use mathlib.Core.Path.{◌≡◌, refl, sym, ap, ◌∙◌}
 use mathlib.Core.Bool.{Bool, true, false, ◌&&◌, ◌||◌}
@@ -14,63 +13,8 @@ use Rattle.model.specs.Book.{free, is_live}
 use Rattle.model.specs.Arrival.{is_taken, may_arrive, in_arrival}
 use Rattle.soundness.proofs.Onward.{onward}
 
-module _ (p : Order → Bool) (rows : List Order) where
-  -- whether all pass, or one does, is told by those from here on
-  abbrev pub AllFrom : ℕ → Type 0
-  AllFrom i = all p rows ≡ all p (drop i rows)
-
-  abbrev pub AnyFrom : ℕ → Type 0
-  AnyFrom i = any p rows ≡ any p (drop i rows)
-
-  module _ {i : ℕ} {o : Order} (inside : i < length rows) (e : o ≡ get_or rows i free) where
-    all_here : all p (drop i rows) ≡ (p o && all p (drop (i + 1) rows))
-    unfolding all
-    all_here = ap (all p) (onward rows i o inside e)
-
-    any_here : any p (drop i rows) ≡ (p o || any p (drop (i + 1) rows))
-    unfolding any
-    any_here = ap (any p) (onward rows i o inside e)
-
-    pub all_fails : AllFrom i → p o ≡ false → false ≡ all p rows
-    all_fails w f = sym (w ∙ all_here ∙ rw f)
-
-    pub all_next : AllFrom i → p o ≡ true → AllFrom (i + 1)
-    all_next w t = w ∙ all_here ∙ rw t
-
-    pub any_found : AnyFrom i → p o ≡ true → true ≡ any p rows
-    any_found w t = sym (w ∙ any_here ∙ rw t)
-
-    pub any_next : AnyFrom i → p o ≡ false → AnyFrom (i + 1)
-    any_next w f = w ∙ any_here ∙ rw f
-
-  nobody : (i : ℕ) → length rows ≤ i → (drop i rows) ≡ []
-  nobody i h = (drop_of_length-le rows {i = i} h)
-
-  pub all_pass : {i : ℕ} → AllFrom i → length rows ≤ i → true ≡ all p rows
-  unfolding all
-  all_pass {i} w h = sym (w ∙ ap (all p) (nobody i h))
-
-  pub none_found : {i : ℕ} → AnyFrom i → length rows ≤ i → false ≡ any p rows
-  unfolding any
-  none_found {i} w h = sym (w ∙ ap (any p) (nobody i h))
-
--- ---- in order of arrival
-
 abbrev number : Order → ℕ
 number o = o.number
-
-module _ (a b : Order) where
-  pub free_arrives : is_live b ≡ false → true ≡ may_arrive (λ (o : Order). o.number) a b
-  unfolding may_arrive is_taken is_live
-  free_arrives e = rw e
-
-  pub none_before : is_live b ≡ true → is_live a ≡ false → false ≡ may_arrive (λ (o : Order). o.number) a b
-  unfolding may_arrive is_taken is_live
-  none_before e f = rw (e, f)
-
-  pub later_arrives : is_live b ≡ true → is_live a ≡ true → ltb a.number b.number ≡ may_arrive (λ (o : Order). o.number) a b
-  unfolding may_arrive is_taken is_live
-  later_arrives e f = rw (e, f)
 
 -- those up to the one before i have passed
 pub record Arrived (rows : List Order) (i : ℕ) : Type 0 where

@@ -72,9 +72,6 @@ module _ (close : ℕ) where
     in_line : is_void close o ≡ false → keep not_void (o ∷ os) ≡ o ∷ keep not_void os
     in_line e = keep_true not_void o os (ap not e)
 
-    pub on_out : (side : ℕ) → is_void close o ≡ true → on side (o ∷ os) ≡ on side os
-    on_out side e = ap (keep (stands_on side)) (out e)
-
     pub on_more : (side : ℕ) → is_void close o ≡ false → stands_on side o ≡ true → on side (o ∷ os) ≡ o ∷ on side os
     on_more side e t = ap (keep (stands_on side)) (in_line e) ∙ keep_true (stands_on side) o (keep not_void os) t
 

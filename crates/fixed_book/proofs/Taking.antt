@@ -26,26 +26,6 @@ use Rattle.fixed_book.specs.Leaving.{owed_by, left_of, owed_behind, left_over}
 -- ---- one order
 
 module _ (close : ℕ) (w : Owed) (o : Order) where
-  pub void_left : is_void close o ≡ true → free ≡ left_of close w o
-  unfolding left_of
-  void_left e = rw e
-
-  pub valid_left : is_void close o ≡ false → {p : Order} → p ≡ less_by (owed_by w o.side) o → p ≡ left_of close w o
-  unfolding left_of
-  valid_left e f = rw e f
-
-  pub void_owed : is_void close o ≡ true → record { buys = w.buys; sells = w.sells; void = w.void + o.left } ≡ owed_behind close w o
-  unfolding owed_behind
-  void_owed e = rw e
-
-  pub buy_owed : is_void close o ≡ false → o.side ≡ 0 → {n : ℕ} → n ≡ w.buys - o.left → record { buys = n; sells = w.sells; void = w.void } ≡ owed_behind close w o
-  unfolding owed_behind
-  buy_owed e s f = rw (e, eq-eqb o.side 0 s, f)
-
-  pub sell_owed : is_void close o ≡ false → (o.side ≡ 0 → ⊥) → {n : ℕ} → n ≡ w.sells - o.left → record { buys = w.buys; sells = n; void = w.void } ≡ owed_behind close w o
-  unfolding owed_behind
-  sell_owed e s f = rw (e, ne_eqb o.side 0 s, f)
-
   -- the line from this order on
   left_step : (os : List Order) → left_over close w.buys w.sells (o ∷ os) ≡ left_of close w o ∷ left_over close (owed_behind close w o).buys (owed_behind close w o).sells os
   unfolding left_over left_of owed_behind owed_by

@@ -9,7 +9,6 @@ ghost use Rattle.model.specs.SoundFixed.{one_sided};
 ghost use Rattle.model.specs.FixedBook.{is_void};
 
 use crate::walking::{is_void, stands_on};
-use book::order_at;
 use figures::reference_of;
 use model::{Day, MATCHING_FROM, MOST_SHARES, Order};
 use soundness::day_figures::is_between;
@@ -25,50 +24,28 @@ pub fn fits_hours(time: u64, resting: u64) -> bool
 pub fn has_side(rows: &[Order], side: u64) -> bool
     ensures { result ≡ any (stands_on side) rows.now }
 {
-    let mut i = 0;
-    while i < rows.len() {
-        if stands_on(side, order_at(rows, i)) {
-            return true;
-        }
-        i += 1;
-    }
-    false
+    rows.iter().any(|o| stands_on(side, *o))
 }
 
 // Whether a void order rests.
 fn has_void(rows: &[Order], close: u64) -> bool
     ensures { result ≡ any (is_void close) rows.now }
 {
-    let mut i = 0;
-    while i < rows.len() {
-        if is_void(close, order_at(rows, i)) {
-            return true;
-        }
-        i += 1;
-    }
-    false
+    rows.iter().any(|o| is_void(close, *o))
 }
 
+#[tactic(auto, unfolding(model::specs::SoundFixed::one_sided))]
 fn is_one_sided(rows: &[Order]) -> bool
     ensures { result ≡ one_sided rows.now }
 {
-    if !has_side(rows, 0) {
-        return true;
-    }
-    !has_side(rows, 1)
+    !has_side(rows, 0) || !has_side(rows, 1)
 }
 
 // From 15:05 on one side rests at most, and no void order.
 pub fn rests_after_matching(d: Day, rows: &[Order]) -> bool
     ensures { result ≡ (ltb d.time matching_from || (one_sided rows.now && not (any (is_void (close_price d)) rows.now))) }
 {
-    if d.time < MATCHING_FROM {
-        return true;
-    }
-    if !is_one_sided(rows) {
-        return false;
-    }
-    !has_void(rows, reference_of(d))
+    d.time < MATCHING_FROM || (is_one_sided(rows) && !has_void(rows, reference_of(d)))
 }
 
 // Twice the shares traded plus all resting shares is at most 1,000,000 times the numbers issued.
@@ -77,6 +54,5 @@ pub fn sums_fit(d: Day, resting: u64) -> bool
     requires resting_bound { resting ≤ 4_096_000_000 }
     ensures { result ≡ leb (2 * d.fixed.shares + resting) (1_000_000 * d.fixed.issued) }
 {
-    let fixed = d.fixed;
-    2 * fixed.shares + resting <= MOST_SHARES * fixed.issued
+    2 * d.fixed.shares + resting <= MOST_SHARES * d.fixed.issued
 }

@@ -9,20 +9,18 @@ ghost use Rattle.fixed_book.specs.Leaving.{owed_by, left_of, owed_behind, left_o
 use crate::Owed;
 use crate::walking::is_void;
 use book::places::free_place;
-use book::{order_at, put_order};
 use model::Order;
 
 // What is still to come off a side.
+#[tactic(auto, unfolding(crate::specs::Leaving::owed_by))]
 fn owed_by(w: Owed, side: u64) -> u64
     ensures { result ≡ owed_by w side }
 {
-    if side == 0 {
-        return w.buys;
-    }
-    w.sells
+    if side == 0 { w.buys } else { w.sells }
 }
 
 // What is left of an order when so much is still to come off either side.
+#[tactic(auto, unfolding(crate::specs::Leaving::left_of, model::specs::Matching::less_by))]
 fn left_of(close: u64, w: Owed, o: Order) -> Order
     ensures { result ≡ left_of close w o }
 {
@@ -31,43 +29,37 @@ fn left_of(close: u64, w: Owed, o: Order) -> Order
     }
     let owed = owed_by(w, o.side);
     if o.left <= owed {
-        return free_place();
+        free_place()
+    } else {
+        Order {
+            left: o.left - owed,
+            ..o
+        }
     }
-    Order {
-        side: o.side,
-        account: o.account,
-        left: o.left - owed,
-        price: o.price,
-        number: o.number,
-    }
-}
-
-// What more than so much a number has, 0 where it has not.
-fn beyond(n: u64, less: u64) -> u64
-    ensures { result ≡ n - less }
-{
-    if n < less {
-        return 0;
-    }
-    n - less
 }
 
 // What is still to come off those behind the order, and the void shares with it.
+#[tactic(auto, unfolding(crate::specs::Leaving::owed_behind))]
 fn owed_behind(close: u64, w: Owed, o: Order) -> Owed
     requires { w.void + o.left < 2 ^ 64 }
     ensures { result ≡ owed_behind close w o }
 {
-    let mut behind = w;
     if is_void(close, o) {
-        behind.void = w.void + o.left;
-        return behind;
+        Owed {
+            void: w.void + o.left,
+            ..w
+        }
+    } else if o.side == 0 {
+        Owed {
+            buys: w.buys.saturating_sub(o.left),
+            ..w
+        }
+    } else {
+        Owed {
+            sells: w.sells.saturating_sub(o.left),
+            ..w
+        }
     }
-    if o.side == 0 {
-        behind.buys = beyond(w.buys, o.left);
-        return behind;
-    }
-    behind.sells = beyond(w.sells, o.left);
-    behind
 }
 
 // The whole line; the void shares.
@@ -81,12 +73,10 @@ pub fn take_off(rows: &mut [Order], close: u64, shares: u64) -> u64
         sells: shares,
         void: 0,
     };
-    let mut i = 0;
-    while i < rows.len() {
-        let o = order_at(rows, i);
-        put_order(&mut *rows, i, left_of(close, owed, o));
-        owed = owed_behind(close, owed, o);
-        i += 1;
+    for o in rows.iter_mut() {
+        let was = *o;
+        *o = left_of(close, owed, was);
+        owed = owed_behind(close, owed, was);
     }
     owed.void
 }

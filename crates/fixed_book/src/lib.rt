@@ -35,8 +35,8 @@ use crate::leaving::take_off;
 use crate::line::line_up;
 use crate::places::{is_in_arrival, sound_places};
 use crate::walking::{head_from, head_past, trade_at_close};
-use book::{Dealt, order_at, put_trade, smaller};
-use model::{Day, Order, Trade};
+use book::{Dealt, put_trade, smaller};
+use model::{Day, Fixed, Order, Trade};
 use soundness::places::has_places;
 
 // The trades of the orders that are not void, at the close, in order of arrival: all are counted, and as many are written as the list
@@ -53,7 +53,7 @@ pub fn deal_at_close(rows: &[Order], trades: &mut [Trade], close: u64) -> Dealt
     let mut shares: u64 = 0;
     while 0 < quantity {
         let trade = trade_at_close(buy, sell, quantity, close);
-        put_trade(&mut *trades, made, trade);
+        put_trade(trades, made, trade);
         made += 1;
         shares += quantity;
         buy = head_past(rows, 0, close, buy, quantity);
@@ -70,8 +70,8 @@ pub fn settle_at_close(rows: &mut [Order], close: u64, shares: u64) -> u64
     ensures value { result ≡ shares_of (is_void close) rows.old }
     ensures rows_after { rows.new ≡ lined (length rows.old) (settle (matches close (keep (λ o. not (is_void close o)) rows.old)) (keep (λ o. not (is_void close o)) rows.old)) }
 {
-    let void = take_off(&mut *rows, close, shares);
-    line_up(&mut *rows);
+    let void = take_off(rows, close, shares);
+    line_up(rows);
     void
 }
 
@@ -80,14 +80,7 @@ pub fn resting_of(rows: &[Order]) -> u64
     requires { Lined rows.now }
     ensures { result ≡ total (λ o. o.left) rows.now }
 {
-    let mut sum: u64 = 0;
-    let mut i = 0;
-    while i < rows.len() {
-        let o = order_at(rows, i);
-        sum += o.left;
-        i += 1;
-    }
-    sum
+    rows.iter().map(|o| o.left).sum()
 }
 
 // Whether the book has 1 to 4,096 places and is sound. Each test keeps the sums of the later ones small.
@@ -121,10 +114,10 @@ pub fn tally_fixed(d: Day, close: u64, shares: u64) -> Day
     requires shares_bound_2 { d.fixed.money + close * shares < 2 ^ 64 }
     ensures { (os : List Order) → filled (matches close os) ≡ shares → result ≡ tally_fixed (matches close os) d }
 {
-    let mut fixed = d.fixed;
-    fixed.shares = fixed.shares + shares;
-    fixed.money = fixed.money + close * shares;
-    let mut tallied = d;
-    tallied.fixed = fixed;
-    tallied
+    let fixed = Fixed {
+        shares: d.fixed.shares + shares,
+        money: d.fixed.money + close * shares,
+        ..d.fixed
+    };
+    Day { fixed, ..d }
 }

@@ -7,7 +7,6 @@ ghost use Rattle.fixed_book.specs.Ready.{Lined};
 ghost use Rattle.fixed_book.specs.Line.{Tidy, BroughtUp};
 
 use book::places::{free_place, is_live};
-use book::{order_at, put_order};
 use model::Order;
 
 // The order at a place goes to one before it, or stays; where the next one goes.
@@ -16,15 +15,12 @@ fn bring_up(rows: &mut [Order], from: usize, to: usize) -> usize
     requires to_le_from { to ≤ from }
     ensures { BroughtUp from to rows.old rows.new result }
 {
-    let o = order_at(rows, from);
+    let o = rows[from];
     if !is_live(o) {
         return to;
     }
-    if from == to {
-        return to + 1;
-    }
-    put_order(&mut *rows, from, free_place());
-    put_order(&mut *rows, to, o);
+    rows[from] = free_place();
+    rows[to] = o;
     to + 1
 }
 
@@ -34,10 +30,8 @@ pub fn line_up(rows: &mut [Order])
     ensures { rows.new ≡ lined (length rows.old) rows.old }
 {
     let mut to: usize = 0;
-    let mut i = 0;
-    while i < rows.len() {
-        to = bring_up(&mut *rows, i, to);
-        i += 1;
+    for i in 0..rows.len() {
+        to = bring_up(rows, i, to);
     }
 }
 
@@ -46,12 +40,10 @@ pub fn orders_in(rows: &[Order]) -> usize
     requires { Lined rows.now }
     ensures { result ≡ length (keep is_live rows.now) }
 {
-    let mut i = 0;
-    while i < rows.len() {
-        if !is_live(order_at(rows, i)) {
+    for (i, o) in rows.iter().enumerate() {
+        if !is_live(*o) {
             return i;
         }
-        i += 1;
     }
-    i
+    rows.len()
 }

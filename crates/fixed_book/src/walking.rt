@@ -8,25 +8,29 @@ ghost use Rattle.fixed_book.specs.Ready.{Lined};
 ghost use Rattle.fixed_book.specs.Heads.{may_trade, head_share, shares_from, HeadOf};
 
 use book::places::is_live;
-use book::{Head, order_at};
+use book::Head;
 use model::{Order, Trade};
 
 // A buy limit below the close, or a sell limit above it.
+#[tactic(auto, unfolding(model::specs::FixedBook::wrong_side))]
 pub fn wrong_side(side: u64, limit: u64, close: u64) -> bool
     ensures { result ≡ wrong_side side limit close }
 {
     if side == 0 {
-        return limit < close;
+        limit < close
+    } else {
+        close < limit
     }
-    close < limit
 }
 
+#[tactic(auto, unfolding(model::specs::FixedBook::is_void))]
 pub fn is_void(close: u64, o: Order) -> bool
     ensures { result ≡ is_void close o }
 {
     is_live(o) && wrong_side(o.side, o.price, close)
 }
 
+#[tactic(auto, unfolding(model::specs::Book::stands_on))]
 pub fn stands_on(side: u64, o: Order) -> bool
     ensures { result ≡ stands_on side o }
 {
@@ -34,13 +38,11 @@ pub fn stands_on(side: u64, o: Order) -> bool
 }
 
 // An order of the side that is not void.
+#[tactic(auto, unfolding(crate::specs::Heads::may_trade))]
 fn may_trade(close: u64, side: u64, o: Order) -> bool
     ensures { result ≡ may_trade close side o }
 {
-    if is_void(close, o) {
-        return false;
-    }
-    stands_on(side, o)
+    !is_void(close, o) && stands_on(side, o)
 }
 
 // The first such order from a place on.
@@ -49,9 +51,8 @@ pub fn head_from(rows: &[Order], from: usize, side: u64, close: u64) -> Head
     requires from_in_bounds { from ≤ length rows.now }
     ensures { HeadOf close side rows.now (shares_from close side from rows.now) result }
 {
-    let mut at = from;
-    while at < rows.len() {
-        let o = order_at(rows, at);
+    for at in from..rows.len() {
+        let o = rows[at];
         if may_trade(close, side, o) {
             return Head {
                 at,
@@ -60,10 +61,9 @@ pub fn head_from(rows: &[Order], from: usize, side: u64, close: u64) -> Head
                 left: o.left,
             };
         }
-        at += 1;
     }
     Head {
-        at,
+        at: rows.len(),
         number: 0,
         price: 0,
         left: 0,
@@ -78,16 +78,15 @@ pub fn head_past(rows: &[Order], side: u64, close: u64, h: Head, q: u64) -> Head
 {
     if q < h.left {
         return Head {
-            at: h.at,
-            number: h.number,
-            price: h.price,
             left: h.left - q,
+            ..h
         };
     }
     head_from(rows, h.at + 1, side, close)
 }
 
 // The trade of the two heads, of the smaller remainder, at the close.
+#[tactic(auto, unfolding(pairing::specs::Dealing::dealt))]
 pub fn trade_at_close(buy: Head, sell: Head, quantity: u64, close: u64) -> Trade
     requires { quantity ≡ min buy.left sell.left }
     ensures { result ≡ dealt close (head_share buy) (head_share sell) }

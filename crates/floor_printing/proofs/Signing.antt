@@ -21,22 +21,7 @@ use Rattle.printing.proofs.Printed.{and_then, spaced_fits}
 use Rattle.printing.proofs.Replied.{refusal_fits}
 use Rattle.floors.specs.Floor.{signed, signed_reply, report_line}
 
--- ---- the size of a number
-
-below_size :
-    (z : ℤ) (x : ℕ)
-    → lt_z z (pos 0) ≡ true
-    → mag z < 2 ^ 63
-    → x ≤ 18446744073709551615
-    → 18446744073709551615 - x ≡ word z
-    → x + 1 ≡ nat_abs z
-unfolding word
-below_size (pos n) x e f h k = let g : n < 0 = ltb-true n 0 e in absurd (omega arith)
-below_size (negsuc n) x e f h k = omega (arith, f)
-
-size_most : (z : ℤ) → mag z < 2 ^ 63 → nat_abs z ≤ 2 ^ 63
-size_most (pos n) h = omega (arith, h)
-size_most (negsuc n) h = omega (arith, h)
+-- ---- a number with its sign
 
 below_signed : (z : ℤ) → lt_z z (pos 0) ≡ true → 45 ∷ digits 20 (nat_abs z) ≡ signed z
 unfolding signed
@@ -48,25 +33,16 @@ unfolding signed
 above_signed (pos n) e = refl
 above_signed (negsuc n) e = let z : ◌≡◌ {A = ℕ} 0 1 = cc in absurd (omega arith)
 
--- as the code has them: every signed number is read from its bits and written to bits
+-- as the code has it: every signed number is read from its bits
 module _ (z : ℤ) (f : SFits w64 z) where
   abbrev bits : ℤ
   bits = to_z w64 (of_z w64 z)
 
   module _ (e : lt_z bits (pos 0) ≡ true) where
-    pub size_below : nat_abs (to_z w64 (of_z w64 (negsuc 0 -ℤ bits))) + 1 ≡ nat_abs z
-    size_below = below_size z _ (rw (to_z-of_z w64 z f) at e) f.sfits (below_small z f e) (below_word z f e)
-
-    pub size_small : nat_abs (to_z w64 (of_z w64 (negsuc 0 -ℤ bits))) + 1 ≤ 18446744073709551615
-    size_small = omega (arith, size_below, size_most z f.sfits)
-
     pub minus_signed : {n : ℕ} → n ≡ nat_abs z → 45 ∷ digits 20 n ≡ signed z
     minus_signed k = rw k (below_signed z (rw (to_z-of_z w64 z f) at e))
 
   module _ (e : lt_z bits (pos 0) ≡ false) where
-    pub size_above : nat_abs bits ≡ nat_abs z
-    size_above = ap nat_abs (to_z-of_z w64 z f)
-
     pub plus_signed : {n : ℕ} → n ≡ nat_abs z → digits 20 n ≡ signed z
     plus_signed k = rw k (above_signed z (rw (to_z-of_z w64 z f) at e))
 

@@ -4,7 +4,7 @@
 
 pub mod screen_lines;
 
-ghost use Rattle.std.specs.Prelude.{◌≡◌, ◌+◌, ◌*◌, ◌≤◌, [], ◌∷◌, length, nat_abs};
+ghost use Rattle.std.specs.Prelude.{◌≡◌, ◌+◌, ◌*◌, ◌≤◌, [], ◌∷◌, length};
 ghost use Rattle.model.specs.declared.ReportReply.TheVariants.{Priced};
 ghost use Rattle.model.specs.Lists.{from};
 ghost use Rattle.model.specs.Replies.{list_numbers};
@@ -13,7 +13,7 @@ ghost use Rattle.judge.specs.Judging.{verdict_numbers};
 ghost use Rattle.printing.specs.Printing.{Wrote};
 ghost use Rattle.floors.specs.Floor.{signed, signed_reply, report_line, price_lines};
 
-use judge::Verdict;
+use judge::{Verdict, verdict_numbers};
 use model::{ListReply, ReportReply};
 use printing::{put_answer, put_byte, put_digits, put_number, put_numbers, put_refusal, put_reply};
 use replies::list_numbers;
@@ -21,23 +21,12 @@ use replies::list_numbers;
 // The longest line of a price, with its newline.
 pub const LONGEST_PRICE: usize = 23;
 
-// A number without its sign.
-fn magnitude(z: i64) -> u64
-    ensures { result ≡ nat_abs z }
-{
-    if z < 0 {
-        let below = (-1) - z;
-        return (below as u64) + 1;
-    }
-    z as u64
-}
-
 // A number with a space in front, and a minus sign where it is negative.
 fn put_signed(z: i64, out: &mut [u8], at: usize) -> usize
     requires { at + 22 ≤ length out.old }
     ensures { Wrote out.old at (32 ∷ signed z) out.new result }
 {
-    let n = magnitude(z);
+    let n = z.unsigned_abs();
     if z < 0 {
         let p = put_byte(b' ', out, at);
         let q = put_byte(b'-', out, p);
@@ -95,12 +84,8 @@ pub fn put_prices(first: u64, n: usize, out: &mut [u8], at: usize) -> usize
     ensures { Wrote out.old at (price_lines (from first n)) out.new result }
 {
     let mut p = at;
-    let mut price = first;
-    let mut i: usize = 0;
-    while i < n {
+    for price in first..first + n as u64 {
         p = put_price(price, out, p);
-        price = price + 1;
-        i = i + 1;
     }
     p
 }
@@ -121,16 +106,6 @@ pub fn put_noted(n: u64, out: &mut [u8], at: usize) -> usize
 {
     let numbers = [n];
     put_reply(b'Q', &numbers, out, at)
-}
-
-fn verdict_numbers(told: Verdict) -> [u64; 2]
-    ensures { result ≡ verdict_numbers told }
-{
-    match told {
-        Verdict::Refused(n) => [n, 0],
-        Verdict::Yes => [0, 1],
-        Verdict::No => [0, 0],
-    }
 }
 
 pub fn put_verdict(told: Verdict, out: &mut [u8], at: usize) -> usize

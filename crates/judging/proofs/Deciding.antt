@@ -54,7 +54,7 @@ module _ (d : Day) (price : ℕ) (book : List Order) where
 
   module _ (cs : List Claim) where
     -- no, or 15, whatever is claimed
-    unread : {v : Verdict} → v ≡ price_verdict d price book → (v ≡ Yes → ⊥) → v ≡ judge_call d price book cs
+    pub unread : {v : Verdict} → v ≡ price_verdict d price book → (v ≡ Yes → ⊥) → v ≡ judge_call d price book cs
     unread {v} e n = go (unsound d book) refl (eqb price (auction_price d book)) refl
       where
         off : eqb price (auction_price d book) ≡ false → agrees (auction_price d book) price book cs ≡ false
@@ -67,12 +67,6 @@ module _ (d : Day) (price : ℕ) (book : List Order) where
             let no : No ≡ price_verdict d price book = sym (by_price u ∙ rw f) in
             let told : judge_call d price book cs ≡ No = by_tests d price book cs u ∙ rw (off f) in
             e ∙ sym no ∙ sym told
-
-    pub unread_refused : {v : Verdict} {n : ℕ} → v ≡ price_verdict d price book → v ≡ Refused n → v ≡ judge_call d price book cs
-    unread_refused e f = unread e (λ y. let z : ◌≡◌ {A = ℕ} 0 1 = cc in omega arith)
-
-    pub unread_no : {v : Verdict} → v ≡ price_verdict d price book → v ≡ No → v ≡ judge_call d price book cs
-    unread_no e f = unread e (λ y. let z : ◌≡◌ {A = ℕ} 0 1 = cc in omega arith)
 
     -- the claims decide
     module _

@@ -27,47 +27,6 @@ use Rattle.judging.specs.declared.Volumes.{Volumes}
 use Rattle.judge.specs.Judging.{granted_to}
 use Rattle.judging.specs.Slates.{volume_of, grant_of, volumes_past, grants_by, grants_at}
 
--- ---- as the code takes it
-
-module _ (v : Volumes) (o : Order) where
-  pub grant_free : o.number ≡ 0 → 0 ≡ grant_of v o
-  unfolding grant_of is_live
-  grant_free z = rw (eq-eqb o.number 0 z)
-
-  pub grant_buy : (o.number ≡ 0 → ⊥) → o.side ≡ 0 → {r : ℕ} → r ≡ min v.buys o.left → r ≡ grant_of v o
-  unfolding grant_of is_live volume_of
-  grant_buy n z e = rw (ne_eqb o.number 0 n, eq-eqb o.side 0 z) e
-
-  pub grant_sell : (o.number ≡ 0 → ⊥) → (o.side ≡ 0 → ⊥) → {r : ℕ} → r ≡ min v.sells o.left → r ≡ grant_of v o
-  unfolding grant_of is_live volume_of
-  grant_sell n z e = rw (ne_eqb o.number 0 n, ne_eqb o.side 0 z) e
-
-  pub past_free : o.number ≡ 0 → v ≡ volumes_past v o
-  unfolding volumes_past is_live
-  past_free z = rw (eq-eqb o.number 0 z)
-
-  pub past_buy :
-      (o.number ≡ 0 → ⊥)
-      → o.side ≡ 0
-      → {r : ℕ}
-      → r ≡ min v.buys o.left
-      → record { buys = v.buys - r; sells = v.sells } ≡ volumes_past v o
-  unfolding volumes_past is_live
-  past_buy n z {r} e =
-      let d : v.buys - r ≡ v.buys - o.left = omega arith in
-      rw (ne_eqb o.number 0 n, eq-eqb o.side 0 z, d)
-
-  pub past_sell :
-      (o.number ≡ 0 → ⊥)
-      → (o.side ≡ 0 → ⊥)
-      → {r : ℕ}
-      → r ≡ min v.sells o.left
-      → record { buys = v.buys; sells = v.sells - r } ≡ volumes_past v o
-  unfolding volumes_past is_live
-  past_sell n z {r} e =
-      let d : v.sells - r ≡ v.sells - o.left = omega arith in
-      rw (ne_eqb o.number 0 n, ne_eqb o.side 0 z, d)
-
 -- ---- the loop: what is written, and what is still to come, is the whole
 
 pub record Granted (rows : List Order) (whole slate : List ℕ) (v : Volumes) (i : ℕ) : Type 0 where

@@ -1,17 +1,16 @@
--- The loops: a slate looked through for what is left, one claim after another taken off it, and what the judge's tests say then.
--- Assumes nothing.
+-- The loop: one claim after another taken off a slate, and what the judge's tests say then. Assumes nothing.
 use Rattle.std.specs.Prelude.{if◌then◌else◌}
-use Prim.Native.Nat.{ℕ, zero, suc, ◌+◌, ◌-◌, ◌≤◌, ◌<◌}
+use Prim.Native.Nat.{ℕ, zero, suc, ◌+◌, ◌≤◌, ◌<◌}
 use mathlib.Core.Path.{◌≡◌, refl, sym, ap, ◌∙◌}
 use mathlib.Core.Logic.{◌↔◌}
-use mathlib.Core.Bool.{Bool, true, false, not, ◌&&◌}
+use mathlib.Core.Bool.{Bool, true, false, not}
 use mathlib.Core.List.{List, [], ◌∷◌, map}
 use native.Mathlib.Numerals.{add-one}
 use native.Mathlib.Omega.{arith}
-use lib.ListN.{length, get_or, drop, drop_of_length-le, length-map, get_or-map}
+use lib.ListN.{length, get_or, drop, drop_of_length-le}
 use lib.Seq.{drop-cons}
-use lib.Dec.{leb, eqb}
-use borrow.Author.Tests.{eq-eqb, ne_eqb, not-true, not-false}
+use lib.Dec.{eqb}
+use borrow.Author.Tests.{not-true, not-false}
 use Rattle.model.specs.declared.Order.{Order}
 use Rattle.model.specs.Lists.{all}
 use Rattle.model.specs.Book.{free, is_live}
@@ -23,63 +22,10 @@ use Rattle.soundness.proofs.Says.{Says, says_all, says_eq, says_same}
 use Rattle.judge.specs.declared.Claim.{Claim}
 use Rattle.judge.specs.Judging.{claimed_for, granted_to, claims_right, no_claim}
 use Rattle.judge.specs.Verdicts.{Joins}
-use Rattle.judging.specs.Slates.{grants_at, claimed_at, Settles, may_fill, Taken}
+use Rattle.judging.specs.Slates.{grants_at, claimed_at, Settles, Taken}
 use Rattle.judge.proofs.Rightness.{says_claims}
 use Rattle.judging.proofs.Granting.{grant_at, grants_are}
 use Rattle.judging.proofs.Settling.{claimed_nothing}
-
--- ---- whether a place may be filled, as the code tests it
-
-module _ (side q : ℕ) (rows : List Order) (slate : List ℕ) (at : ℕ) where
-  pub none_there : at ≡ 0 → false ≡ may_fill side q rows slate at
-  unfolding may_fill
-  none_there z = rw (eq-eqb at 0 z)
-
-  module _ {o : Order} (n : at ≡ 0 → ⊥) (e : o ≡ get_or rows (at - 1) free) where
-    here : (b : Bool) → eqb o.side side ≡ b → eqb (get_or rows (at - 1) free).side side ≡ b
-    here b f = ap (λ (x : Order). eqb x.side side) (sym (e)) ∙ f
-
-    pub other_there : (o.side ≡ side → ⊥) → false ≡ may_fill side q rows slate at
-    unfolding may_fill
-    other_there d = rw (ne_eqb at 0 n, here false (ne_eqb o.side side d))
-
-    pub some_there : o.side ≡ side → leb q (get_or slate (at - 1) 0) ≡ may_fill side q rows slate at
-    unfolding may_fill
-    some_there s = rw (ne_eqb at 0 n, here true (eq-eqb o.side side s))
-
--- ---- nothing is left
-
-abbrev zeros : List ℕ → Bool
-zeros slate = all (eqb 0) slate
-
-pub record Looked (slate : List ℕ) (i : ℕ) : Type 0 where
-  pub within : i ≤ length slate
-  pub same : all (eqb 0) (drop i slate) ≡ all (eqb 0) slate
-
-pub looked_none : (slate : List ℕ) → Looked slate 0
-looked_none slate = record { within = omega arith; same = refl }
-
-module _ (slate : List ℕ) (i : ℕ) (k : Looked slate i) where
-  module _ (h : i < length slate) where
-    split : all (eqb 0) (drop i slate) ≡ (eqb 0 (get_or slate i 0) && all (eqb 0) (drop (i + 1) slate))
-    split = ap zeros (drop-cons slate i 0 h) ∙ unfold all in ap (λ (n : ℕ). eqb 0 (get_or slate i 0) && zeros (drop n slate)) (sym (add-one i))
-
-    pub looked_some : (get_or slate i 0 ≡ 0 → ⊥) → false ≡ all (eqb 0) slate
-    looked_some n =
-        let f : eqb 0 (get_or slate i 0) ≡ false = ne_eqb 0 (get_or slate i 0) (λ e. n (sym e)) in
-        ap (λ (b : Bool). b && zeros (drop (i + 1) slate)) (sym f) ∙ sym split ∙ k.same
-
-    pub looked_more : get_or slate i 0 ≡ 0 → Looked slate (i + 1)
-    looked_more z =
-        let f : eqb 0 (get_or slate i 0) ≡ true = eq-eqb 0 (get_or slate i 0) (sym z) in
-        record {
-          within = omega arith;
-          same = ap (λ (b : Bool). b && zeros (drop (i + 1) slate)) (sym f) ∙ sym split ∙ k.same;
-        }
-
-  pub looked_all : length slate ≤ i → true ≡ all (eqb 0) slate
-  unfolding all
-  looked_all h = ap zeros (sym (drop_of_length-le slate h)) ∙ k.same
 
 -- ---- one claim after another
 

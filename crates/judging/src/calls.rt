@@ -22,12 +22,12 @@ pub fn price_verdict(d: Day, rows: &[Order], price: u64) -> Verdict
     ensures { result ≡ price_verdict d price rows.now }
 {
     if !is_sound(d, rows) {
-        return Verdict::Refused(15);
+        Verdict::Refused(15)
+    } else if price != auction_price(rows, reference_of(d)) {
+        Verdict::No
+    } else {
+        Verdict::Yes
     }
-    if price != auction_price(rows, reference_of(d)) {
-        return Verdict::No;
-    }
-    Verdict::Yes
 }
 
 // A slate for the largest book, in a function of its own, so that no proof looks into its numbers.
@@ -46,8 +46,8 @@ pub fn set_up(rows: &[Order], tops: &mut [u16], under: &mut [u16], slate: &mut [
     ensures piled { Piled rows.now (length rows.now) tops.new under.new }
     ensures slate_after { slate.new ≡ grants_at price rows.now }
 {
-    pile_orders(rows, &mut *tops, &mut *under);
-    grant_rows(rows, &mut *slate, volume_at(rows, price));
+    pile_orders(rows, tops, under);
+    grant_rows(rows, slate, volume_at(rows, price));
 }
 
 // Whether every claim joins, and each order's claims add up to what is granted at the price.
@@ -65,8 +65,8 @@ fn claims_decide(
     requires slate_len { length slate.old ≡ length rows.now }
     ensures { result ≡ claims_right price rows.now claims.now }
 {
-    set_up(rows, &mut *tops, &mut *under, &mut *slate, price);
-    take_claims(rows, tops, under, &mut *slate, claims)
+    set_up(rows, tops, under, slate, price);
+    take_claims(rows, tops, under, slate, claims)
 }
 
 // The same, with room for piles and slate.
@@ -91,19 +91,9 @@ fn claims_right(rows: &[Order], claims: &[Claim], price: u64) -> bool
 pub fn judge_call(d: Day, rows: &[Order], claims: &[Claim], price: u64) -> Verdict
     ensures { JudgePromise d rows.now claims.now price result }
 {
-    let told = price_verdict(d, rows, price);
-    match told {
-        Verdict::Refused(_) => {
-            return told;
-        }
-        Verdict::No => {
-            return told;
-        }
-        Verdict::Yes => {
-            if claims_right(rows, claims, price) {
-                return Verdict::Yes;
-            }
-            return Verdict::No;
-        }
+    match price_verdict(d, rows, price) {
+        Verdict::Yes if claims_right(rows, claims, price) => Verdict::Yes,
+        Verdict::Yes => Verdict::No,
+        told => told,
     }
 }

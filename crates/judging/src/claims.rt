@@ -4,34 +4,19 @@ ghost use Rattle.model.specs.Lists.{all};
 ghost use Rattle.book.specs.Standing.{Standing};
 ghost use Rattle.lookup.specs.Piles.{Piled};
 ghost use Rattle.judging.specs.Slates.{Settles, may_fill, Taken};
-ghost use Rattle.judge.specs.Judging.{no_claim};
 
-use book::order_at;
 use judge::Claim;
 use lookup::place_by;
 use model::Order;
 
-fn claim_at(claims: &[Claim], i: usize) -> Claim
-    requires { i < length claims.now }
-    ensures { result ≡ get_or claims.now i no_claim }
-{
-    claims[i]
-}
-
 // Whether a place, counted from 1, has an order of this side of which so many shares are still to be filled.
+#[tactic(auto, unfolding(crate::specs::Slates::may_fill))]
 fn may_fill(rows: &[Order], slate: &[u64], at: usize, side: u64, shares: u64) -> bool
     requires at_in_bounds { at ≤ length rows.now }
     requires slate_len { length slate.now ≡ length rows.now }
     ensures { result ≡ may_fill side shares rows.now slate.now at }
 {
-    if at == 0 {
-        return false;
-    }
-    let o = order_at(rows, at - 1);
-    if o.side != side {
-        return false;
-    }
-    shares <= slate[at - 1]
+    at != 0 && rows[at - 1].side == side && shares <= slate[at - 1]
 }
 
 // So many shares less are to be filled at a place, counted from 1.
@@ -63,8 +48,8 @@ pub fn take_claim(rows: &[Order], tops: &[u16], under: &[u16], slate: &mut [u64]
     if !may_fill(rows, slate, seller, 1, c.shares) {
         return false;
     }
-    take_off(&mut *slate, buyer, c.shares);
-    take_off(&mut *slate, seller, c.shares);
+    take_off(slate, buyer, c.shares);
+    take_off(slate, seller, c.shares);
     true
 }
 
@@ -72,14 +57,7 @@ pub fn take_claim(rows: &[Order], tops: &[u16], under: &[u16], slate: &mut [u64]
 pub fn all_filled(slate: &[u64]) -> bool
     ensures { result ≡ all (eqb 0) slate.now }
 {
-    let mut i = 0;
-    while i < slate.len() {
-        if slate[i] != 0 {
-            return false;
-        }
-        i += 1;
-    }
-    true
+    slate.iter().all(|left| 0 == *left)
 }
 
 // Whether the claims are those that the slate asks for.
@@ -95,13 +73,10 @@ pub fn take_claims(
     requires slate_len { length slate.old ≡ length rows.now }
     ensures { (result ≡ true) ↔ Settles rows.now slate.old claims.now }
 {
-    let mut i = 0;
-    while i < claims.len() {
-        let c = claim_at(claims, i);
-        if !take_claim(rows, tops, under, &mut *slate, c) {
+    for c in claims {
+        if !take_claim(rows, tops, under, slate, *c) {
             return false;
         }
-        i += 1;
     }
     all_filled(slate)
 }

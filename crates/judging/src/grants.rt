@@ -3,38 +3,39 @@ ghost use Rattle.std.specs.Prelude.{◌≡◌, length};
 ghost use Rattle.judging.specs.Slates.{grant_of, volumes_past, grants_by};
 
 use crate::Volumes;
-use book::{order_at, smaller};
 use model::Order;
 
 // A free place gets nothing.
+#[tactic(auto, unfolding(crate::specs::Slates::grant_of, crate::specs::Slates::volume_of, model::specs::Book::is_live))]
 fn grant_of(v: Volumes, o: Order) -> u64
     ensures { result ≡ grant_of v o }
 {
     if o.number == 0 {
-        return 0;
+        0
+    } else if o.side == 0 {
+        v.buys.min(o.left)
+    } else {
+        v.sells.min(o.left)
     }
-    if o.side == 0 {
-        return smaller(v.buys, o.left);
-    }
-    smaller(v.sells, o.left)
 }
 
 // What is left of the volume behind an order.
+#[tactic(auto, unfolding(crate::specs::Slates::volumes_past, model::specs::Book::is_live))]
 fn volumes_past(v: Volumes, o: Order) -> Volumes
     ensures { result ≡ volumes_past v o }
 {
     if o.number == 0 {
-        return v;
-    }
-    if o.side == 0 {
-        return Volumes {
-            buys: v.buys - smaller(v.buys, o.left),
-            sells: v.sells,
-        };
-    }
-    Volumes {
-        buys: v.buys,
-        sells: v.sells - smaller(v.sells, o.left),
+        v
+    } else if o.side == 0 {
+        Volumes {
+            buys: v.buys.saturating_sub(o.left),
+            ..v
+        }
+    } else {
+        Volumes {
+            sells: v.sells.saturating_sub(o.left),
+            ..v
+        }
     }
 }
 
@@ -47,11 +48,8 @@ pub fn grant_rows(rows: &[Order], slate: &mut [u64], shares: u64)
         buys: shares,
         sells: shares,
     };
-    let mut i = 0;
-    while i < rows.len() {
-        let o = order_at(rows, i);
-        slate[i] = grant_of(v, o);
-        v = volumes_past(v, o);
-        i += 1;
+    for (i, o) in rows.iter().enumerate() {
+        slate[i] = grant_of(v, *o);
+        v = volumes_past(v, *o);
     }
 }

@@ -1,5 +1,6 @@
 -- Laws of the definitions that more than one crate cites, and the definitions tried on examples.
 pub mod Bools
+pub mod Folds
 pub mod Rules
 pub mod Seconds
 pub mod Evening

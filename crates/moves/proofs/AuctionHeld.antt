@@ -4,12 +4,12 @@ use Prim.Native.Nat.{ℕ, ◌+◌, ◌-◌, ◌*◌, ◌^◌, ◌≤◌, ◌<◌
 use mathlib.Core.Path.{◌≡◌, refl, sym, ap, ◌∙◌}
 use mathlib.Core.Logic.{⊎_elim}
 use mathlib.Core.Bool.{Bool, true, false, cond}
-use mathlib.Core.List.{List, [], ◌++◌, append-nil, map-append}
+use mathlib.Core.List.{List, [], ◌++◌, append-nil}
 use native.Mathlib.Nat.{mul-le-mul_right, mul-add}
 use native.Mathlib.Omega.{arith}
 use lib.Dec.{eqb}
 use borrow.Author.Tests.{eq-eqb, ne_eqb, eqb-false}
-use lib.ListN.{replicate, length, length-map, length-append, length-drop, take, drop, get_or, drop_of_length-le}
+use lib.ListN.{replicate, length, length-append, length-drop, take, drop, get_or, drop_of_length-le}
 use lib.Seq.{length-take-le, take_all, take-append-le, drop-append-le, take-append-add, drop-append-add, drop_at, drop-drop}
 use Rattle.model.specs.declared.Order.{Order}
 use Rattle.model.specs.declared.Trade.{Trade}

@@ -1,15 +1,15 @@
 -- The next stop of a move: it is the first second on the way at which something is due, and before it nothing happens. Assumes nothing.
-use Prim.Native.Nat.{ℕ, suc, ◌+◌, ◌-◌, ◌≤◌, ◌<◌}
-use mathlib.Core.Path.{◌≡◌, refl, ◌∙◌}
+use Rattle.std.specs.Prelude.{fold, reverse}
+use Rattle.std.proofs.lemmas.List.{reverse-append}
+use Rattle.std.proofs.lemmas.List.Sums.{fold-append}
+use Prim.Native.Nat.{ℕ, suc, ◌-◌, ◌≤◌, ◌<◌}
+use mathlib.Core.Path.{◌≡◌, refl, ap, ◌∙◌}
 use mathlib.Core.Logic.{◌⊎◌, inl, inr, ⊎_elim}
 use mathlib.Core.Bool.{Bool, true, false, cond, ◌&&◌, ◌||◌}
 use mathlib.Core.List.{List, [], ◌∷◌}
 use native.Mathlib.Omega.{arith}
-use native.Mathlib.Numerals.{add-one}
-use lib.ListN.{length, drop, get_or}
-use lib.Seq.{drop-cons}
 use lib.Dec.{leb, ltb, eqb}
-use borrow.Author.Tests.{lt-ltb, le-ltb, ltb-true, ltb-false, leb-true, le-leb, eq-eqb, ne_eqb, eqb-true, eqb-false}
+use borrow.Author.Tests.{lt-ltb, ltb-true, ltb-false, leb-true, le-leb, eq-eqb, ne_eqb, eqb-true, eqb-false}
 use Rattle.model.specs.Lists.{any, among}
 use Rattle.model.specs.Clock.{passed}
 use Rattle.model.specs.ClockCall.{Held, pass, through}
@@ -18,43 +18,16 @@ use Rattle.model.proofs.Seconds.{pass_cases, through_quiet, through_stop}
 use Rattle.moves.specs.Stops.{stops, is_stop, passes, sooner, first_passed, next_stop}
 
 module _ (old new : ℕ) where
-  -- ---- what is passed, as the code finds it
+  -- ---- the table, from its last second to its first
 
-  pub not_below : (second : ℕ) → second ≤ old → ltb old second ≡ passes second old new
-  unfolding passes
-  not_below second h = rw (le-ltb old second h)
-
-  pub from_below : (second : ℕ) → old < second → leb second new ≡ passes second old new
-  unfolding passes
-  from_below second h = rw (lt-ltb old second h)
-
-  -- ---- the sooner of two
-
-  module _ (second next : ℕ) {p : Bool} (e : p ≡ passes second old new) where
-    pub sooner_not : p ≡ false → next ≡ sooner old new second next
-    unfolding sooner
-    sooner_not n = rw (← e, n)
-
-    module _ (y : p ≡ true) where
-      pub sooner_only : next ≡ 0 → second ≡ sooner old new second next
-      unfolding sooner
-      sooner_only z = rw (← e, y, eq-eqb next 0 z)
-
-      pub sooner_first : (next ≡ 0 → ⊥) → second < next → second ≡ sooner old new second next
-      unfolding sooner
-      sooner_first n l = rw (← e, y, ne_eqb next 0 n, lt-ltb second next l)
-
-      pub sooner_later : (next ≡ 0 → ⊥) → next ≤ second → next ≡ sooner old new second next
-      unfolding sooner
-      sooner_later n l = rw (← e, y, ne_eqb next 0 n, le-ltb second next l)
-
-  -- one stop more of a table
-  pub sooner_stop :
-      (ss : List ℕ) (at : ℕ)
-      → at < length ss
-      → sooner old new (get_or ss at 0) (first_passed old new (drop (at + 1) ss)) ≡ first_passed old new (drop at ss)
+  pub first_folded : (ss : List ℕ) → fold (λ next second. sooner old new second next) 0 (reverse ss) ≡ first_passed old new ss
   unfolding first_passed
-  sooner_stop ss at l = rw (drop-cons ss at 0 l, first_passed, add-one)
+  first_folded [] = refl
+  first_folded (s ∷ ss) =
+      let f = λ (next second : ℕ). sooner old new second next in
+      ap (fold f 0) (reverse-append (s ∷ []) ss)
+      ∙ fold-append f 0 (reverse ss) (s ∷ [])
+      ∙ ap (sooner old new s) (first_folded ss)
 
   -- ---- the first of these seconds that is passed
 

@@ -1,5 +1,5 @@
 -- A move of the clock as the code makes it: the state that it has reached, in memory.
-use Rattle.std.specs.Prelude.{ℕ, ◌+◌, ◌*◌, ◌≤◌, ◌≡◌, List, length, take, drop}
+use Rattle.std.specs.Prelude.{◌+◌, ◌*◌, ◌≤◌, ◌≡◌, List, length, take, drop}
 use Rattle.model.specs.declared.Order.{Order}
 use Rattle.model.specs.Lists.{total}
 use Rattle.model.specs.ClockCall.{Held}

@@ -35,7 +35,7 @@ pub fn auction_trades(d: Day, rows: &[Order], trades: &mut [Trade]) -> Dealt
     }
     let price = auction_price(rows, reference_of(d));
     let shares = volume_at(rows, price);
-    let made = pair_at(rows, &mut *trades, price, shares);
+    let made = pair_at(rows, trades, price, shares);
     Dealt { made, shares }
 }
 
@@ -45,8 +45,8 @@ fn hold_auction(d: Day, rows: &mut [Order], trades: &mut [Trade]) -> Passage
     requires rows_in_bounds { length (auction_trades d rows.old) ≤ length trades.old }
     ensures { Reached (auction (start d rows.old)) trades.old result rows.new trades.new }
 {
-    let dealt = auction_trades(d, rows, &mut *trades);
-    settle_auction(&mut *rows, dealt.shares);
+    let dealt = auction_trades(d, rows, trades);
+    settle_auction(rows, dealt.shares);
     Passage {
         day: tally_trades(d, trades, dealt.made),
         made: dealt.made,
@@ -59,8 +59,8 @@ fn close_book(d: Day, rows: &mut [Order], trades: &mut [Trade]) -> Passage
     requires rows_in_bounds { length (auction_trades d rows.old) ≤ length trades.old }
     ensures { Reached (lapse (auction (start d rows.old))) trades.old result rows.new trades.new }
 {
-    let dealt = auction_trades(d, rows, &mut *trades);
-    clear_rows(&mut *rows);
+    let dealt = auction_trades(d, rows, trades);
+    clear_rows(rows);
     Passage {
         day: tally_trades(d, trades, dealt.made),
         made: dealt.made,
@@ -74,7 +74,7 @@ fn end_halt(d: Day, rows: &mut [Order], trades: &mut [Trade], second: u64) -> Pa
     requires second_bound { second ≤ 86_399 }
     ensures { Reached (resume second (start d rows.old)) trades.old result rows.new trades.new }
 {
-    let held = hold_auction(d, &mut *rows, &mut *trades);
+    let held = hold_auction(d, rows, trades);
     let made = held.made;
     let over = resume_day(held.day);
     if second == CLOSING_CALL {
@@ -95,10 +95,10 @@ pub fn pass_stop(d: Day, rows: &mut [Order], trades: &mut [Trade], second: u64) 
     ensures { Reached (pass second (start d rows.old)) trades.old result rows.new trades.new }
 {
     if second == OPENING_AUCTION {
-        return hold_auction(d, &mut *rows, &mut *trades);
+        hold_auction(d, rows, trades)
+    } else if second == d.halt {
+        end_halt(d, rows, trades, second)
+    } else {
+        close_book(d, rows, trades)
     }
-    if second == d.halt {
-        return end_halt(d, &mut *rows, &mut *trades, second);
-    }
-    close_book(d, &mut *rows, &mut *trades)
 }

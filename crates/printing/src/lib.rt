@@ -58,11 +58,8 @@ pub fn put_numbers(numbers: &[u64], out: &mut [u8], at: usize) -> usize
     ensures { Wrote out.old at (spaced numbers.now) out.new result }
 {
     let mut p = at;
-    let mut i: usize = 0;
-    while i < numbers.len() {
-        let x = numbers[i];
-        p = put_number(x, out, p);
-        i = i + 1;
+    for x in numbers {
+        p = put_number(*x, out, p);
     }
     p
 }
@@ -98,11 +95,8 @@ pub fn put_trades(trades: &[Trade], n: usize, out: &mut [u8], at: usize) -> usiz
     ensures { Wrote out.old at (trade_lines (take n trades.now)) out.new result }
 {
     let mut p = at;
-    let mut i: usize = 0;
-    while i < n {
-        let t = book::trade_at(trades, i);
-        p = put_trade(t, out, p);
-        i = i + 1;
+    for i in 0..n {
+        p = put_trade(trades[i], out, p);
     }
     p
 }

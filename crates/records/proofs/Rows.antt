@@ -1,6 +1,6 @@
 -- Runs of records in a lent list: the laws of a run, over what a record's bytes are. Assumes nothing.
 use Prim.Native.Nat.{ℕ, ◌+◌, ◌*◌, ◌≤◌, ◌<◌}
-use mathlib.Core.Path.{◌≡◌, refl, sym, ap, ◌∙◌}
+use mathlib.Core.Path.{◌≡◌, refl, ap, ◌∙◌}
 use mathlib.Core.List.{List}
 use native.Mathlib.Omega.{arith}
 use native.Mathlib.Nat.{zero-add}
@@ -9,11 +9,9 @@ use lib.Seq.{sets}
 use Rattle.octets.specs.Numbers.{parts, flat}
 use Rattle.records.proofs.Runs.{
   Loading,
-  loading_start,
   loading_next,
   loading_end,
   Storing,
-  storing_start,
   storing_next,
   storing_end,
 }
@@ -23,9 +21,6 @@ module _ {A : Type 0} (f : List ℕ → A) (size : ℕ) (b : List ℕ) (rows₀ 
     pub long : length rows ≡ length rows₀
     pub done : i ≤ length rows₀
     pub run : Loading f size b 0 rows₀ rows i
-
-  pub filling_start : Filling rows₀ 0
-  filling_start = record { long = refl; done = omega arith; run = loading_start f size b 0 rows₀ }
 
   pub filling_next :
       {rows rows' : List A} {i : ℕ} {x : A}
@@ -50,9 +45,6 @@ module _ {A : Type 0} (f : A → List ℕ) (size : ℕ) (rows : List A) (b₀ : 
     pub done : i ≤ length rows
     pub long : length b ≡ length b₀
     pub run : Storing f size rows b₀ 0 b i
-
-  pub emptying_start : Emptying b₀ 0
-  emptying_start = record { done = omega arith; long = refl; run = storing_start f size rows b₀ 0 }
 
   pub emptying_next :
       {b b' : List ℕ} {i : ℕ} {x : A} (none : A)

@@ -3,11 +3,10 @@ use Prim.Native.Nat.{ℕ, ◌+◌, ◌*◌, ◌/◌, ◌≤◌, ◌<◌}
 use mathlib.Core.Path.{◌≡◌, refl, sym, ap, ◌∙◌}
 use mathlib.Core.List.{List, [], ◌∷◌, ◌++◌}
 use native.Mathlib.Omega.{arith}
-use lib.ListN.{length, take, length-map}
+use lib.ListN.{length, take}
 use lib.Seq.{sets, take_all, length-take-le}
 use Rattle.model.specs.declared.Screen.{Screen}
 use Rattle.model.specs.declared.Day.{Day}
-use Rattle.records.specs.Layout.{order_of, declaration_of, trade_of}
 use Rattle.octets.specs.Numbers.{digits, parts, flat}
 use Rattle.octets.proofs.Parts.{flat_append}
 use Rattle.replies.specs.Words.{word}

@@ -4,6 +4,7 @@
 pub mod blocks;
 pub mod buffers;
 pub mod days;
+pub mod in_bytes;
 pub mod lists;
 pub mod numbers;
 pub mod rooms;

@@ -1,49 +1,68 @@
 // Orders and trades as bytes, and lists of them.
-ghost use Rattle.std.specs.Prelude.{◌≡◌, ◌+◌, ◌*◌, ◌/◌, ◌≤◌, length, drop};
-ghost use Rattle.std.proofs.lemmas.List.Edits.{sets};
+ghost use Rattle.std.specs.Prelude.{◌≡◌, ◌*◌, ◌/◌, ◌≤◌, length};
 ghost use Rattle.records.specs.Layout.{order_in, order_bytes, trade_bytes, book_in, book_bytes, trades_bytes, over};
+ghost use Rattle.records.specs.Lengths.{length_order, length_trade};
 
+use crate::in_bytes::{FromBytes, ToBytes, load, store};
 use crate::numbers::{put_numbers, read_numbers};
 use crate::{ORDER_BYTES, TRADE_BYTES};
-use book::{order_at, put_order, trade_at};
 use model::{Order, Trade};
 
-fn read_order(b: &[u8], at: usize) -> Order
-    requires { at + 40 ≤ length b.now }
-    ensures { result ≡ order_in (drop at b.now) }
-{
-    let mut v = [0u64; 5];
-    read_numbers(b, at, &mut v[..]);
-    Order {
-        side: v[0],
-        account: v[1],
-        left: v[2],
-        price: v[3],
-        number: v[4],
+impl FromBytes for Order {
+    ghost SIZE = { 40 };
+
+    const SIZE: usize = ORDER_BYTES;
+
+    ghost of = { order_in };
+
+    fn read(b: &[u8], at: usize) -> Order {
+        let mut v = [0u64; 5];
+        read_numbers(b, at, &mut v[..]);
+        Order {
+            side: v[0],
+            account: v[1],
+            left: v[2],
+            price: v[3],
+            number: v[4],
+        }
     }
 }
 
-fn put_order_bytes(b: &mut [u8], at: usize, o: Order)
-    requires { at + 40 ≤ length b.old }
-    ensures { b.new ≡ sets b.old at (order_bytes o) }
-{
-    let row = [o.side, o.account, o.left, o.price, o.number];
-    put_numbers(b, at, &row[..]);
+impl ToBytes for Order {
+    ghost SIZE = { 40 };
+
+    const SIZE: usize = ORDER_BYTES;
+
+    ghost bytes = { order_bytes };
+
+    fn put(self, b: &mut [u8], at: usize) {
+        let row = [self.side, self.account, self.left, self.price, self.number];
+        put_numbers(b, at, &row[..]);
+    }
+
+    ghost long = { length_order };
 }
 
-fn put_trade_bytes(b: &mut [u8], at: usize, t: Trade)
-    requires { at + 48 ≤ length b.old }
-    ensures { b.new ≡ sets b.old at (trade_bytes t) }
-{
-    let row = [
-        t.price,
-        t.quantity,
-        t.buyer,
-        t.seller,
-        t.buyerleft,
-        t.sellerleft,
-    ];
-    put_numbers(b, at, &row[..]);
+impl ToBytes for Trade {
+    ghost SIZE = { 48 };
+
+    const SIZE: usize = TRADE_BYTES;
+
+    ghost bytes = { trade_bytes };
+
+    fn put(self, b: &mut [u8], at: usize) {
+        let row = [
+            self.price,
+            self.quantity,
+            self.buyer,
+            self.seller,
+            self.buyerleft,
+            self.sellerleft,
+        ];
+        put_numbers(b, at, &row[..]);
+    }
+
+    ghost long = { length_trade };
 }
 
 // Fills rows with the book that the bytes hold.
@@ -51,11 +70,7 @@ pub fn load_book(b: &[u8], rows: &mut [Order])
     requires { length rows.old ≡ length b.now / 40 }
     ensures { rows.new ≡ book_in b.now }
 {
-    let mut i: usize = 0;
-    while i < rows.len() {
-        put_order(&mut *rows, i, read_order(b, ORDER_BYTES * i));
-        i += 1;
-    }
+    load(b, rows);
 }
 
 // Writes the rows of a book to the bytes' front.
@@ -63,11 +78,7 @@ pub fn store_book(b: &mut [u8], rows: &[Order])
     requires { 40 * length rows.now ≤ length b.old }
     ensures { b.new ≡ over (book_bytes rows.now) b.old }
 {
-    let mut i: usize = 0;
-    while i < rows.len() {
-        put_order_bytes(&mut *b, ORDER_BYTES * i, order_at(rows, i));
-        i += 1;
-    }
+    store(b, rows);
 }
 
 // Writes the trades of a list to the bytes' front.
@@ -75,9 +86,5 @@ pub fn store_trades(b: &mut [u8], list: &[Trade])
     requires { 48 * length list.now ≤ length b.old }
     ensures { b.new ≡ over (trades_bytes list.now) b.old }
 {
-    let mut i: usize = 0;
-    while i < list.len() {
-        put_trade_bytes(&mut *b, TRADE_BYTES * i, trade_at(list, i));
-        i += 1;
-    }
+    store(b, list);
 }

@@ -19,7 +19,7 @@ fn write_out<W: Write>(output: &mut W, out: &[u8], n: usize)
 fn at_most_sixteen(made: usize) -> usize
     ensures { result ≤ 16 }
 {
-    if made < 16 { made } else { 16 }
+    made.min(16)
 }
 
 // The number that a cancel asks for.
@@ -86,14 +86,8 @@ fn print_report<W: Write>(output: &mut W, reply: ReportReply) {
 
 // `P` and a price, for the first n of the list.
 fn print_prices<W: Write>(output: &mut W, prices: &[u64], n: usize) {
-    let mut i: usize = 0;
-    while i < n {
-        if prices.len() <= i {
-            return;
-        }
-        let numbers = [prices[i]];
-        print_line(&mut *output, b'P', &numbers);
-        i += 1;
+    for price in prices.iter().take(n) {
+        print_line(output, b'P', &[*price]);
     }
 }
 
@@ -102,7 +96,7 @@ fn print_list<W: Write>(output: &mut W, reply: ListReply, prices: &[u64]) {
     match reply {
         ListReply::Refused(n) => print_line(output, b'X', &[n]),
         ListReply::Listed { count, next } => {
-            print_prices(&mut *output, prices, count);
+            print_prices(output, prices, count);
             print_line(output, b'N', &[next]);
         }
     }
@@ -118,13 +112,13 @@ pub fn print_told<W: Write>(output: &mut W, told: Told, prices: &[u64]) {
 // `B`, then side, account, shares left, price and number, for each order of the book.
 pub fn print_book<W: Write>(output: &mut W, s: Stand) {
     let book = s.book;
-    let mut i: usize = 0;
-    while i < 16 {
-        let o = book[i];
+    for o in &book {
         if o.number != 0 {
-            let numbers = [o.side, o.account, o.left, o.price, o.number];
-            print_line(&mut *output, b'B', &numbers);
+            print_line(
+                output,
+                b'B',
+                &[o.side, o.account, o.left, o.price, o.number],
+            );
         }
-        i += 1;
     }
 }

@@ -1,24 +1,13 @@
 // The judge: it writes its reply, and reads all else.
 ghost use Rattle.std.specs.Prelude.{◌≡◌};
-ghost use Rattle.judge.specs.Judging.{verdict_numbers};
 ghost use Rattle.wire.specs.Verdicts.{judge_on, JudgePromise};
 
 use byte_judge::calls::judge_bytes;
-use judge::Verdict;
+use judge::{Verdict, verdict_numbers};
 use model::MOST_PLACES;
 use records::buffers::put_reply;
 use records::days::day_in;
 use records::{DAY_BYTES, ORDER_BYTES};
-
-fn verdict_numbers(told: Verdict) -> [u64; 2]
-    ensures { result ≡ verdict_numbers told }
-{
-    match told {
-        Verdict::Refused(n) => [n, 0],
-        Verdict::Yes => [0, 1],
-        Verdict::No => [0, 0],
-    }
-}
 
 // A day of another length, and a book of more places than any may have, are never read.
 fn judge_any(day: &[u8], book: &[u8], claims: &[u8], price: u64) -> Verdict

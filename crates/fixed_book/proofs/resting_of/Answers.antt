@@ -1,20 +1,25 @@
--- Place by place: what is summed and what is left to sum make the whole, which is small enough.
+-- A line's shares are few enough to be summed, and the library's sum is the definition's. Assumes nothing.
+use Prim.Native.Nat.{◌^◌, ◌<◌}
+use mathlib.Core.Path.{◌≡◌, ◌∙◌}
+use borrow.Author.Rules.{rules}
 use native.Mathlib.Omega.{arith}
-use Rattle.soundness.proofs.Totals.{sum_none, sum_small, sum_more, sum_all, shares_within}
+use Rattle.std.specs.List.{sum_by}
+use Rattle.std.proofs.iter.runs.Made.{chains}
+use Rattle.model.specs.declared.Order.{Order}
+use Rattle.model.proofs.Folds.{total_is}
+use Rattle.soundness.proofs.Totals.{shares_within}
 use Rattle.fixed_book.proofs.resting_of.Goals as goal
 
-pub loop-i-init : goal.loop-i-init
-loop-i-init c = sum_none _
-
-pub overflow_add-sum : goal.overflow_add-sum
-overflow_add-sum c =
+pub sum-requires-clause-fits : goal.sum-requires-clause-fits
+sum-requires-clause-fits c =
     let rows = c.args.rows.now in
-    omega
-    (arith, sum_small rows c.loop-i.sum c.loop-i.i c.loop-i.invariant c.order_at-o.result c.loop-i-test.true c.order_at-o.ensures, shares_within rows c.requires.fair c.requires.few)
-
-pub loop-i-preserved : goal.loop-i-preserved
-loop-i-preserved c =
-    sum_more c.args.rows.now c.loop-i.sum c.loop-i.i c.loop-i.invariant c.order_at-o.result c.loop-i-test.true c.order_at-o.ensures
+    let few : sum_by (λ (o : Order). o.left) rows < 2 ^ 64 =
+    omega (arith, total_is (λ (o : Order). o.left) rows, shares_within rows c.requires.fair c.requires.few)
+    in
+    search (rules, chains)
 
 pub returns : goal.returns
-returns c = sum_all _ _ _ c.loop-i.invariant c.loop-i-test.false
+returns c =
+    let rows = c.args.rows.now in
+    let told : c.sum.result ≡ sum_by (λ (o : Order). o.left) rows = search (rules, chains) in
+    told ∙ total_is (λ (o : Order). o.left) rows

@@ -11,10 +11,10 @@ use Rattle.floor_printing.proofs.put_signed.Goals as goal
 
 pub returns-then-z-lt0 : goal.returns-then-z-lt0
 returns-then-z-lt0 c =
-    put_as (ap (λ (l : List ℕ). 32 ∷ l) (minus_signed c.args.z c.ranges.z c.if-z-lt0.true (c.magnitude-n.ensures ∙ ap nat_abs (to_z-of_z w64 _ c.ranges.z))))
+    put_as (ap (λ (l : List ℕ). 32 ∷ l) (minus_signed c.args.z c.ranges.z c.if-z-lt0.true (c.unsigned_abs-n.ensures.value ∙ ap nat_abs (to_z-of_z w64 _ c.ranges.z))))
     (and_then (and_then c.put_byte-p.ensures c.put_byte-q.ensures) c.put_digits.ensures)
 
 pub returns : goal.returns
 returns c =
-    put_as (ap (λ (l : List ℕ). 32 ∷ l) (plus_signed c.args.z c.ranges.z c.if-z-lt0.false (c.magnitude-n.ensures ∙ ap nat_abs (to_z-of_z w64 _ c.ranges.z))))
+    put_as (ap (λ (l : List ℕ). 32 ∷ l) (plus_signed c.args.z c.ranges.z c.if-z-lt0.false (c.unsigned_abs-n.ensures.value ∙ ap nat_abs (to_z-of_z w64 _ c.ranges.z))))
     c.put_number.ensures

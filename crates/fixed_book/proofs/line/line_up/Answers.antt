@@ -11,23 +11,7 @@ loop-i-init c = closing_start _
 
 pub bring_up-to-requires : goal.bring_up-to-requires
 bring_up-to-requires c =
-    record { from_in_bounds = omega (arith, c.loop-i-test.true); to_le_from = up_to c.args.rows.now c.loop-i.invariant }
-
-pub overflow_add-i : goal.overflow_add-i
-overflow_add-i c =
-    let rows₀ = c.args.rows.now in
-    let long : length c.loop-i.rows ≡ length rows₀ =
-    closing_long rows₀ c.loop-i.invariant
-    in
-    record { fits = omega (arith, c.loop-i-test.true, c.well_formed.0.0) }
-
-pub loop-i-smaller : goal.loop-i-smaller
-loop-i-smaller c =
-    let rows₀ = c.args.rows.now in
-    let long : length c.loop-i.rows ≡ length rows₀ =
-    closing_long rows₀ c.loop-i.invariant
-    in
-    omega (arith, c.loop-i-test.true)
+    record { from_in_bounds = omega arith; to_le_from = up_to c.args.rows.now c.loop-i.invariant }
 
 pub loop-i-preserved : goal.loop-i-preserved
 loop-i-preserved c =
@@ -35,7 +19,7 @@ loop-i-preserved c =
     let long : length c.loop-i.rows ≡ length rows₀ =
     closing_long rows₀ c.loop-i.invariant
     in
-    closing_next rows₀ c.loop-i.invariant (omega (arith, c.loop-i-test.true)) c.requires c.bring_up-to.ensures
+    closing_next rows₀ c.loop-i.invariant (omega arith) c.requires c.bring_up-to.ensures
 
 pub shape_of-rows : goal.shape_of-rows
 shape_of-rows c =
@@ -51,4 +35,4 @@ returns c =
     let long : length c.loop-i.rows ≡ length rows₀ =
     closing_long rows₀ c.loop-i.invariant
     in
-    closing_end rows₀ c.loop-i.invariant (omega (arith, c.loop-i-test.false))
+    closing_end rows₀ c.loop-i.invariant (omega arith)

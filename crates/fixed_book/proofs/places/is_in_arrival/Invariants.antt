@@ -1,11 +1,6 @@
 -- Those passed so far are in order of arrival; the rest is still to be told. Assumes nothing.
-use Prim.Native.Nat.{◌-◌}
-use lib.ListN.{length}
 use Rattle.fixed_book.proofs.Searching.{Arrived}
 use Rattle.fixed_book.proofs.places.is_in_arrival.Given as goal
 
 abbrev pub invariant-loop-i : goal.invariant-loop-i
 invariant-loop-i l = Arrived l.rows l.i
-
-abbrev pub decreases-loop-i : goal.decreases-loop-i
-decreases-loop-i l = length l.rows - l.i

@@ -1,5 +1,8 @@
 -- Nobody passed so far may trade.
-use mathlib.Core.Path.{sym, ◌∙◌}
+use mathlib.Core.Path.{◌≡◌, refl, sym, ◌∙◌}
+use native.Mathlib.Omega.{arith}
+use lib.ListN.{length}
+use Rattle.model.specs.Book.{free}
 use Rattle.fixed_book.proofs.Heads.{sought_none, sought_next, sought_found, sought_all}
 use Rattle.fixed_book.proofs.walking.head_from.Goals as goal
 
@@ -7,15 +10,18 @@ pub loop-at-init : goal.loop-at-init
 loop-at-init c = sought_none _ _ _ _ c.requires.from_in_bounds
 
 pub returns-then-may_trade : goal.returns-then-may_trade
+unfolding free
 returns-then-may_trade c =
-    sought_found c.args.close c.args.side c.args.rows.now c.loop-at.invariant c.loop-at-test.true
-    c.order_at-o.ensures c.requires.lined.fair (sym c.may_trade.ensures ∙ c.if-may_trade.true)
+    sought_found c.args.close c.args.side c.args.rows.now c.loop-at.invariant (omega arith)
+    refl c.requires.lined.fair (sym c.may_trade.ensures ∙ c.if-may_trade.true)
 
 pub loop-at-preserved : goal.loop-at-preserved
+unfolding free
 loop-at-preserved c =
-    sought_next c.args.close c.args.side c.args.rows.now c.loop-at.invariant c.loop-at-test.true
-    c.order_at-o.ensures (sym c.may_trade.ensures ∙ c.if-may_trade.false)
+    sought_next c.args.close c.args.side c.args.rows.now c.loop-at.invariant (omega arith)
+    refl (sym c.may_trade.ensures ∙ c.if-may_trade.false)
 
 pub returns : goal.returns
 returns c =
-    sought_all c.args.close c.args.side c.args.rows.now c.loop-at.invariant c.loop-at-test.false
+    let all : c.loop-at.at ≡ length c.args.rows.now = omega (arith, c.requires.from_in_bounds) in
+    rw all at (sought_all c.args.close c.args.side c.args.rows.now c.loop-at.invariant (omega arith))

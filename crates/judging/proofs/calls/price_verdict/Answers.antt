@@ -18,7 +18,7 @@ returns-then-price-auction_price c =
     price_wrong _ _ _ (not_unsound _ _ c.is_sound.ensures c.if-not-is_sound.false)
     (price_found _ _ c.reference_of.ensures c.auction_price.ensures) other
 
-pub returns : goal.returns
-returns c =
+pub returns-else-price-auction_price : goal.returns-else-price-auction_price
+returns-else-price-auction_price c =
     price_right _ _ _ (not_unsound _ _ c.is_sound.ensures c.if-not-is_sound.false)
     (price_found _ _ c.reference_of.ensures c.auction_price.ensures) c.if-price-auction_price.false

@@ -1,6 +1,5 @@
 -- `judging::calls::set_up` meets its contract: the piles, then the grants of the volume at the price. Assumes nothing.
 use native.Mathlib.Omega.{arith}
-use lib.ListN.{length-map}
 use Rattle.judging.proofs.Granting.{granted_at}
 use Rattle.judging.proofs.calls.set_up.Goals as goal
 

@@ -1,6 +1,6 @@
 -- `judging::claims::take_claim` meets its contract: refused at the first test that fails, or taken off both. Assumes nothing.
-use mathlib.Core.Path.{◌≡◌, sym, ◌∙◌}
-use lib.ListN.{length, length-map}
+use mathlib.Core.Path.{◌≡◌}
+use lib.ListN.{length}
 use Rattle.lookup.proofs.Seeking.{place_within}
 use Rattle.judging.proofs.Settling.{no_shares, no_buyer, no_seller, buyer_fills, seller_fills, came_off}
 use Rattle.judging.proofs.claims.take_claim.Goals as goal

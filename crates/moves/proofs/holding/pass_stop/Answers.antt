@@ -12,7 +12,7 @@ returns-then-second-d c =
     let a = c.args in
     reached_end a.second a.d a.rows.now c.if-second-eq-OPENING_AUCTION.false c.if-second-d.true c.end_halt.ensures
 
-pub returns : goal.returns
-returns c =
+pub returns-else-second-d : goal.returns-else-second-d
+returns-else-second-d c =
     let a = c.args in
     reached_close a.second a.d a.rows.now c.if-second-eq-OPENING_AUCTION.false c.requires.second_value c.if-second-d.false c.close_book.ensures

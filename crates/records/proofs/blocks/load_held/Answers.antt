@@ -1,15 +1,6 @@
--- `records::blocks::load_held` meets its contract: the invariant is `Filling`, over declarations of 56 bytes. Assumes nothing.
+-- What the records in the bytes come to, as a list's own definition says it. Assumes nothing.
 use Rattle.records.proofs.Stored.{held_read}
-use Rattle.records.proofs.Rows.{filling_start, filling_next, filling_end}
 use Rattle.records.proofs.blocks.load_held.Goals as goal
 
-pub loop-i-init : goal.loop-i-init
-loop-i-init c = filling_start _ _ _ _
-
-pub loop-i-preserved : goal.loop-i-preserved
-loop-i-preserved c =
-    let o = c.read_declaration in
-    filling_next _ _ _ _ c.loop-i.invariant c.loop-i-test.true o.ensures c.put_declaration.ensures
-
 pub returns : goal.returns
-returns c = held_read _ c.loop-i.rows c.requires (filling_end _ _ _ _ c.loop-i.invariant c.loop-i-test.false)
+returns c = held_read _ _ c.requires c.load.ensures

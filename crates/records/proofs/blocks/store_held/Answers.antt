@@ -1,17 +1,6 @@
--- `records::blocks::store_held` meets its contract: the invariant is `Emptying`, over declarations of 56 bytes. Assumes nothing.
-use Rattle.records.proofs.Sizes.{length_declaration}
+-- What the records in the bytes come to, as a list's own definition says it. Assumes nothing.
 use Rattle.records.proofs.Stored.{held_put}
-use Rattle.records.proofs.Rows.{emptying_start, emptying_next, emptying_end}
 use Rattle.records.proofs.blocks.store_held.Goals as goal
 
-pub loop-i-init : goal.loop-i-init
-loop-i-init c = emptying_start _ _ _ _
-
-pub loop-i-preserved : goal.loop-i-preserved
-loop-i-preserved c =
-    let o = c.declaration_at in
-    emptying_next _ _ _ _ _ c.loop-i.invariant c.loop-i-test.true o.ensures (length_declaration o.result)
-    c.put_declaration_bytes.ensures
-
 pub returns : goal.returns
-returns c = held_put _ c.args.rows.now _ c.requires (emptying_end _ _ _ _ c.loop-i.invariant c.loop-i-test.false)
+returns c = held_put _ c.args.rows.now _ c.requires c.store.ensures

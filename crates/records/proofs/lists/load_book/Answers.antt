@@ -1,15 +1,6 @@
--- `records::lists::load_book` meets its contract: the invariant is `Filling`, over orders of 40 bytes. Assumes nothing.
+-- What the records in the bytes come to, as a list's own definition says it. Assumes nothing.
 use Rattle.records.proofs.Stored.{book_read}
-use Rattle.records.proofs.Rows.{filling_start, filling_next, filling_end}
 use Rattle.records.proofs.lists.load_book.Goals as goal
 
-pub loop-i-init : goal.loop-i-init
-loop-i-init c = filling_start _ _ _ _
-
-pub loop-i-preserved : goal.loop-i-preserved
-loop-i-preserved c =
-    let o = c.read_order in
-    filling_next _ _ _ _ c.loop-i.invariant c.loop-i-test.true o.ensures c.put_order.ensures
-
 pub returns : goal.returns
-returns c = book_read _ c.loop-i.rows c.requires (filling_end _ _ _ _ c.loop-i.invariant c.loop-i-test.false)
+returns c = book_read _ _ c.requires c.load.ensures

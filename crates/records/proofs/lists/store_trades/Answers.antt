@@ -1,17 +1,6 @@
--- `records::lists::store_trades` meets its contract: the invariant is `Emptying`, over trades of 48 bytes. Assumes nothing.
-use Rattle.records.proofs.Sizes.{length_trade}
+-- What the records in the bytes come to, as a list's own definition says it. Assumes nothing.
 use Rattle.records.proofs.Stored.{trades_put}
-use Rattle.records.proofs.Rows.{emptying_start, emptying_next, emptying_end}
 use Rattle.records.proofs.lists.store_trades.Goals as goal
 
-pub loop-i-init : goal.loop-i-init
-loop-i-init c = emptying_start _ _ _ _
-
-pub loop-i-preserved : goal.loop-i-preserved
-loop-i-preserved c =
-    let o = c.trade_at in
-    emptying_next _ _ _ _ _ c.loop-i.invariant c.loop-i-test.true o.ensures (length_trade o.result)
-    c.put_trade_bytes.ensures
-
 pub returns : goal.returns
-returns c = trades_put _ c.args.list.now _ c.requires (emptying_end _ _ _ _ c.loop-i.invariant c.loop-i-test.false)
+returns c = trades_put _ c.args.list.now _ c.requires c.store.ensures

@@ -1,7 +1,0 @@
--- The same place, so many times.
-use mathlib.Core.Path.{ap}
-use lib.ListN.{replicate}
-use Rattle.records.proofs.rooms.move_room.Goals as goal
-
-pub returns : goal.returns
-returns c = ap (replicate 12288) c.no_trade-none.ensures
