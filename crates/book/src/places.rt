@@ -1,6 +1,6 @@
 // One place of the book by what stands there, and the place of an account's order.
 ghost use Rattle.std.specs.Prelude.{◌≡◌, position};
-ghost use Rattle.model.specs.Book.{free, is_live};
+ghost use Rattle.model.specs.Book.{free, is_live, other};
 ghost use Rattle.model.specs.Calls.{is_own};
 
 use model::Order;
@@ -31,6 +31,14 @@ fn is_own(account: u64, number: u64, o: Order) -> bool
     ensures { result ≡ is_own account number o }
 {
     is_live(o) && o.number == number && o.account == account
+}
+
+// The side that an order trades against.
+#[tactic(auto, unfolding(model::specs::Book::other))]
+pub fn other_side(side: u64) -> u64
+    ensures { result ≡ other side }
+{
+    if side == 0 { 1 } else { 0 }
 }
 
 // The place of the account's order with this number.
