@@ -1,5 +1,5 @@
 -- High and low with the trades of an event, one after the other. Assumes nothing.
-use Prim.Native.Nat.{ℕ, suc, ◌+◌, ◌-◌, ◌≤◌, ◌<◌, min, max}
+use Prim.Native.Nat.{ℕ, suc, ◌+◌, ◌-◌, ◌≤◌, ◌<◌}
 use mathlib.Core.Path.{◌≡◌, refl, sym, ap, ◌∙◌}
 use mathlib.Core.List.{List, [], ◌∷◌}
 use native.Mathlib.Omega.{arith}
@@ -14,7 +14,6 @@ use Rattle.model.specs.Screen.{high_with, low_with}
 use Rattle.figures.proofs.Tallies.{first_of_lem}
 use Rattle.screens.specs.declared.Range.{Range}
 use Rattle.screens.specs.Ranges.{widened, range_of, range_with}
-use Rattle.model.specs.declared.Order.{Order}
 
 range_none : (r : Range) → range_of [] r ≡ r
 unfolding range_of highest lowest

@@ -1,33 +1,31 @@
 // A screen held against what is counted, part by part.
-ghost use Rattle.std.specs.Prelude.{◌≡◌};
+ghost use Rattle.std.specs.Prelude.{◌≡◌, ◌&&◌};
 ghost use Rattle.model.specs.Screen as screen;
 ghost use Rattle.model.specs.Sound as sound;
+ghost use Rattle.book.specs.Standing.{Ranked};
 ghost use Rattle.figures.specs.Figures.{Publishable};
 ghost use Rattle.screens.specs.Parts.{figures_fit, same_fixing};
 
 use auction::Fixing;
 use figures::published;
-use model::{Day, Levels, Screen};
+use levels::levels_of;
+use model::{Day, Order, Screen};
 
+// The lines of both sides.
 #[tactic(auto, unfolding(model::specs::Screen::same_levels, model::specs::Screen::same_level))]
-pub fn same_levels(a: Levels, b: Levels) -> bool
-    ensures { result ≡ screen.same_levels a b }
+pub fn lines_fit(s: Screen, rows: &[Order]) -> bool
+    requires { Ranked rows.now }
+    ensures { result ≡ (screen.same_levels s.buys (screen.levels_of 0 rows.now) && screen.same_levels s.sells (screen.levels_of 1 rows.now)) }
 {
-    a == b
-}
-
-fn same_surplus(a: i64, b: i64) -> bool
-    ensures { result ≡ screen.same_surplus a b }
-{
-    a == b
+    s.buys == levels_of(rows, 0) && s.sells == levels_of(rows, 1)
 }
 
 // The auction's figures of a screen.
-#[tactic(auto, unfolding(crate::specs::Parts::same_fixing))]
+#[tactic(auto, using(crate::proofs::Same::surplus_is), unfolding(crate::specs::Parts::same_fixing))]
 pub fn same_fixing(s: Screen, f: Fixing) -> bool
     ensures { result ≡ same_fixing s f }
 {
-    s.price == f.price && s.volume == f.volume && same_surplus(s.surplus, f.surplus)
+    s.price == f.price && s.volume == f.volume && s.surplus == f.surplus
 }
 
 // The day's figures that its screen shows.

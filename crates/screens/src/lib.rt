@@ -11,10 +11,9 @@ ghost use Rattle.model.specs.Sound.{screen_fits};
 ghost use Rattle.book.specs.Standing.{Ranked};
 ghost use Rattle.figures.specs.Figures.{Publishable};
 
-use crate::comparing::{encloses, figures_fit, same_fixing, same_levels};
+use crate::comparing::{encloses, figures_fit, lines_fit, same_fixing};
 use crate::counting::{screen_of, shown_of};
 use crate::ranges::range_with;
-use levels::levels_of;
 use model::{Day, Order, Trade};
 
 // The highest and the lowest price that has traded; zeros while nothing has.
@@ -46,7 +45,6 @@ pub fn screen_fits(day: Day, rows: &[Order]) -> bool
     let screen = day.screen;
     figures_fit(day)
         && encloses(day)
-        && same_levels(screen.buys, levels_of(rows, 0))
-        && same_levels(screen.sells, levels_of(rows, 1))
+        && lines_fit(screen, rows)
         && same_fixing(screen, shown_of(day, rows))
 }
