@@ -1,9 +1,10 @@
 // One place of the book by what stands there, and the place of an account's order.
 ghost use Rattle.std.specs.Prelude.{◌≡◌, position};
 ghost use Rattle.model.specs.Book.{free, is_live, other};
+ghost use Rattle.model.specs.Sound.{has_places};
 ghost use Rattle.model.specs.Calls.{is_own};
 
-use model::Order;
+use model::{MOST_PLACES, Order};
 
 // A free place is all zeros.
 #[tactic(auto, unfolding(model::specs::Book::free))]
@@ -31,6 +32,14 @@ fn is_own(account: u64, number: u64, o: Order) -> bool
     ensures { result ≡ is_own account number o }
 {
     is_live(o) && o.number == number && o.account == account
+}
+
+// 1 to 4,096 places, whatever stands in them.
+#[tactic(auto, unfolding(model::specs::Sound::has_places))]
+pub fn has_places<T>(rows: &[T]) -> bool
+    ensures { result ≡ has_places rows.now }
+{
+    1 <= rows.len() && rows.len() <= MOST_PLACES
 }
 
 // The side that an order trades against.

@@ -26,7 +26,7 @@ pub const CONTINUOUS: u64 = 4;
 pub const HALTED: u64 = 7;
 
 // One place of the book. A free place is all zeros.
-#[derive(Clone, Copy)]
+#[derive(Clone, Copy, PartialEq, Eq)]
 pub struct Order {
     pub side: u64,
     pub account: u64,

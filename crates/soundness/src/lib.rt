@@ -59,11 +59,5 @@ fn stands_sound(day: Day, rows: &[Order]) -> bool
 pub fn is_sound(day: Day, rows: &[Order]) -> bool
     ensures { result ≡ (has_places rows.now && sound day rows.now) }
 {
-    if !stands_sound(day, rows) {
-        return false;
-    }
-    if !evening_fits(day) {
-        return false;
-    }
-    screen_fits(day, rows)
+    stands_sound(day, rows) && evening_fits(day) && screen_fits(day, rows)
 }
