@@ -5,7 +5,6 @@ pub mod Queues
 pub mod Written
 pub mod Settlements
 pub mod Finding
-pub mod Memory
 pub mod Kept
 pub mod Thinning
 pub mod Counting

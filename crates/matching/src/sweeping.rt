@@ -1,6 +1,5 @@
 // An order on its way through the other side: price after price, and at each price order after order. The book stays as it is.
 ghost use Rattle.std.specs.Prelude.{◌≡◌, ◌+◌, ◌<◌, ◌^◌, []};
-ghost use Rattle.model.specs.Book.{other};
 ghost use Rattle.model.specs.Matching as matching;
 ghost use Rattle.book.specs.Standing.{Ranked};
 ghost use Rattle.book.specs.Writing.{fitted};
@@ -8,15 +7,10 @@ ghost use Rattle.matching.specs.Sweeping as sweeping;
 ghost use Rattle.matching.specs.Sweeping.{swept, comes_to, one_price, one_trade};
 
 use crate::Swept;
+use book::places::other_side;
 use book::seats::places_of;
 use book::{order_at, put_trade, smaller};
 use model::{Order, Taker, Trade};
-
-pub fn other_side(side: u64) -> u64
-    ensures { result ≡ other side }
-{
-    if side == 0 { 1 } else { 0 }
-}
 
 // A price that a buy with this limit may pay, or a sell take.
 pub fn meets(side: u64, limit: u64, price: u64) -> bool

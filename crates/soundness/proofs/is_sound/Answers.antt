@@ -16,9 +16,9 @@ passed :
 passed c =
     elim c.if-stands_sound.branch [
       | then-stands_sound w ↦ (
-          sym c.stands_sound.ensures ∙ w.if-stands_sound.true,
-          sym w.evening_fits.ensures ∙ sym w.value-is ∙ c.if-evening_fits.true,
-        )
+        sym c.stands_sound.ensures ∙ w.if-stands_sound.true,
+        sym w.evening_fits.ensures ∙ sym w.value-is ∙ c.if-evening_fits.true,
+      )
       | else-stands_sound w ↦ absurd (search (rules, w.value-is, w.if-stands_sound.false, c.if-evening_fits.true))
     ]
 
