@@ -9,7 +9,7 @@ use native.Mathlib.Nat.{le_of_suc-le-suc, not-suc-le-zero}
 use lib.ListN.{length, take, drop, get_or, drop_of_length-le}
 use lib.Seq.{drop-cons}
 use lib.Dec.{eqb}
-use borrow.Author.Tests.{eq-eqb, ne_eqb, eqb-true}
+use borrow.Author.Tests.{eqb-true}
 use Rattle.model.specs.declared.Trade.{Trade}
 use Rattle.model.specs.declared.Day.{Day}
 use Rattle.model.specs.Lists.{total}
@@ -17,7 +17,6 @@ use Rattle.model.specs.Matching.{filled, first_price, last_price, no_trade}
 use Rattle.model.specs.Figures.{money, tally}
 use Rattle.figures.specs.declared.Totals.{Totals}
 use Rattle.figures.specs.Figures.{totals}
-use Rattle.model.specs.declared.Order.{Order}
 
 -- ---- sums
 

@@ -1,23 +1,21 @@
 -- Whether trades reach a threshold, one price and one trade after the other. Assumes nothing.
 use Prim.Native.Nat.{ℕ, ◌+◌, ◌-◌, ◌*◌, ◌≤◌, ◌<◌}
 use mathlib.Core.Path.{◌≡◌, sym, ap, ◌∙◌}
-use mathlib.Core.Bool.{Bool, true, false, ◌&&◌}
-use mathlib.Core.List.{List, [], ◌∷◌}
+use mathlib.Core.Bool.{Bool, true, false}
+use mathlib.Core.List.{List, ◌∷◌}
 use native.Mathlib.Numerals.{add-one}
 use lib.ListN.{length, drop, get_or, drop_of_length-le}
 use lib.Seq.{drop-cons}
-use lib.Dec.{leb, eqb}
-use borrow.Author.Tests.{le-leb, lt-leb, eq-eqb, ne_eqb}
+use lib.Dec.{leb}
+use borrow.Author.Tests.{le-leb, lt-leb}
 use Rattle.model.specs.declared.Trade.{Trade}
 use Rattle.model.specs.declared.Day.{Day}
 use Rattle.model.specs.Lists.{any}
 use Rattle.model.specs.Figures.{open_price}
-use Rattle.model.specs.Halts.{away, reach, halt_end, halting, fires, fired}
-use Rattle.model.specs.Words.{Each}
+use Rattle.model.specs.Halts.{away, reach}
 use Rattle.book.proofs.Lists.{each_drop}
 use Rattle.halts.specs.Priced.{Priced}
 use Rattle.model.specs.Matching.{no_trade}
-use Rattle.model.specs.declared.Order.{Order}
 
 -- ---- one price
 

@@ -1,15 +1,13 @@
 -- A walk along the places, each beside the next. Assumes nothing.
 use Prim.Native.Nat.{ℕ, suc, ◌+◌, ◌-◌, ◌≤◌, ◌<◌}
 use mathlib.Core.Path.{◌≡◌, refl, sym, ap, ◌∙◌}
-use mathlib.Core.Bool.{Bool, true, false, cond, ◌&&◌, ◌||◌}
+use mathlib.Core.Bool.{Bool, true, false, ◌&&◌}
 use mathlib.Core.List.{List, [], ◌∷◌}
 use native.Mathlib.Omega.{arith}
-use lib.ListN.{length, get_or, drop, length-map, length-drop}
+use lib.ListN.{length, get_or, drop, length-drop}
 use lib.Seq.{drop-cons}
-use lib.Dec.{ltb, eqb}
-use borrow.Author.Tests.{eq-eqb, ne_eqb, le-ltb}
 use Rattle.model.specs.declared.Order.{Order}
-use Rattle.model.specs.Book.{free, better, ahead, may_follow, in_order}
+use Rattle.model.specs.Book.{free, may_follow, in_order}
 
 -- those up to the one before i have passed
 pub record Followed (rows : List Order) (i : ℕ) : Type 0 where

@@ -1,6 +1,6 @@
 -- `halts::firing::reaches` meets its contract: the trades passed so far are not so far away, so those that are left decide.
 -- Assumes nothing.
-use mathlib.Core.Path.{refl, sym, ◌∙◌}
+use mathlib.Core.Path.{sym, ◌∙◌}
 use Rattle.model.specs.Figures.{open_price}
 use Rattle.halts.proofs.Fires.{price_at, reach_here, reach_later, reach_none}
 use Rattle.halts.proofs.firing.reaches.Goals as goal

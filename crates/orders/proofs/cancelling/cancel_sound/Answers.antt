@@ -3,10 +3,8 @@ use Prim.Native.Nat.{◌<◌}
 use mathlib.Core.Path.{◌≡◌, refl, sym, ap, ◌∙◌}
 use native.Mathlib.Omega.{arith}
 use lib.ListN.{length}
-use mathlib.Core.Bool.{true}
 use borrow.Author.Tests.{eqb-false, not-true}
 use Rattle.model.specs.declared.CancelAnswer.{CancelAnswer}
-use Rattle.model.specs.Clock.{takes_cancels}
 use Rattle.model.specs.Refusals.{first_of}
 use Rattle.model.specs.Calls.{cancel_rules}
 use Rattle.book.specs.Standing.{Ranked}
