@@ -1,12 +1,15 @@
--- The laws behind settling: places set free, orders moved up one behind the other, and shares taken off a front.
+-- The laws behind settling: orders moved up, places set free behind them, and shares taken off a front.
 use Prim.Native.Nat.{ℕ, zero, suc, ◌+◌, ◌-◌, ◌≤◌, ◌<◌}
 use mathlib.Core.Path.{◌≡◌, refl, sym, ap, ◌∙◌, subst}
-use mathlib.Core.List.{List, [], ◌∷◌, ◌++◌, append_assoc, append-nil}
+use mathlib.Core.List.{List, [], ◌∷◌, ◌++◌, append_assoc}
 use native.Mathlib.Omega.{arith}
-use native.Mathlib.Numerals.{add-one}
 use lib.ListN.{length, get_or, take, drop, set, replicate, length-append, length-set, take-append-drop, replicate-append-replicate}
-use lib.Seq.{drop-drop, drop-append-add, drop-append-le, drop-set-lt, get_or-drop, get_or-set_same, take-append_seam, take-nil, take-set-le, take-suc, take-suc-set, take-take, length-take-le}
+use lib.Seq.{drop-drop, drop-append-add, drop-append-le, drop-set-lt, get_or-set_same, take-append_seam, take-nil, take-set-le, take-take, length-take-le}
 use borrow.Author.Tests.{lt-ltb, le-ltb}
+use borrow.Rule.Slice.PartMut.{put_mid}
+use Rattle.std.specs.List.{between, copy_within}
+use Rattle.std.proofs.lemmas.List.Edits.{length-between}
+use Rattle.std.proofs.lemmas.Slice.{between_is}
 use Rattle.model.specs.declared.Order.{Order}
 use Rattle.model.specs.Book.{free}
 use Rattle.model.specs.Matching.{less_by}
@@ -17,12 +20,6 @@ use Rattle.book.proofs.Parts.{placed_fit}
 
 -- one order put at a place, and what stands before and behind it
 module _ (rows : List Order) (place : ℕ) (o : Order) {rows' : List Order} (inside : place < length rows) (e : rows' ≡ set rows place o) where
-  put_front : take (place + 1) rows' ≡ take place rows ++ (o ∷ [])
-  put_front =
-      ap (λ (r : List Order). take (place + 1) r) e
-      ∙ ap (λ (n : ℕ). take n (set rows place o)) (add-one place)
-      ∙ take-suc-set rows place o (omega arith)
-
   put_back : (n : ℕ) → place < n → drop n rows' ≡ drop n rows
   put_back n h =
       ap (λ (r : List Order). drop n r) e
@@ -41,159 +38,30 @@ later_same m n xs ys h e =
     ∙ drop-drop (n - m) m ys
     ∙ ap (λ (i : ℕ). drop i ys) (sym k)
 
--- ---- free places
+-- ---- orders moved up by one copy, and places filled
 
-pub record Freed (rows₀ : List Order) (from to : ℕ) (rows : List Order) (place : ℕ) : Type 0 where
-  pub front : take place rows ≡ take from rows₀ ++ replicate (place - from) free
-  pub back : drop place rows ≡ drop place rows₀
-  pub long : length rows ≡ length rows₀
-  pub least : from ≤ place
-  pub most : place ≤ to
-
-module _ (rows₀ : List Order) (from to : ℕ) where
-  pub freed_start : from ≤ to → Freed rows₀ from to rows₀ from
-  freed_start h =
-      let z : from - from ≡ 0 = omega arith in
-      record {
-        front = rw z (sym (append-nil (take from rows₀)));
-        back = refl;
-        long = refl;
-        least = omega arith;
-        most = h;
-      }
-
-  module _ (short : to ≤ length rows₀) {rows : List Order} {place : ℕ} (f : Freed rows₀ from to rows place) where
-    pub freed_next :
-        {o : Order} {rows' : List Order}
-        → place < to
-        → o ≡ free
-        → rows' ≡ set rows place o
-        → Freed rows₀ from to rows' (place + 1)
-    freed_next {o} h e g =
-        let inside : place < length rows = omega (arith, f.long) in
-        let more : place + 1 - from ≡ (place - from) + 1 = omega (arith, f.least) in
-        record {
-          front =
-              put_front rows place o inside g
-              ∙ ap (λ (x : Order). take place rows ++ (x ∷ [])) e
-              ∙ ap (λ (l : List Order). l ++ (free ∷ [])) f.front
-              ∙ append_assoc (take from rows₀) (replicate (place - from) free) (free ∷ [])
-              ∙ ap (λ (l : List Order). take from rows₀ ++ l) (replicate-append-replicate (place - from) 1 free)
-              ∙ ap (λ n. take from rows₀ ++ replicate n free) (sym more);
-          back =
-              put_back rows place o inside g (place + 1) (omega arith)
-              ∙ later_same place (place + 1) rows rows₀ (omega arith) f.back;
-          long = put_long rows place o inside g ∙ f.long;
-          least = omega (arith, f.least);
-          most = omega arith;
-        }
-
-    pub freed_end :
-        to ≤ place
-        → rows ≡ take from rows₀ ++ (replicate (to - from) free ++ drop to rows₀)
-    freed_end h =
-        let all : place ≡ to = omega (arith, f.most) in
-        sym (take-append-drop place rows)
-        ∙ ap (λ (l : List Order). l ++ drop place rows) f.front
-        ∙ ap (λ (l : List Order). (take from rows₀ ++ replicate (place - from) free) ++ l) f.back
-        ∙ ap (λ (n : ℕ). (take from rows₀ ++ replicate (n - from) free) ++ drop n rows₀) all
-        ∙ append_assoc (take from rows₀) (replicate (to - from) free) (drop to rows₀)
-
--- ---- orders moved up
-
--- one order more of a line
-line_more :
-    (at i : ℕ) (rows : List Order)
-    → at ≤ i
-    → i < length rows
-    → line at (i + 1) rows ≡ line at i rows ++ (get_or rows i free ∷ [])
+-- what a copy of the orders from `next` up to `end` to `place` leaves
+moved_up :
+    (rows : List Order) (place next end : ℕ)
+    → copy_within rows next end place ≡ take place rows ++ (line next end rows ++ drop (place + (end - next)) rows)
 unfolding line
-line_more at i rows h k =
-    let inside : i < length rows = omega arith in
-    ap (λ (n : ℕ). drop at (take n rows)) (add-one i)
-    ∙ ap (drop at) (take-suc rows i free inside)
-    ∙ drop-append-le at (take i rows) (get_or rows i free ∷ [])
-    (omega (arith, length-take-le i rows (omega arith)))
+moved_up rows place next end =
+    append_assoc (take place rows) (take (end - next) (drop next rows)) (drop (place + (end - next)) rows)
+    ∙ ap (λ (l : List Order). take place rows ++ (l ++ drop (place + (end - next)) rows)) (between_is rows next end)
 
-pub record Moved (rows₀ : List Order) (place next end : ℕ) (rows : List Order) (i : ℕ) : Type 0 where
-  pub front : take (place + (i - next)) rows ≡ take place rows₀ ++ line next i rows₀
-  pub back : drop (place + (i - next)) rows ≡ drop (place + (i - next)) rows₀
-  pub long : length rows ≡ length rows₀
-  pub least : next ≤ i
-  pub most : i ≤ end
-
-module _ (rows₀ : List Order) (place next end : ℕ) where
-  pub moved_start : next ≤ end → Moved rows₀ place next end rows₀ next
-  moved_start h =
-      let z : place + (next - next) ≡ place = omega arith in
-      record {
-        front =
-            ap (λ (n : ℕ). take n rows₀) z
-            ∙ sym (append-nil (take place rows₀))
-            ∙ ap (λ (l : List Order). take place rows₀ ++ l) (sym (line_end next next rows₀ (omega arith)));
-        back = refl;
-        long = refl;
-        least = omega arith;
-        most = h;
-      }
-
-  module _ (before : place ≤ next) (short : end ≤ length rows₀) {rows : List Order} {i : ℕ} (m : Moved rows₀ place next end rows i) where
-    abbrev to : ℕ
-    to = place + (i - next)
-
-    pub moved_next :
-        {o : Order} {rows' : List Order}
-        → i < end
-        → o ≡ get_or rows i free
-        → rows' ≡ set rows (place + (i - next)) o
-        → Moved rows₀ place next end rows' (i + 1)
-    moved_next {o} {rows'} h at g =
-        record {
-          front =
-              ap (λ (n : ℕ). take n rows') more
-              ∙ put_front rows to o inside g
-              ∙ ap (λ (l : List Order). l ++ (o ∷ [])) m.front
-              ∙ append_assoc (take place rows₀) (line next i rows₀) (o ∷ [])
-              ∙ ap (λ (x : Order). take place rows₀ ++ (line next i rows₀ ++ (x ∷ []))) it
-              ∙ ap (λ (l : List Order). take place rows₀ ++ l)
-              (sym (line_more next i rows₀ m.least (omega arith)));
-          back =
-              ap (λ (n : ℕ). drop n rows') more
-              ∙ put_back rows to o inside g (to + 1) (omega arith)
-              ∙ later_same to (to + 1) rows rows₀ (omega arith) m.back
-              ∙ ap (λ (n : ℕ). drop n rows₀) (sym more);
-          long = put_long rows to o inside g ∙ m.long;
-          least = omega (arith, m.least);
-          most = omega arith;
-        }
-      where
-        inside : to < length rows
-        inside = omega (arith, m.long, m.least)
-
-        more : place + (i + 1 - next) ≡ to + 1
-        more = omega (arith, m.least)
-
-        -- it has not been written over: it stands behind what has
-        it : o ≡ get_or rows₀ i free
-        it =
-            let k : i ≡ to + (i - to) = omega (arith, m.least) in
-            at
-            ∙ ap (λ (n : ℕ). get_or rows n free) k
-            ∙ sym (get_or-drop to rows (i - to) free)
-            ∙ ap (λ (l : List Order). get_or l (i - to) free) m.back
-            ∙ get_or-drop to rows₀ (i - to) free
-            ∙ ap (λ (n : ℕ). get_or rows₀ n free) (sym k)
-
-    pub moved_end :
-        end ≤ i
-        → rows ≡ take place rows₀ ++ (line next end rows₀ ++ drop (place + (end - next)) rows₀)
-    moved_end h =
-        let all : i ≡ end = omega (arith, m.most) in
-        sym (take-append-drop to rows)
-        ∙ ap (λ (l : List Order). l ++ drop to rows) m.front
-        ∙ ap (λ (l : List Order). (take place rows₀ ++ line next i rows₀) ++ l) m.back
-        ∙ ap (λ (n : ℕ). (take place rows₀ ++ line next n rows₀) ++ drop (place + (n - next)) rows₀) all
-        ∙ append_assoc (take place rows₀) (line next end rows₀) (drop (place + (end - next)) rows₀)
+-- and what the places from one up to another leave when each is free
+filled :
+    (rows part : List Order) (from to : ℕ)
+    → from ≤ to
+    → to ≤ length rows
+    → part ≡ replicate (length (between from to rows)) free
+    → put_mid from (to - from) rows part ≡ take from rows ++ (replicate (to - from) free ++ drop to rows)
+filled rows part from to h short e =
+    let n : length (between from to rows) ≡ to - from = length-between rows from to short in
+    let j : from + (to - from) ≡ to = omega arith in
+    rw (e, n)
+    (ap (λ (l : List Order). take from rows ++ (replicate (to - from) free ++ l))
+    (drop-drop (to - from) from rows ∙ ap (λ (i : ℕ). drop i rows) j))
 
 -- ---- moved up, and free places behind
 
@@ -213,7 +81,7 @@ closed_nothing rows place next end h short e =
     ∙ append_assoc (take next rows) (drop next (take end rows)) (drop end rows)
     ∙ rw (e, z)
 
-module _ (rows rows₁ : List Order) (place next end : ℕ) (before : place ≤ next) (some : next ≤ end) (short : end ≤ length rows) (e : rows₁ ≡ take place rows ++ (line next end rows ++ drop (place + (end - next)) rows)) where
+module _ (rows rows₁ : List Order) (place next end : ℕ) (before : place ≤ next) (some : next ≤ end) (short : end ≤ length rows) (e : rows₁ ≡ copy_within rows next end place) where
   abbrev moved : ℕ
   moved = place + (end - next)
 
@@ -226,13 +94,14 @@ module _ (rows rows₁ : List Order) (place next end : ℕ) (before : place ≤ 
       ∙ omega (arith, length-take-le place rows (omega arith), line_length next end rows short)
 
   together : rows₁ ≡ stays ++ drop moved rows
-  together = e ∙ sym (append_assoc (take place rows) (line next end rows) (drop moved rows))
+  together = e ∙ moved_up rows place next end ∙ sym (append_assoc (take place rows) (line next end rows) (drop moved rows))
 
   pub closed_up :
-      {book : List Order}
-      → book ≡ take moved rows₁ ++ (replicate (end - moved) free ++ drop end rows₁)
-      → book ≡ take place rows ++ (line next end rows ++ (replicate (next - place) free ++ drop end rows))
-  closed_up f =
+      {part : List Order}
+      → length rows₁ ≡ length rows
+      → part ≡ replicate (length (between moved end rows₁)) free
+      → put_mid moved (end - moved) rows₁ part ≡ take place rows ++ (line next end rows ++ (replicate (next - place) free ++ drop end rows))
+  closed_up {part} long f =
       let n : end - moved ≡ next - place = omega arith in
       let k : end ≡ length stays + (end - moved) = omega (arith, stays_length) in
       let j : moved + (end - moved) ≡ end = omega arith in
@@ -248,7 +117,7 @@ module _ (rows rows₁ : List Order) (place next end : ℕ) (before : place ≤ 
       ∙ drop-drop (end - moved) moved rows
       ∙ ap (λ (i : ℕ). drop i rows) j
       in
-      f
+      filled rows₁ part moved end (omega arith) (omega arith) f
       ∙ rw (first, last, n)
       (append_assoc (take place rows) (line next end rows) (replicate (next - place) free ++ drop end rows))
 
@@ -338,16 +207,17 @@ module _ (shares from to : ℕ) (rows : List Order) (short : to ≤ length rows)
         }
 
   -- nobody keeps any
-  pub cut_all : to ≤ at → CutAt shares from to rows rows at
+  pub cut_all : to ≤ at → CutAt shares from to rows rows to
   unfolding off_front
   cut_all h =
       let none : line at to rows ≡ [] = line_end at to rows h in
+      let z : line to to rows ≡ [] = line_end to to rows (omega arith) in
       record {
-        kept = none ∙ sym (w.same ∙ ap (off_front left) none);
+        kept = z ∙ sym (w.same ∙ ap (off_front left) none);
         before = refl;
         behind = refl;
-        least = w.least;
-        most = w.most;
+        least = omega (arith, w.least, w.most);
+        most = omega arith;
       }
 
 -- the rows were as they came

@@ -1,14 +1,16 @@
--- Laws of the first place that passes a test: how a walk finds it, when there is one, and the book without an account's order.
+-- Laws of the first place that passes a test: what `position` says of it, when there is one, and the book without an account's order.
 use Prim.Native.Nat.{ℕ, suc, ◌+◌, ◌≤◌, ◌<◌}
 use mathlib.Core.Path.{◌≡◌, refl, sym, ap, ◌∙◌}
 use mathlib.Core.Bool.{Bool, true, false, cond, not, ◌&&◌, ◌||◌}
 use mathlib.Core.List.{List, [], ◌∷◌, ◌++◌}
 use native.Mathlib.Omega.{arith}
-use native.Mathlib.Numerals.{add-one}
 use lib.ListN.{length, take, drop, get_or}
-use lib.Seq.{drop-cons, drop-length}
 use lib.Dec.{ltb, eqb}
-use borrow.Author.Tests.{lt-ltb, eqb-true}
+use Rattle.std.proofs.Common.{rules}
+use borrow.Author.Tests.{lt-ltb, eqb-true, ltb-true, ltb-false}
+use Rattle.std.specs.Prelude.{Some, None}
+use Rattle.std.specs.List.{position, position_or_len}
+use Rattle.std.proofs.lemmas.List.Recursion.{is_position_or_len}
 use Rattle.model.specs.declared.Order.{Order}
 use Rattle.model.specs.Lists.{keep, any, total}
 use Rattle.model.specs.Book.{free, is_live}
@@ -19,48 +21,9 @@ use Rattle.book.specs.Places.{first_with, place_of}
 use Rattle.book.proofs.Lists.{each, keep_true, keep_false, keep_all, keep_none}
 use Rattle.book.proofs.Queues.{live_number, ltb_same}
 
--- ---- a walk from the first place on
+-- ---- the place that `position` finds
 
 module _ (p : Order → Bool) where
-  first_here : (o : Order) (os : List Order) → p o ≡ true → first_with p (o ∷ os) ≡ 0
-  unfolding first_with
-  first_here o os e = rw e
-
-  first_later : (o : Order) (os : List Order) → p o ≡ false → first_with p (o ∷ os) ≡ suc (first_with p os)
-  unfolding first_with
-  first_later o os e = rw e
-
-  -- i places have been passed
-  abbrev pub Passed : List Order → ℕ → Type 0
-  Passed rows i = (i ≤ length rows) × (i + first_with p (drop i rows) ≡ first_with p rows)
-
-  pub passed_none : (rows : List Order) → Passed rows 0
-  passed_none rows = (omega arith, omega arith)
-
-  module _
-      (rows : List Order) (i : ℕ) (o : Order)
-      (h : i < length rows) (e : o ≡ get_or rows i free) (w : Passed rows i) where
-    here : (drop i rows) ≡ o ∷ (drop (suc i) rows)
-    here = drop-cons rows i free h ∙ ap (λ (x : Order). x ∷ (drop (suc i) rows)) (sym e)
-
-    pub found_place : p o ≡ true → i ≡ first_with p rows
-    found_place t = omega (arith, ap (first_with p) here, first_here o (drop (suc i) rows) t, w.1)
-
-    pub passed_more : p o ≡ false → Passed rows (i + 1)
-    passed_more t =
-        let next : (drop (i + 1) rows) ≡ (drop (suc i) rows) = ap (λ (n : ℕ). (drop n rows)) (add-one i) in (
-          omega arith,
-          omega
-              (arith, ap (first_with p) here, first_later o (drop (suc i) rows) t, ap (first_with p) next, w.1),
-        )
-
-  pub passed_all : (rows : List Order) (i : ℕ) → length rows ≤ i → Passed rows i → i ≡ first_with p rows
-  unfolding first_with
-  passed_all rows i h w =
-      let end : i ≡ length rows = omega (arith, w.0) in
-      let none : (drop i rows) ≡ [] = ap (λ (n : ℕ). (drop n rows)) end ∙ (drop-length rows) in
-      omega (arith, ap (first_with p) none, w.1)
-
   -- ---- when there is one
 
   pub first_bound : (book : List Order) → first_with p book ≤ length book
@@ -102,11 +65,54 @@ module _ (p : Order → Bool) where
           ∙ ltb_same (first_with p os) (length os) (suc (first_with p os)) (suc (length os)) (λ l. omega arith)
           (λ l. omega arith)
 
+  first_position : (book : List Order) → first_with p book ≡ position_or_len p book
+  unfolding first_with
+  first_position book = is_position_or_len (first_with p) p refl (λ o os. go o os (p o)) book
+    where
+      go : (o : Order) (os : List Order) (b : Bool) → cond b 0 (suc (first_with p os)) ≡ cond b 0 (1 + first_with p os)
+      go o os true = refl
+      go o os false = omega arith
+
+  -- what `position` answers: no place, or the first that passes
+  pub no_first : (book : List Order) → None ≡ position p book → first_with p book ≡ length book
+  no_first book e = go (ltb (position_or_len p book) (length book)) refl e
+    where
+      go :
+          (b : Bool)
+          → ltb (position_or_len p book) (length book) ≡ b
+          → None ≡ cond b (Some (position_or_len p book)) None
+          → first_with p book ≡ length book
+      go true t n = absurd (search (rules, n))
+      go false t n = omega (arith, ltb-false _ _ t, first_position book, first_bound book)
+
+  pub first_found : (book : List Order) {place : ℕ} → Some place ≡ position p book → (place < length book) × (place ≡ first_with p book)
+  first_found book {place} e = go (ltb (position_or_len p book) (length book)) refl e
+    where
+      go :
+          (b : Bool)
+          → ltb (position_or_len p book) (length book) ≡ b
+          → Some place ≡ cond b (Some (position_or_len p book)) None
+          → (place < length book) × (place ≡ first_with p book)
+      go true t n = let same : place ≡ position_or_len p book = search (rules, n) in (omega (arith, ltb-true _ _ t), same ∙ sym (first_position book))
+      go false t n = absurd (search (rules, n))
+
 -- ---- an account's own order
 
 module _ (account number : ℕ) where
   abbrev own : Order → Bool
   own o = is_own account number o
+
+  -- what `position` answers of an account's order
+  pub no_place : (book : List Order) → None ≡ position (is_own account number) book → place_of account number book ≡ length book
+  unfolding place_of
+  no_place book e = no_first own book e
+
+  pub its_place :
+      (book : List Order) {place : ℕ}
+      → Some place ≡ position (is_own account number) book
+      → (place < length book) × (place ≡ place_of account number book)
+  unfolding place_of
+  its_place book e = first_found own book e
 
   pub own_any : (book : List Order) → any (is_own account number) book ≡ ltb (place_of account number book) (length book)
   unfolding place_of

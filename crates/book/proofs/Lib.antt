@@ -3,10 +3,8 @@ pub mod Lists
 pub mod Sorting
 pub mod Queues
 pub mod Written
-pub mod Rewrites
 pub mod Settlements
 pub mod Finding
-pub mod Memory
 pub mod Kept
 pub mod Thinning
 pub mod Counting
@@ -22,6 +20,5 @@ pub mod Orderly
 pub mod Closing
 pub mod Fronts
 pub mod TakenOut
-pub mod Shifting
 pub mod Inserting
 pub mod Waiting

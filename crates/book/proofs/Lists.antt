@@ -121,16 +121,6 @@ module _ {A : Type 0} where
       go true h = omega arith
       go false h = omega arith
 
-  -- another element at a place
-  pub total_set :
-      (f : A → ℕ) (xs : List A) (i : ℕ) (x d : A)
-      → i < length xs
-      → total f (set xs i x) + f (get_or xs i d) ≡ total f xs + f x
-  unfolding total
-  total_set f [] i x d h = absurd (not-suc-le-zero h)
-  total_set f (y ∷ xs) zero x d h = omega arith
-  total_set f (y ∷ xs) (suc i) x d h = omega (arith, total_set f xs i x d (le_of_suc-le-suc h))
-
 -- ---- one list written over another
 
 -- in two runs, one behind the other

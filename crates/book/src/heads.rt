@@ -3,7 +3,7 @@ ghost use Rattle.std.specs.Prelude.{◌≡◌, ◌+◌, ◌≤◌, ◌<◌, leng
 ghost use Rattle.book.specs.Lines.{line};
 ghost use Rattle.book.specs.Heads.{head_of, head_past};
 
-use crate::{Head, order_at};
+use crate::Head;
 use model::Order;
 
 // The first order from a place on, before the end of its side.
@@ -12,7 +12,7 @@ pub fn head_at(rows: &[Order], at: usize, end: usize) -> Head
     ensures { result ≡ head_of at (line at end rows.now) }
 {
     if at < end {
-        let o = order_at(rows, at);
+        let o = rows[at];
         return Head {
             at,
             number: o.number,
@@ -36,10 +36,8 @@ pub fn head_past(rows: &[Order], end: usize, h: Head, q: u64) -> Head
 {
     if q < h.left {
         return Head {
-            at: h.at,
-            number: h.number,
-            price: h.price,
             left: h.left - q,
+            ..h
         };
     }
     head_at(rows, h.at + 1, end)

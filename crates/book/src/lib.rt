@@ -41,7 +41,7 @@ pub struct Dealt {
 pub fn smaller(a: u64, b: u64) -> u64
     ensures { result ≡ min a b }
 {
-    if a < b { a } else { b }
+    a.min(b)
 }
 
 // The order at a place.

@@ -1,13 +1,12 @@
 // One place of the book by what stands there, and the place of an account's order.
-ghost use Rattle.std.specs.Prelude.{◌≡◌};
-ghost use Rattle.model.specs.Book.{free, is_live};
+ghost use Rattle.std.specs.Prelude.{◌≡◌, position};
+ghost use Rattle.model.specs.Book.{free, is_live, other};
 ghost use Rattle.model.specs.Calls.{is_own};
-ghost use Rattle.book.specs.Places.{place_of};
 
-use crate::order_at;
-use model::Order;
+use model::{MOST_PLACES, Order};
 
 // A free place is all zeros.
+#[tactic(auto, unfolding(model::specs::Book::free))]
 pub fn free_place() -> Order
     ensures { result ≡ free }
 {
@@ -20,34 +19,31 @@ pub fn free_place() -> Order
     }
 }
 
+#[tactic(auto, unfolding(model::specs::Book::is_live))]
 pub fn is_live(o: Order) -> bool
     ensures { result ≡ is_live o }
 {
     o.number != 0
 }
 
+#[tactic(auto, unfolding(model::specs::Calls::is_own))]
 fn is_own(account: u64, number: u64, o: Order) -> bool
     ensures { result ≡ is_own account number o }
 {
-    if !is_live(o) {
-        return false;
-    }
-    if o.number != number {
-        return false;
-    }
-    o.account == account
+    is_live(o) && o.number == number && o.account == account
 }
 
-// The place of the account's order with this number, or the number of places where there is none.
-pub fn place_of(rows: &[Order], account: u64, number: u64) -> usize
-    ensures { result ≡ place_of account number rows.now }
+// The side that an order trades against.
+#[tactic(auto, unfolding(model::specs::Book::other))]
+pub fn other_side(side: u64) -> u64
+    ensures { result ≡ other side }
 {
-    let mut i = 0;
-    while i < rows.len() {
-        if is_own(account, number, order_at(rows, i)) {
-            return i;
-        }
-        i += 1;
-    }
-    i
+    if side == 0 { 1 } else { 0 }
+}
+
+// The place of the account's order with this number.
+pub fn place_of(rows: &[Order], account: u64, number: u64) -> Option<usize>
+    ensures { result ≡ position (is_own account number) rows.now }
+{
+    rows.iter().position(|o| is_own(account, number, *o))
 }

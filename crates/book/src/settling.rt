@@ -10,36 +10,7 @@ ghost use Rattle.book.specs.Settling.{off_front, placed, FreeFrom, CutAt};
 
 use crate::places::free_place;
 use crate::seats::{free_from, sells_from};
-use crate::{order_at, put_order};
 use model::Order;
-
-// Every place from one up to another is free.
-fn free_places(rows: &mut [Order], from: usize, to: usize)
-    requires from_le_to { from ≤ to }
-    requires to_in_bounds { to ≤ length rows.old }
-    ensures { rows.new ≡ take from rows.old ++ (replicate (to - from) free ++ drop to rows.old) }
-{
-    let mut place = from;
-    while place < to {
-        put_order(&mut *rows, place, free_place());
-        place += 1;
-    }
-}
-
-// The orders from `next` up to `end` move up to `place`; what they leave behind still stands there too.
-fn move_up(rows: &mut [Order], place: usize, next: usize, end: usize)
-    requires place_le_next { place ≤ next }
-    requires next_le_end { next ≤ end }
-    requires end_in_bounds { end ≤ length rows.old }
-    ensures { rows.new ≡ take place rows.old ++ (line next end rows.old ++ drop (place + (end - next)) rows.old) }
-{
-    let mut i = next;
-    while i < end {
-        let order = order_at(rows, i);
-        put_order(&mut *rows, place + (i - next), order);
-        i += 1;
-    }
-}
 
 // The places from `place` up to `next` are given up: the orders behind them, up to `end`, move there, and free places follow.
 fn close_up(rows: &mut [Order], place: usize, next: usize, end: usize)
@@ -51,23 +22,22 @@ fn close_up(rows: &mut [Order], place: usize, next: usize, end: usize)
     if place == next {
         return;
     }
-    move_up(&mut *rows, place, next, end);
-    free_places(&mut *rows, place + (end - next), end);
+    rows.copy_within(next..end, place);
+    rows[place + (end - next)..end].fill(free_place());
 }
 
 // An order less so many shares: no order once nothing is left.
+#[tactic(auto, unfolding(model::specs::Matching::less_by))]
 fn less_by(q: u64, o: Order) -> Order
     ensures { result ≡ less_by q o }
 {
     if o.left <= q {
-        return free_place();
-    }
-    Order {
-        side: o.side,
-        account: o.account,
-        left: o.left - q,
-        price: o.price,
-        number: o.number,
+        free_place()
+    } else {
+        Order {
+            left: o.left - q,
+            ..o
+        }
     }
 }
 
@@ -79,17 +49,15 @@ fn cut_front(rows: &mut [Order], from: usize, to: usize, shares: u64) -> usize
     ensures { CutAt shares from to rows.old rows.new result }
 {
     let mut left = shares;
-    let mut at = from;
-    while at < to {
-        let o = order_at(rows, at);
+    for at in from..to {
+        let o = rows[at];
         if left < o.left {
-            put_order(&mut *rows, at, less_by(left, o));
+            rows[at] = less_by(left, o);
             return at;
         }
         left -= o.left;
-        at += 1;
     }
-    at
+    to
 }
 
 // The same, and the places that they leave are closed up by those behind, up to `end`.
@@ -100,8 +68,8 @@ fn take_off(rows: &mut [Order], from: usize, to: usize, end: usize, shares: u64)
     requires free_from { FreeFrom end rows.old }
     ensures { rows.new ≡ placed (length rows.old) (take from rows.old ++ (off_front shares (line from to rows.old) ++ line to end rows.old)) }
 {
-    let at = cut_front(&mut *rows, from, to, shares);
-    close_up(&mut *rows, from, at, end);
+    let at = cut_front(rows, from, to, shares);
+    close_up(rows, from, at, end);
 }
 
 // So many shares come off the front of the buys.
@@ -111,7 +79,7 @@ pub fn off_buys(rows: &mut [Order], shares: u64)
 {
     let middle = sells_from(rows);
     let end = free_from(rows);
-    take_off(&mut *rows, 0, middle, end, shares);
+    take_off(rows, 0, middle, end, shares);
 }
 
 // Of the sells.
@@ -121,7 +89,7 @@ pub fn off_sells(rows: &mut [Order], shares: u64)
 {
     let middle = sells_from(rows);
     let end = free_from(rows);
-    take_off(&mut *rows, middle, end, end, shares);
+    take_off(rows, middle, end, end, shares);
 }
 
 // Of both sides: the sells first, so that the buys still stand where they stood.
@@ -131,8 +99,8 @@ pub fn off_both(rows: &mut [Order], shares: u64)
 {
     let middle = sells_from(rows);
     let end = free_from(rows);
-    take_off(&mut *rows, middle, end, end, shares);
-    take_off(&mut *rows, 0, middle, end, shares);
+    take_off(rows, middle, end, end, shares);
+    take_off(rows, 0, middle, end, shares);
 }
 
 // The order at a place is taken out: those behind it move up by one place, and the last place becomes free.
@@ -142,17 +110,12 @@ pub fn take_out(rows: &mut [Order], place: usize)
     ensures { rows.new ≡ take place rows.old ++ (drop (place + 1) rows.old ++ (free ∷ [])) }
 {
     let end = free_from(rows);
-    let next = place + 1;
-    close_up(&mut *rows, place, next, end);
+    close_up(rows, place, place + 1, end);
 }
 
 // Every place free.
 pub fn clear_rows(rows: &mut [Order])
     ensures { rows.new ≡ (cleared rows.old) }
 {
-    let mut place = 0;
-    while place < rows.len() {
-        put_order(&mut *rows, place, free_place());
-        place += 1;
-    }
+    rows.fill(free_place());
 }

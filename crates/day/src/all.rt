@@ -11,9 +11,9 @@ use evenings::moving::{clock_all_sound, move_refused};
 use figures::fresh_day;
 use fixed_book::fixed_sound;
 use limits::is_price;
+use limits::places::has_places;
 use model::{Day, Declaration, MOST_PLACES, MoveAnswer, OpenReply, Order, Trade};
 use soundness::is_sound;
-use soundness::places::has_places;
 
 // Previous close, mark and the places of each list are what a day can have.
 fn may_open_all(

@@ -7,8 +7,8 @@ ghost use Rattle.day.specs.Promises.{OpenPromise};
 use book::settling::clear_rows;
 use figures::fresh_day;
 use limits::is_price;
+use limits::places::has_places;
 use model::{OpenReply, Order};
-use soundness::places::has_places;
 
 // Previous close, mark and places are what a day can have.
 fn may_open(rows: &[Order], close: u64, mark: u64) -> bool

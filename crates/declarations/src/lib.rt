@@ -3,9 +3,9 @@
 #![tactic(auto)]
 
 ghost use Rattle.std.specs.Prelude.{◌≡◌, [], ◌++◌, ◌-◌, ◌≤◌, ◌<◌, length, get_or, set, take, replicate};
-ghost use Rattle.model.specs.Book.{other};
 ghost use Rattle.model.specs.Blocks.{undeclared, fits, none_held};
 
+use book::places::other_side;
 use model::Declaration;
 
 // The declaration at a place.
@@ -24,6 +24,7 @@ pub fn put_declaration(rows: &mut [Declaration], place: usize, x: Declaration)
 }
 
 // A free place is all zeros.
+#[tactic(auto, unfolding(model::specs::Blocks::undeclared))]
 pub fn no_declaration() -> Declaration
     ensures { result ≡ undeclared }
 {
@@ -43,44 +44,25 @@ pub fn free_rest(rows: &mut [Declaration], from: usize)
     requires { from ≤ length rows.old }
     ensures { rows.new ≡ take from rows.old ++ replicate (length rows.old - from) undeclared }
 {
-    let mut place = from;
-    while place < rows.len() {
-        put_declaration(&mut *rows, place, no_declaration());
-        place += 1;
-    }
+    rows[from..].fill(no_declaration());
 }
 
 // Every place free.
 pub fn clear_held(rows: &mut [Declaration])
     ensures { rows.new ≡ (none_held rows.old) }
 {
-    free_rest(&mut *rows, 0);
-}
-
-fn other_side(side: u64) -> u64
-    ensures { result ≡ other side }
-{
-    if side == 0 { 1 } else { 0 }
+    free_rest(rows, 0);
 }
 
 // The same price, quantity and agreement number, opposite sides, each naming the other's account (3.6.7).
+#[tactic(auto, unfolding(model::specs::Blocks::fits))]
 pub fn fit(x: Declaration, y: Declaration) -> bool
     ensures { result ≡ fits x y }
 {
-    if x.price != y.price {
-        return false;
-    }
-    if x.quantity != y.quantity {
-        return false;
-    }
-    if x.agreement != y.agreement {
-        return false;
-    }
-    if x.side != other_side(y.side) {
-        return false;
-    }
-    if x.counter != y.account {
-        return false;
-    }
-    y.counter == x.account
+    x.price == y.price
+        && x.quantity == y.quantity
+        && x.agreement == y.agreement
+        && x.side == other_side(y.side)
+        && x.counter == y.account
+        && y.counter == x.account
 }

@@ -1,3 +1,2 @@
--- Laws behind the functions of this crate: sums over trades, and what is published.
+-- Laws behind the functions of this crate: sums over trades.
 pub mod Tallies
-pub mod Publishing

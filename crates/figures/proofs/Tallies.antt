@@ -1,23 +1,22 @@
 -- What a run of trades adds up to, one trade after the other, and the day's figures with it. Assumes nothing.
 use Prim.Native.Nat.{ℕ, zero, suc, ◌+◌, ◌*◌, ◌≤◌, ◌<◌}
-use mathlib.Core.Path.{◌≡◌, refl, sym}
+use mathlib.Core.Path.{◌≡◌, refl, sym, ap, ◌∙◌}
 use mathlib.Core.Bool.{Bool, true, false, cond}
 use mathlib.Core.List.{List, [], ◌∷◌}
 use native.Mathlib.Omega.{arith}
+use native.Mathlib.Numerals.{add-one}
 use native.Mathlib.Nat.{le_of_suc-le-suc, not-suc-le-zero}
 use lib.ListN.{length, take, drop, get_or, drop_of_length-le}
-use lib.Seq.{length-take-le}
+use lib.Seq.{drop-cons}
 use lib.Dec.{eqb}
-use borrow.Author.Tests.{eq-eqb, ne_eqb, eqb-true}
+use borrow.Author.Tests.{eqb-true}
 use Rattle.model.specs.declared.Trade.{Trade}
 use Rattle.model.specs.declared.Day.{Day}
 use Rattle.model.specs.Lists.{total}
 use Rattle.model.specs.Matching.{filled, first_price, last_price, no_trade}
 use Rattle.model.specs.Figures.{money, tally}
-use Rattle.book.proofs.Memory.{trades_from}
 use Rattle.figures.specs.declared.Totals.{Totals}
 use Rattle.figures.specs.Figures.{totals}
-use Rattle.model.specs.declared.Order.{Order}
 
 -- ---- sums
 
@@ -40,29 +39,37 @@ adding_end ts sold paid a =
     cc
 
 -- one trade more
-module _ (ts rest : List Trade) (t : Trade) (sold paid : ℕ) (a : Adding ts (t ∷ rest) sold paid) where
-  shares_more : sold + (t.quantity + filled rest) ≡ filled ts
+module _ (ts : List Trade) (i sold paid : ℕ) (h : i < length ts) (a : Adding ts (drop i ts) sold paid) where
+  abbrev here : Trade
+  here = get_or ts i no_trade
+
+  abbrev rest : List Trade
+  rest = drop (i + 1) ts
+
+  begins : drop i ts ≡ here ∷ rest
+  begins = drop-cons ts i no_trade h ∙ ap (λ (k : ℕ). here ∷ drop k ts) (sym (add-one i))
+
+  shares_more : sold + (here.quantity + filled rest) ≡ filled ts
   unfolding filled total
-  shares_more = a.shares
+  shares_more = sym (ap (λ (l : List Trade). sold + filled l) begins) ∙ a.shares
 
-  cash_more : paid + (t.price * t.quantity + money rest) ≡ money ts
+  cash_more : paid + (here.price * here.quantity + money rest) ≡ money ts
   unfolding money total
-  cash_more = a.cash
+  cash_more = sym (ap (λ (l : List Trade). paid + money l) begins) ∙ a.cash
 
-  pub adding_next : Adding ts rest (sold + t.quantity) (paid + t.price * t.quantity)
+  pub adding_next : Adding ts rest (sold + here.quantity) (paid + here.price * here.quantity)
   adding_next = record { shares = omega (arith, shares_more); cash = omega (arith, cash_more) }
 
-  pub adding_fits : (sold + t.quantity ≤ filled ts) × (paid + t.price * t.quantity ≤ money ts)
+  pub adding_fits : (sold + here.quantity ≤ filled ts) × (paid + here.price * here.quantity ≤ money ts)
   adding_fits = (omega (arith, shares_more), omega (arith, cash_more))
 
--- the trades from place i on begin with the one there
-module _ (rows : List Trade) (n i : ℕ) (h : i < n) (l : n ≤ length rows) where
-  pub adding_at :
-      (t : Trade) (sold paid : ℕ)
-      → t ≡ get_or rows i no_trade
-      → Adding (take n rows) (drop i (take n rows)) sold paid
-      → Adding (take n rows) (t ∷ (drop (i + 1) (take n rows))) sold paid
-  adding_at t sold paid e a = rw e (rw (trades_from rows n i h l) at a)
+-- past the last place nothing is to come
+pub adding_over :
+    (ts : List Trade) (i sold paid : ℕ)
+    → length ts ≤ i
+    → Adding ts (drop i ts) sold paid
+    → record { shares = sold; money = paid } ≡ totals ts
+adding_over ts i sold paid h a = adding_end ts sold paid (rw (drop_of_length-le ts h) at a)
 
 pub shares_fit_lem : (ts : List Trade) (sum : Totals) → sum ≡ totals ts → sum.shares ≡ filled ts
 unfolding totals
@@ -72,22 +79,7 @@ pub money_fit : (ts : List Trade) (sum : Totals) → sum ≡ totals ts → sum.m
 unfolding totals
 money_fit ts sum e = rw e
 
--- past the last place nothing is to come
-pub adding_over :
-    (rows : List Trade) (n i sold paid : ℕ)
-    → n ≤ i
-    → n ≤ length rows
-    → Adding (take n rows) (drop i (take n rows)) sold paid
-    → record { shares = sold; money = paid } ≡ totals (take n rows)
-adding_over rows n i sold paid h l a =
-    let k : length (take n rows) ≤ i = rw (length-take-le n rows l) h in
-    adding_end _ sold paid (rw (drop_of_length-le (take n rows) k) at a)
-
 -- ---- the day's figures
-
--- the price of the first trade stays once there is one
-first_kept : (p q : ℕ) → (p ≡ 0 → ⊥) → p ≡ cond (eqb p 0) q p
-first_kept p q h = rw (ne_eqb p 0 h)
 
 first_none : (p : ℕ) → p ≡ cond (eqb p 0) 0 p
 first_none p = go (eqb p 0) refl
@@ -155,16 +147,11 @@ module _ (d : Day) (rows : List Trade) (n m : ℕ) (e : n ≡ suc m) (h : m < le
     last_price_lem : last.price ≡ last_price d.last (take n rows)
     last_price_lem = rw (l, e) (sym (last_of d.last rows m h))
 
-    pub tally_first : d.first ≡ 0 → added first.price sum last.price ≡ tally (take n rows) d
+    -- the price of the first trade stays once there is one
+    pub tally_some : (p : ℕ) → p ≡ cond (eqb d.first 0) first.price d.first → added p sum last.price ≡ tally (take n rows) d
     unfolding tally totals
-    tally_first z =
-        let p : first.price ≡ cond (eqb d.first 0) (first_price 0 (take n rows)) d.first =
-        rw (eq-eqb d.first 0 z, f, e) (sym (first_of_lem rows m h)) in
-        cc last_price_lem
-
-    pub tally_later : (d.first ≡ 0 → ⊥) → added d.first sum last.price ≡ tally (take n rows) d
-    unfolding tally totals
-    tally_later z =
-        let p : d.first ≡ cond (eqb d.first 0) (first_price 0 (take n rows)) d.first =
-        first_kept d.first _ z in
+    tally_some p y =
+        let f : p ≡ cond (eqb d.first 0) (first_price 0 (take n rows)) d.first =
+        y ∙ ap (λ (q : ℕ). cond (eqb d.first 0) q d.first) (rw (f, e) (sym (first_of_lem rows m h)))
+        in
         cc last_price_lem

@@ -6,7 +6,6 @@ ghost use Rattle.model.specs.Matching.{filled};
 ghost use Rattle.model.specs.Figures.{no_levels, no_screen, fresh_day, at, issue, money, tally, reference};
 ghost use Rattle.figures.specs.Figures.{totals, Publishable, published};
 
-use book::trade_at;
 use model::{Blocks, DAY_END, Day, Fixed, Level, Levels, Screen, Trade};
 
 // Shares and money: what a run of trades adds to the day's figures, and what is published of a day.
@@ -17,6 +16,7 @@ pub struct Totals {
 }
 
 // No price stands.
+#[tactic(auto, unfolding(model::specs::Figures::no_level, model::specs::Figures::no_levels))]
 pub fn no_levels() -> Levels
     ensures { result ≡ no_levels }
 {
@@ -34,6 +34,7 @@ pub fn no_levels() -> Levels
 }
 
 // A screen on which nothing stands.
+#[tactic(auto, unfolding(model::specs::Figures::no_screen))]
 fn no_screen() -> Screen
     ensures { result ≡ no_screen }
 {
@@ -52,6 +53,7 @@ fn no_screen() -> Screen
     }
 }
 
+#[tactic(auto, unfolding(model::specs::Figures::fresh_day))]
 pub fn fresh_day(close: u64, mark: u64) -> Day
     ensures { result ≡ fresh_day close mark }
 {
@@ -80,25 +82,27 @@ pub fn fresh_day(close: u64, mark: u64) -> Day
     }
 }
 
+#[tactic(auto, unfolding(model::specs::Figures::at))]
 pub fn day_at(day: Day, time: u64) -> Day
     ensures { result ≡ at time day }
 {
-    let mut moved = day;
-    moved.time = time;
-    moved
+    Day { time, ..day }
 }
 
 // One number more is issued.
+#[tactic(auto, unfolding(model::specs::Figures::issue, model::specs::Figures::next_number))]
 pub fn issued_one(day: Day) -> Day
     requires { day.issued + 1 < 2 ^ 64 }
     ensures { result ≡ issue day }
 {
-    let mut issued = day;
-    issued.issued = day.issued + 1;
-    issued
+    Day {
+        issued: day.issued + 1,
+        ..day
+    }
 }
 
 // The last trade's price, or the previous close where nothing has traded yet.
+#[tactic(auto, unfolding(model::specs::Figures::reference))]
 pub fn reference_of(day: Day) -> u64
     ensures { result ≡ reference day }
 {
@@ -106,6 +110,7 @@ pub fn reference_of(day: Day) -> u64
 }
 
 // From 15:30 on the figures of the fixed-price book and the confirmed blocks are published too; the money of blocks never is.
+#[tactic(auto, unfolding(crate::specs::Figures::published, model::specs::Figures::published_shares, model::specs::Figures::published_turnover, model::specs::Clock::day_end))]
 pub fn published(day: Day) -> Totals
     requires { Publishable day }
     ensures { result ≡ published day }
@@ -124,21 +129,17 @@ pub fn published(day: Day) -> Totals
     }
 }
 
-// Shares and money of the first n trades of the list.
-fn totals_of(trades: &[Trade], n: usize) -> Totals
-    requires n_in_bounds { n ≤ length trades.now }
-    requires trades_bound { filled (take n trades.now) < 2 ^ 64 }
-    requires trades_bound_2 { money (take n trades.now) < 2 ^ 64 }
-    ensures { result ≡ totals (take n trades.now) }
+// Shares and money of these trades.
+fn totals_of(trades: &[Trade]) -> Totals
+    requires shares_fit { filled trades.now < 2 ^ 64 }
+    requires money_fits { money trades.now < 2 ^ 64 }
+    ensures { result ≡ totals trades.now }
 {
     let mut shares: u64 = 0;
     let mut money: u64 = 0;
-    let mut i = 0;
-    while i < n {
-        let t = trade_at(trades, i);
+    for t in trades {
         shares += t.quantity;
         money += t.price * t.quantity;
-        i += 1;
     }
     Totals { shares, money }
 }
@@ -153,16 +154,17 @@ pub fn tally_trades(day: Day, trades: &[Trade], n: usize) -> Day
     if n == 0 {
         return day;
     }
-    let sum = totals_of(trades, n);
-    let first = trade_at(trades, 0);
-    let last = trade_at(trades, n - 1);
-    let mut next = day;
-    next.shares = day.shares + sum.shares;
-    next.turnover = day.turnover + sum.money;
-    next.last = last.price;
-    if day.first != 0 {
-        return next;
+    let sum = totals_of(&trades[..n]);
+    let first = if day.first == 0 {
+        trades[0].price
+    } else {
+        day.first
+    };
+    Day {
+        shares: day.shares + sum.shares,
+        turnover: day.turnover + sum.money,
+        first,
+        last: trades[n - 1].price,
+        ..day
     }
-    next.first = first.price;
-    next
 }

@@ -10,8 +10,8 @@ ghost use Rattle.model.specs.FixedBook.{is_void};
 
 use crate::walking::{is_void, stands_on};
 use figures::reference_of;
+use limits::places::is_between;
 use model::{Day, MATCHING_FROM, MOST_SHARES, Order};
-use soundness::day_figures::is_between;
 
 // Shares rest from 9:15 up to 15:30 only.
 pub fn fits_hours(time: u64, resting: u64) -> bool

@@ -36,8 +36,8 @@ use crate::line::line_up;
 use crate::places::{is_in_arrival, sound_places};
 use crate::walking::{head_from, head_past, trade_at_close};
 use book::{Dealt, put_trade, smaller};
+use limits::places::has_places;
 use model::{Day, Fixed, Order, Trade};
-use soundness::places::has_places;
 
 // The trades of the orders that are not void, at the close, in order of arrival: all are counted, and as many are written as the list
 // holds.

@@ -5,7 +5,6 @@ ghost use Rattle.model.specs.Halts.{away, reach, fired};
 ghost use Rattle.halts.specs.Priced.{Priced};
 
 use crate::ends::halt_end;
-use book::trade_at;
 use model::{Day, Trade};
 
 // So many percent away from the open, up or down. Two products are compared, so nothing is rounded.
@@ -18,64 +17,60 @@ fn is_away(percent: u64, opened: u64, price: u64) -> bool
     (100 + percent) * opened <= 100 * price || 100 * price <= (100 - percent) * opened
 }
 
-// Whether one of the first n trades of the list is.
-fn reaches(percent: u64, day: Day, trades: &[Trade], n: usize) -> bool
+// Whether one of these trades is.
+fn reaches(percent: u64, day: Day, trades: &[Trade]) -> bool
     requires percent_bound { percent ≤ 100 }
-    requires n_in_bounds { n ≤ length trades.now }
-    requires priced { Priced day (take n trades.now) }
-    ensures { result ≡ reach percent (take n trades.now) day }
+    requires priced { Priced day trades.now }
+    ensures { result ≡ reach percent trades.now day }
 {
-    let mut i = 0;
-    while i < n {
-        let t = trade_at(trades, i);
+    for t in trades {
         if is_away(percent, day.first, t.price) {
             return true;
         }
-        i += 1;
     }
     false
 }
 
 // Each threshold fires once a day, on unlimited days.
-fn fires(day: Day, trades: &[Trade], n: usize) -> bool
-    requires n_in_bounds { n ≤ length trades.now }
-    requires priced { Priced day (take n trades.now) }
-    ensures { result ≡ halts.fires (take n trades.now) day }
+#[tactic(auto, unfolding(model::specs::Halts::fires))]
+fn fires(day: Day, trades: &[Trade]) -> bool
+    requires { Priced day trades.now }
+    ensures { result ≡ halts.fires trades.now day }
 {
-    if day.limited != 0 {
-        return false;
-    }
-    if day.used30 == 0 && reaches(30, day, trades, n) {
-        return true;
-    }
-    day.used60 == 0 && reaches(60, day, trades, n)
+    day.limited == 0
+        && (day.used30 == 0 && reaches(30, day, trades)
+            || day.used60 == 0 && reaches(60, day, trades))
 }
 
 // The day, with the first n trades of the list among its figures: where they fire, a halt begins at this second.
+#[tactic(auto, unfolding(model::specs::Halts::fired, model::specs::Halts::halting))]
 pub fn fire(day: Day, trades: &[Trade], n: usize, second: u64) -> Day
     requires second_bound { second ≤ 86_399 }
     requires n_in_bounds { n ≤ length trades.now }
     requires priced { Priced day (take n trades.now) }
     ensures { result ≡ fired second (take n trades.now) day }
 {
-    if !fires(day, trades, n) {
+    let made = &trades[..n];
+    if !fires(day, made) {
         return day;
     }
-    let mut next = day;
-    next.halt = halt_end(second);
-    next.used30 = 1;
-    if !reaches(60, day, trades, n) {
-        return next;
+    let used60 = if reaches(60, day, made) {
+        1
+    } else {
+        day.used60
+    };
+    Day {
+        halt: halt_end(second),
+        used30: 1,
+        used60,
+        ..day
     }
-    next.used60 = 1;
-    next
 }
 
 // The halt is over.
+#[tactic(auto, unfolding(model::specs::Halts::resumed, model::specs::Halts::halting))]
 pub fn resume_day(day: Day) -> Day
     ensures { result ≡ halts.resumed day }
 {
-    let mut next = day;
-    next.halt = 0;
-    next
+    Day { halt: 0, ..day }
 }

@@ -9,7 +9,6 @@ ghost use Rattle.book.specs.Lines.{line};
 ghost use Rattle.levels.specs.Fronts.{next_from, moved_up};
 
 use auction::tiers::run_from;
-use book::order_at;
 use book::seats::places_of;
 use figures::no_levels;
 use model::{Level, Levels, Order};
@@ -36,7 +35,7 @@ fn next_from(rows: &[Order], at: usize, end: usize) -> Next
             behind: at,
         };
     }
-    let first = order_at(rows, at);
+    let first = rows[at];
     let others = run_from(rows, at + 1, end, first.price);
     let shares = first.left + others.shares;
     Next {
@@ -49,18 +48,15 @@ fn next_from(rows: &[Order], at: usize, end: usize) -> Next
 }
 
 // Each price one line further up, and this one on the last line.
+#[tactic(auto, unfolding(crate::specs::Fronts::moved_up))]
 fn moved_up(levels: Levels, last: Level) -> Levels
     ensures { result ≡ moved_up levels last }
 {
-    let first = levels.second;
-    let second = levels.third;
-    let third = levels.fourth;
-    let fourth = levels.fifth;
     Levels {
-        first,
-        second,
-        third,
-        fourth,
+        first: levels.second,
+        second: levels.third,
+        third: levels.fourth,
+        fourth: levels.fifth,
         fifth: last,
     }
 }
@@ -77,12 +73,10 @@ pub fn levels_of(rows: &[Order], side: u64) -> Levels
     let end = line.to;
     let mut at = line.from;
     let mut levels = no_levels();
-    let mut n: usize = 0;
-    while n < PRICES {
+    for _ in 0..PRICES {
         let next = next_from(rows, at, end);
         levels = moved_up(levels, next.level);
         at = next.behind;
-        n += 1;
     }
     levels
 }

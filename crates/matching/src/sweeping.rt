@@ -1,6 +1,5 @@
 // An order on its way through the other side: price after price, and at each price order after order. The book stays as it is.
 ghost use Rattle.std.specs.Prelude.{◌≡◌, ◌+◌, ◌<◌, ◌^◌, []};
-ghost use Rattle.model.specs.Book.{other};
 ghost use Rattle.model.specs.Matching as matching;
 ghost use Rattle.book.specs.Standing.{Ranked};
 ghost use Rattle.book.specs.Writing.{fitted};
@@ -8,16 +7,10 @@ ghost use Rattle.matching.specs.Sweeping as sweeping;
 ghost use Rattle.matching.specs.Sweeping.{swept, comes_to, one_price, one_trade};
 
 use crate::Swept;
+use book::places::other_side;
 use book::put_trade;
 use book::seats::places_of;
 use model::{Order, Taker, Trade};
-
-#[tactic(auto, unfolding(model::specs::Book::other))]
-pub fn other_side(side: u64) -> u64
-    ensures { result ≡ other side }
-{
-    if side == 0 { 1 } else { 0 }
-}
 
 // A price that a buy with this limit may pay, or a sell take.
 #[tactic(auto, unfolding(model::specs::Matching::meets))]

@@ -26,7 +26,7 @@ pub const CONTINUOUS: u64 = 4;
 pub const HALTED: u64 = 7;
 
 // One place of the book. A free place is all zeros.
-#[derive(Clone, Copy)]
+#[derive(Clone, Copy, PartialEq, Eq)]
 pub struct Order {
     pub side: u64,
     pub account: u64,
@@ -100,14 +100,14 @@ pub struct Taker {
 }
 
 // A price of a side and the total shares that stand there, zeros where there is none.
-#[derive(Clone, Copy)]
+#[derive(Clone, Copy, PartialEq, Eq)]
 pub struct Level {
     pub price: u64,
     pub shares: u64,
 }
 
 // The five best prices of a side.
-#[derive(Clone, Copy)]
+#[derive(Clone, Copy, PartialEq, Eq)]
 pub struct Levels {
     pub first: Level,
     pub second: Level,

@@ -9,7 +9,7 @@ use mathlib.Core.List.{List, [], ◌∷◌}
 use native.Mathlib.Omega.{arith}
 use native.Mathlib.Nat.{mul-le-mul_right, mul-add}
 use native.Mathlib.Numerals.{add-one}
-use lib.ListN.{length, length-map, take}
+use lib.ListN.{length, take}
 use lib.Dec.{eqb}
 use borrow.Author.Tests.{eq-eqb, ne_eqb, eqb-true, eqb-false}
 use Rattle.model.specs.declared.Order.{Order}
@@ -19,7 +19,7 @@ use Rattle.model.specs.declared.Day.{Day}
 use Rattle.model.specs.declared.Remainder.{Remainder}
 use Rattle.model.specs.declared.OrderReply.TheVariants.{Accepted}
 use Rattle.model.specs.Lists.{all, total}
-use Rattle.model.specs.Book.{is_live, queue, best, other, arranged, free}
+use Rattle.model.specs.Book.{is_live, queue, best, other, arranged}
 use Rattle.model.specs.Matching.{filled, levels, last_price, settle}
 use Rattle.model.specs.Figures.{next_number, issue, money, tally}
 use Rattle.model.specs.Halts.{halting, fired}

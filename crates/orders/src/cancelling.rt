@@ -7,7 +7,6 @@ ghost use Rattle.book.specs.Standing.{Ranked};
 ghost use Rattle.figures.specs.Figures.{Publishable};
 ghost use Rattle.book.specs.Promises.{cancel_left, cancel_refused};
 
-use book::order_at;
 use book::places::place_of;
 use book::settling::take_out;
 use clock::takes_cancels;
@@ -42,12 +41,11 @@ pub fn cancel_sound(d: Day, rows: &mut [Order], account: u64, number: u64) -> Ca
         return cancel_refused(d, 4);
     }
     // 12: no live order has this number and account
-    let place = place_of(rows, account, number);
-    if rows.len() <= place {
+    let Some(place) = place_of(rows, account, number) else {
         return cancel_refused(d, 12);
-    }
-    let own = order_at(rows, place);
-    take_out(&mut *rows, place);
+    };
+    let own = rows[place];
+    take_out(rows, place);
     CancelAnswer {
         reply: CancelReply::Withdrawn(own.left),
         day: day_without(d, rows),

@@ -12,6 +12,7 @@ ghost use Rattle.checks.specs.Checks.{asked_rules};
 ghost use Rattle.orders.specs.Taken.{Taken, Joins, RoomFor};
 
 use book::joining::take_in;
+use book::places::other_side;
 use book::seats::best_price;
 use checks::asked_checks::asked_refusal;
 use checks::book_checks::{book_refusal, lacks_places};
@@ -20,7 +21,6 @@ use figures::{issued_one, tally_trades};
 use halts::firing::fire;
 use matching::entering::{enter_trades, price_of_rest};
 use matching::settling::settle_entry;
-use matching::sweeping::other_side;
 use model::{Asked, Day, Entry, Order, OrderAnswer, OrderReply, Remainder, Trade};
 use screens::update_screen;
 

@@ -1,12 +1,11 @@
 -- The screen put together of its parts, and the day with it. Assumes nothing.
 use Prim.Native.Nat.{ℕ}
-use mathlib.Core.Path.{◌≡◌, refl, sym, ap, ◌∙◌}
-use mathlib.Core.Bool.{Bool, true, false, not, ◌||◌}
+use mathlib.Core.Path.{◌≡◌, sym, ap, ◌∙◌}
+use mathlib.Core.Bool.{Bool, true, false, not}
 use mathlib.Core.List.{List, [], ◌∷◌}
 use lib.ListN.{get_or}
 use lib.IntN.{pos}
-use lib.Dec.{eqb}
-use borrow.Author.Tests.{eq-eqb, ne_eqb, not-true, not-false}
+use borrow.Author.Tests.{not-true, not-false}
 use mir.Syntax.{w64}
 use mir.Val.{SFits, to_z, of_z}
 use mir.ValLaws.{to_z-of_z}
@@ -15,7 +14,7 @@ use Rattle.model.specs.declared.Trade.{Trade}
 use Rattle.model.specs.declared.Levels.{Levels}
 use Rattle.model.specs.declared.Screen.{Screen}
 use Rattle.model.specs.declared.Day.{Day}
-use Rattle.model.specs.Lists.{any, among}
+use Rattle.model.specs.Lists.{among}
 use Rattle.model.specs.Figures.{reference}
 use Rattle.model.specs.Halts.{phase_now}
 use Rattle.model.specs.Auction.{left_by, auction_price}
@@ -27,34 +26,11 @@ use Rattle.auction.specs.Fixings.{fixing_at}
 use Rattle.screens.specs.declared.Range.{Range}
 use Rattle.screens.specs.Ranges.{range_with}
 
--- ---- the phases
-
-abbrev calls : List ℕ
-calls = 1 ∷ 2 ∷ 6 ∷ []
-
-module _ (phase : ℕ) where
-  pub shows_first : phase ≡ 1 → true ≡ among calls phase
-  unfolding among any
-  shows_first e = rw (eq-eqb phase 1 e)
-
-  module _ (n : phase ≡ 1 → ⊥) where
-    pub shows_second : phase ≡ 2 → eqb phase 2 ≡ among calls phase
-    unfolding among any
-    shows_second e = rw (ne_eqb phase 1 n, eq-eqb phase 2 e)
-
-    pub shows_last : (phase ≡ 2 → ⊥) → eqb phase 6 ≡ among calls phase
-    unfolding among any
-    shows_last m = rw (ne_eqb phase 1 n, ne_eqb phase 2 m) (go (eqb phase 6))
-      where
-        go : (b : Bool) → b ≡ (b || false)
-        go true = refl
-        go false = refl
-
 -- ---- the auction's figures
 
-module _ (d : Day) (book : List Order) {phase : ℕ} {b : Bool} (e : phase ≡ phase_now d) (f : b ≡ among calls phase) where
-  tested : among calls (phase_now d) ≡ b
-  tested = ap (among calls) (sym e) ∙ sym f
+module _ (d : Day) (book : List Order) {phase : ℕ} {b : Bool} (e : phase ≡ phase_now d) (f : b ≡ among (1 ∷ 2 ∷ 6 ∷ []) phase) where
+  tested : among (1 ∷ 2 ∷ 6 ∷ []) (phase_now d) ≡ b
+  tested = ap (among (1 ∷ 2 ∷ 6 ∷ [])) (sym e) ∙ sym f
 
   pub shown_none : not b ≡ true → record { price = 0; volume = 0; surplus = pos 0 } ≡ fixing_at (shown_price d book) book
   unfolding fixing_at shown_price

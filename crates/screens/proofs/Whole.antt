@@ -31,7 +31,7 @@ reordered true true true true true true true false true = refl
 
 module _ (d : Day) (book : List Order) where
   -- high and low are compared with themselves
-  fits_groups :
+  pub fits_groups :
       screen_fits d book
       ≡ (figures_fit d
       && encloses d
@@ -47,25 +47,3 @@ module _ (d : Day) (book : List Order) where
     where
       f : Fixing
       f = fixing_at (shown_price d book) book
-
-  pub fits_figures : figures_fit d ≡ false → false ≡ screen_fits d book
-  fits_figures e = rw (fits_groups, e)
-
-  module _ (f : figures_fit d ≡ true) where
-    pub fits_encloses : encloses d ≡ false → false ≡ screen_fits d book
-    fits_encloses e = rw (fits_groups, f, e)
-
-    module _ (g : encloses d ≡ true) where
-      pub fits_buys : same_levels d.screen.buys (levels_of 0 book) ≡ false → false ≡ screen_fits d book
-      fits_buys e = rw (fits_groups, f, g, e)
-
-      module _ (b : same_levels d.screen.buys (levels_of 0 book) ≡ true) where
-        pub fits_sells : same_levels d.screen.sells (levels_of 1 book) ≡ false → false ≡ screen_fits d book
-        fits_sells e = rw (fits_groups, f, g, b, e)
-
-        pub fits_fixing :
-            {r : Bool}
-            → same_levels d.screen.sells (levels_of 1 book) ≡ true
-            → r ≡ same_fixing d.screen (fixing_at (shown_price d book) book)
-            → r ≡ screen_fits d book
-        fits_fixing s e = rw (fits_groups, f, g, b, s) e

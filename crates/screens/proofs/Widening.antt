@@ -1,24 +1,19 @@
 -- High and low with the trades of an event, one after the other. Assumes nothing.
-use Prim.Native.Nat.{ℕ, suc, ◌+◌, ◌-◌, ◌≤◌, ◌<◌, min, max}
+use Prim.Native.Nat.{ℕ, suc, ◌+◌, ◌-◌, ◌≤◌, ◌<◌}
 use mathlib.Core.Path.{◌≡◌, refl, sym, ap, ◌∙◌}
 use mathlib.Core.List.{List, [], ◌∷◌}
 use native.Mathlib.Omega.{arith}
+use native.Mathlib.Numerals.{add-one}
 use lib.ListN.{length, get_or, take, drop, drop_of_length-le}
-use lib.Seq.{length-take-le}
+use lib.Seq.{drop-cons}
 use borrow.Author.Tests.{eq-eqb, ne_eqb}
 use Rattle.model.specs.declared.Trade.{Trade}
 use Rattle.model.specs.declared.Screen.{Screen}
 use Rattle.model.specs.Matching.{first_price, highest, lowest, no_trade}
 use Rattle.model.specs.Screen.{high_with, low_with}
-use Rattle.book.proofs.Memory.{trades_from}
 use Rattle.figures.proofs.Tallies.{first_of_lem}
 use Rattle.screens.specs.declared.Range.{Range}
 use Rattle.screens.specs.Ranges.{widened, range_of, range_with}
-use Rattle.model.specs.declared.Order.{Order}
-
-pub widened_is : (r : Range) (p : ℕ) {h l : ℕ} → h ≡ max r.high p → l ≡ min r.low p → record { high = h; low = l } ≡ widened r p
-unfolding widened
-widened_is r p e f = rw (e, f)
 
 range_none : (r : Range) → range_of [] r ≡ r
 unfolding range_of highest lowest
@@ -29,34 +24,28 @@ unfolding range_of widened highest lowest
 range_more t ts r = refl
 
 -- what the trades still to come make of the range is what all make of its start
-pub record Widening (rows : List Trade) (n : ℕ) (start range : Range) (i : ℕ) : Type 0 where
-  pub rest : range_of (drop i (take n rows)) range ≡ range_of (take n rows) start
+pub record Widening (ts : List Trade) (start range : Range) (i : ℕ) : Type 0 where
+  pub rest : range_of (drop i ts) range ≡ range_of ts start
 
-module _ (rows : List Trade) (n : ℕ) (l : n ≤ length rows) where
-  pub widening_start : (start : Range) → Widening rows n start start 0
+module _ (ts : List Trade) where
+  pub widening_start : (start : Range) → Widening ts start start 0
   widening_start start = record { rest = refl }
 
-  module _ {start range : Range} {i : ℕ} (k : Widening rows n start range i) where
-    pub widening_next :
-        {t : Trade} {r : Range}
-        → i < n
-        → t ≡ get_or rows i no_trade
-        → r ≡ widened range t.price
-        → Widening rows n start r (i + 1)
-    widening_next {t} {r} h e f =
+  module _ {start range : Range} {i : ℕ} (k : Widening ts start range i) where
+    pub widening_next : {r : Range} → i < length ts → r ≡ widened range (get_or ts i no_trade).price → Widening ts start r (i + 1)
+    widening_next {r} h f =
         record {
           rest =
-              rw (f, e)
-              (sym (range_more (get_or rows i no_trade) (drop (i + 1) (take n rows)) range)
-              ∙ ap (λ (ts : List Trade). range_of ts range) (sym (trades_from rows n i h l))
+              rw f
+              (sym (range_more (get_or ts i no_trade) (drop (i + 1) ts) range)
+              ∙ ap (λ (l : List Trade). range_of (get_or ts i no_trade ∷ l) range) (ap (λ (n : ℕ). drop n ts) (add-one i))
+              ∙ ap (λ (l : List Trade). range_of l range) (sym (drop-cons ts i no_trade h))
               ∙ k.rest);
         }
 
-    pub widening_end : n ≤ i → range ≡ range_of (take n rows) start
+    pub widening_end : length ts ≤ i → range ≡ range_of ts start
     widening_end h =
-        let m : length (take n rows) ≤ i = rw (length-take-le n rows l) h in
-        let none : (drop i (take n rows)) ≡ [] = drop_of_length-le (take n rows) m in
-        sym (range_none range) ∙ ap (λ (ts : List Trade). range_of ts range) (sym none) ∙ k.rest
+        sym (range_none range) ∙ ap (λ (l : List Trade). range_of l range) (sym (drop_of_length-le ts h)) ∙ k.rest
 
 -- ---- from the screen's, or from the first trade
 

@@ -14,13 +14,11 @@ use levels::levels_of;
 use model::{Day, Order, Screen};
 
 // The phases in which the auction's figures are shown.
+#[tactic(auto, unfolding(model::specs::Lists::among, model::specs::Lists::any))]
 fn shows(phase: u64) -> bool
     ensures { result ≡ among (1 ∷ 2 ∷ 6 ∷ []) phase }
 {
-    if phase == 1 {
-        return true;
-    }
-    phase == 2 || phase == 6
+    phase == 1 || phase == 2 || phase == 6
 }
 
 // The auction's figures as they are shown: zeros outside these phases, where no price is looked for, and where none stands.

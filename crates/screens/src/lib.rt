@@ -11,10 +11,9 @@ ghost use Rattle.model.specs.Sound.{screen_fits};
 ghost use Rattle.book.specs.Standing.{Ranked};
 ghost use Rattle.figures.specs.Figures.{Publishable};
 
-use crate::comparing::{encloses, figures_fit, same_fixing, same_levels};
+use crate::comparing::{encloses, figures_fit, lines_fit, same_fixing};
 use crate::counting::{screen_of, shown_of};
 use crate::ranges::range_with;
-use levels::levels_of;
 use model::{Day, Order, Trade};
 
 // The highest and the lowest price that has traded; zeros while nothing has.
@@ -33,29 +32,19 @@ pub fn update_screen(day: Day, rows: &[Order], trades: &[Trade], n: usize) -> Da
 {
     let range = range_with(day.screen, trades, n);
     let screen = screen_of(day, rows, range.high, range.low);
-    let mut next = day;
-    next.screen = screen;
-    next
+    Day { screen, ..day }
 }
 
 // Whether a day's screen does not differ from its book and its figures: what is cheap is tested first, the auction's figures last.
+#[tactic(auto, using(crate::proofs::Whole::fits_groups))]
 pub fn screen_fits(day: Day, rows: &[Order]) -> bool
     requires ranked { Ranked rows.now }
     requires publishable { Publishable day }
     ensures { result ≡ screen_fits day rows.now }
 {
-    if !figures_fit(day) {
-        return false;
-    }
-    if !encloses(day) {
-        return false;
-    }
     let screen = day.screen;
-    if !same_levels(screen.buys, levels_of(rows, 0)) {
-        return false;
-    }
-    if !same_levels(screen.sells, levels_of(rows, 1)) {
-        return false;
-    }
-    same_fixing(screen, shown_of(day, rows))
+    figures_fit(day)
+        && encloses(day)
+        && lines_fit(screen, rows)
+        && same_fixing(screen, shown_of(day, rows))
 }

@@ -1,42 +1,13 @@
--- Which place may follow which, and a walk along the places, each beside the next. Assumes nothing.
+-- A walk along the places, each beside the next. Assumes nothing.
 use Prim.Native.Nat.{ℕ, suc, ◌+◌, ◌-◌, ◌≤◌, ◌<◌}
 use mathlib.Core.Path.{◌≡◌, refl, sym, ap, ◌∙◌}
-use mathlib.Core.Bool.{Bool, true, false, cond, ◌&&◌, ◌||◌}
+use mathlib.Core.Bool.{Bool, true, false, ◌&&◌}
 use mathlib.Core.List.{List, [], ◌∷◌}
 use native.Mathlib.Omega.{arith}
-use lib.ListN.{length, get_or, drop, length-map, length-drop}
+use lib.ListN.{length, get_or, drop, length-drop}
 use lib.Seq.{drop-cons}
-use lib.Dec.{ltb, eqb}
-use borrow.Author.Tests.{eq-eqb, ne_eqb, le-ltb}
 use Rattle.model.specs.declared.Order.{Order}
-use Rattle.model.specs.Book.{free, better, ahead, may_follow, in_order}
-
--- ---- who is ahead
-
-or_none : (b : Bool) → b ≡ (b || false)
-or_none true = refl
-or_none false = refl
-
-module _ (side : ℕ) (a b : Order) where
-  pub ahead_number : a.price ≡ b.price → ltb a.number b.number ≡ ahead side a b
-  unfolding ahead better
-  ahead_number e =
-      rw (e, eq-eqb b.price b.price refl, le-ltb b.price b.price (omega arith)) (go (eqb side 0))
-    where
-      go : (t : Bool) → ltb a.number b.number ≡ (cond t false false || (true && ltb a.number b.number))
-      go true = refl
-      go false = refl
-
-  module _ (n : a.price ≡ b.price → ⊥) where
-    pub ahead_buy : side ≡ 0 → ltb b.price a.price ≡ ahead side a b
-    unfolding ahead better
-    ahead_buy z = rw (eq-eqb side 0 z, ne_eqb a.price b.price n) (or_none (ltb b.price a.price))
-
-    pub ahead_sell : (side ≡ 0 → ⊥) → ltb a.price b.price ≡ ahead side a b
-    unfolding ahead better
-    ahead_sell z = rw (ne_eqb side 0 z, ne_eqb a.price b.price n) (or_none (ltb a.price b.price))
-
--- ---- along the places
+use Rattle.model.specs.Book.{free, may_follow, in_order}
 
 -- those up to the one before i have passed
 pub record Followed (rows : List Order) (i : ℕ) : Type 0 where

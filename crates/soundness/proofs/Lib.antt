@@ -2,7 +2,6 @@ pub mod Says
 pub mod Clauses
 pub mod HaltClauses
 pub mod EveningClauses
-pub mod EveningTests
 pub mod Following
 pub mod Sizes
 pub mod SoundDays

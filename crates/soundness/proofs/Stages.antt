@@ -6,12 +6,11 @@ use mathlib.Core.Bool.{Bool, true, false, not, ◌&&◌, ◌||◌, and-true, and
 use mathlib.Core.List.{List}
 use native.Mathlib.Omega.{arith}
 use lib.Dec.{leb, eqb}
-use borrow.Author.Tests.{eq-eqb, ne_eqb}
 use Rattle.model.specs.declared.Order.{Order}
 use Rattle.model.specs.declared.Day.{Day}
-use Rattle.model.specs.Lists.{total}
+use Rattle.model.specs.Lists.{all, total}
 use Rattle.model.specs.Figures.{close_price}
-use Rattle.model.specs.Sound.{has_places, sound_figures, is_empty, crosses, between, shares_fit, prices_fit, turnover_fits, screen_fits, halt_fits, fixed_fits, blocks_fit, sound_anywhere, sound}
+use Rattle.model.specs.Sound.{has_places, sound_figures, own_numbers, is_empty, crosses, between, shares_fit, prices_fit, turnover_fits, screen_fits, halt_fits, fixed_fits, blocks_fit, sound_anywhere, sound}
 use Rattle.model.specs.Book.{in_order}
 use Rattle.model.specs.Halts.{runs}
 use Rattle.model.proofs.Bools.{and_left, and_right}
@@ -19,46 +18,10 @@ use Rattle.book.specs.Standing.{Standing, Ranked}
 use Rattle.book.proofs.Orderly.{told_ordered}
 use Rattle.figures.specs.Figures.{Publishable}
 use Rattle.soundness.specs.SoundDay.{SoundDay, stands_sound}
-use Rattle.soundness.proofs.Clauses.{whole, says_whole, says_figures, says_fit}
+use Rattle.soundness.proofs.Clauses.{sits, whole, says_whole, says_figures}
 use Rattle.soundness.proofs.EveningClauses.{says_evening, close_small, publishable}
 use Rattle.soundness.proofs.SoundDays.{standing, few_places, standing_ranked, stands_day}
 use Rattle.soundness.proofs.Totals.{empty_is, shares_within}
-
--- a book out of order is not sound, nor is a day whose halt does not fit
-module _ (d : Day) (book : List Order) where
-  pub disordered : in_order book ≡ false → false ≡ (has_places book && stands_sound d book)
-  disordered e =
-      sym
-      (ap (λ (b : Bool). has_places book && (sound_anywhere d book && b && halt_fits d)) e
-      ∙ ap (λ (b : Bool). has_places book && (b && halt_fits d)) (and-false (sound_anywhere d book))
-      ∙ and-false (has_places book))
-
-  pub unfitting : halt_fits d ≡ false → false ≡ (has_places book && stands_sound d book)
-  unfitting e =
-      sym
-      (ap (λ (b : Bool). has_places book && (sound_anywhere d book && in_order book && b)) e
-      ∙ ap (λ (b : Bool). has_places book && b) (and-false (sound_anywhere d book && in_order book))
-      ∙ and-false (has_places book))
-
--- buys may reach sells out of the hours, and while a halt runs
-module _ (d : Day) (book : List Order) where
-  abbrev in_hours : Bool
-  in_hours = between 33_900 53_819 d.time
-
-  abbrev crossed : Bool
-  crossed = in_hours && not (runs d) && crosses book
-
-  pub out_of_hours : in_hours ≡ false → false ≡ crossed
-  out_of_hours e = rw e
-
-  module _ (e : in_hours ≡ true) where
-    pub while_halted : (d.halt ≡ 0 → ⊥) → false ≡ crossed
-    unfolding runs
-    while_halted n = rw (e, ne_eqb d.halt 0 n)
-
-    pub in_hours_lem : {r : Bool} → d.halt ≡ 0 → r ≡ crosses book → r ≡ crossed
-    unfolding runs
-    in_hours_lem z f = rw (e, eq-eqb d.halt 0 z) f
 
 -- the tests on the day's figures, on each place, on their order and on the halt have passed
 pub record Seated (d : Day) (book : List Order) : Type 0 where
@@ -67,6 +30,60 @@ pub record Seated (d : Day) (book : List Order) : Type 0 where
   pub places : whole d book ≡ true
   pub order : in_order book ≡ true
   pub halt : halt_fits d ≡ true
+
+-- they are tested together
+abbrev pub seats : Day → List Order → Bool
+seats d book = has_places book && sound_figures d && whole d book && in_order book && halt_fits d
+
+pub seated : (d : Day) (book : List Order) → seats d book ≡ true → Seated d book
+seated d book e =
+    let h = and_left (has_places book && sound_figures d && whole d book && in_order book) (halt_fits d) e in
+    let o = and_left (has_places book && sound_figures d && whole d book) (in_order book) h in
+    let w = and_left (has_places book && sound_figures d) (whole d book) o in
+    record {
+      counted = and_left (has_places book) (sound_figures d) w;
+      figures = and_right (has_places book) (sound_figures d) w;
+      places = and_right (has_places book && sound_figures d) (whole d book) o;
+      order = and_right (has_places book && sound_figures d && whole d book) (in_order book) h;
+      halt = and_right (has_places book && sound_figures d && whole d book && in_order book) (halt_fits d) e;
+    }
+
+-- the tests in another order
+seats_first :
+    (p f v w o h a b c t u : Bool)
+    → (p && (f && v && w && a && b && c && t && u && o && h)) ≡ ((p && f && (v && w) && o && h) && (a && b && c && t && u))
+seats_first false f v w o h a b c t u = refl
+seats_first true false v w o h a b c t u = refl
+seats_first true true false w o h a b c t u = refl
+seats_first true true true false o h a b c t u = refl
+seats_first true true true true o h a b c t u = go o h (a && b && c && t && u)
+  where
+    go : (o h x : Bool) → (x && o && h) ≡ ((o && h) && x)
+    go true true x = and-true (x && true) ∙ and-true x
+    go true false x = and-false (x && true)
+    go false h x = ap (λ y. y && h) (and-false x)
+
+module _ (d : Day) (book : List Order) where
+  abbrev rest : Bool
+  rest =
+      (between 33_300 53_999 d.time || is_empty book)
+      && not (between 33_900 53_819 d.time && not (runs d) && crosses book)
+      && shares_fit d book
+      && prices_fit d
+      && turnover_fits d
+
+  seats_then : (has_places book && stands_sound d book) ≡ (seats d book && rest)
+  unfolding sound_anywhere
+  seats_then =
+      seats_first (has_places book) (sound_figures d) (all (sits d) book) (own_numbers book) (in_order book) (halt_fits d)
+      (between 33_300 53_999 d.time || is_empty book)
+      (not (between 33_900 53_819 d.time && not (runs d) && crosses book))
+      (shares_fit d book)
+      (prices_fit d)
+      (turnover_fits d)
+
+  pub seats_fail : seats d book ≡ false → false ≡ (has_places book && stands_sound d book)
+  seats_fail e = sym (seats_then ∙ rw e refl)
 
 module _ (d : Day) (book : List Order) (s : Seated d book) where
   pub seated_issued : d.issued ≤ 999_999
@@ -83,34 +100,23 @@ module _ (d : Day) (book : List Order) (s : Seated d book) where
         ordered = told_ordered book seated_stands s.order;
       }
 
-  -- what is left of the test
-  pub still_to_pass :
-      (has_places book && stands_sound d book)
-      ≡ ((between 33_300 53_999 d.time || is_empty book)
-      && not (between 33_900 53_819 d.time && not (runs d) && crosses book)
-      && shares_fit d book
-      && prices_fit d
-      && turnover_fits d)
-  unfolding sound_anywhere
-  still_to_pass = rw (s.counted, s.figures, s.places, s.order, s.halt) (and-true _ ∙ and-true _)
-
-  -- half the bound is all that can have traded
-  pub few_traded : shares_fit d book ≡ true → d.shares ≤ 500_000_000_000
-  few_traded e = omega (arith, (says_fit d book).0 e, seated_issued)
-
   module _ (resting : ℕ) (r : resting ≡ total (λ (o : Order). o.left) book) where
     pub resting_small : resting ≤ 4_096_000_000
     resting_small = omega (arith, shares_within book seated_stands.fair (few_places book s.counted))
 
-    pub hours_by :
-        (t : Bool)
-        → t ≡ (between 33_300 53_999 d.time || eqb resting 0)
-        → (between 33_300 53_999 d.time || is_empty book) ≡ t
-    hours_by t e = rw (empty_is book seated_stands.fair, ← r, e)
-
-    pub fit_by : (t : Bool) → t ≡ leb (2 * d.shares + resting) (1_000_000 * d.issued) → shares_fit d book ≡ t
+    -- what is left of the test, told from the sum
+    pub still_to_pass :
+        {t : Bool}
+        → t
+        ≡ ((between 33_300 53_999 d.time || eqb resting 0)
+        && not (between 33_900 53_819 d.time && not (runs d) && crosses book)
+        && leb (2 * d.shares + resting) (1_000_000 * d.issued)
+        && prices_fit d
+        && turnover_fits d)
+        → seats d book ≡ true
+        → t ≡ (has_places book && stands_sound d book)
     unfolding shares_fit
-    fit_by t e = rw (← r, e)
+    still_to_pass e f = e ∙ rw r (sym (seats_then d book ∙ rw (f, empty_is book seated_stands.fair) refl))
 
 -- ---- the figures of the other lists, and the screen last
 

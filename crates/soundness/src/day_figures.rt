@@ -3,24 +3,14 @@ ghost use Rattle.std.specs.Prelude.{◌≡◌, ◌+◌, ◌*◌, ◌≤◌, ◌|
 ghost use Rattle.model.specs.Sound.{sound_figures, between, prices_fit, turnover_fits};
 
 use limits::is_price;
+use limits::places::is_between;
 use model::{Day, HIGHEST_PRICE, LAST_NUMBER, LAST_SECOND, MOST_SHARES};
 
+#[tactic(auto, unfolding(model::specs::Sound::sound_figures, model::specs::Sound::is_mark, model::specs::Clock::is_time))]
 pub fn sound_figures(day: Day) -> bool
     ensures { result ≡ sound_figures day }
 {
-    if !is_price(day.close) {
-        return false;
-    }
-    if day.limited > 1 {
-        return false;
-    }
-    day.time <= LAST_SECOND && day.issued <= LAST_NUMBER
-}
-
-pub fn is_between(least: u64, most: u64, n: u64) -> bool
-    ensures { result ≡ between least most n }
-{
-    least <= n && n <= most
+    is_price(day.close) && day.limited <= 1 && day.time <= LAST_SECOND && day.issued <= LAST_NUMBER
 }
 
 // A book in which shares rest stands from 33,300 up to 54,000 only.
@@ -37,29 +27,23 @@ pub fn shares_fit(day: Day, resting: u64) -> bool
     requires resting_bound { resting ≤ 4_096_000_000 }
     ensures { result ≡ leb (2 * day.shares + resting) (1_000_000 * day.issued) }
 {
-    if 500_000 * day.issued < day.shares {
-        return false;
-    }
-    2 * day.shares + resting <= MOST_SHARES * day.issued
+    day.shares <= 500_000 * day.issued && 2 * day.shares + resting <= MOST_SHARES * day.issued
 }
 
 // Last and first trade are both 0 when no share traded, else both prices.
+#[tactic(auto, unfolding(model::specs::Sound::prices_fit))]
 pub fn prices_fit(day: Day) -> bool
     ensures { result ≡ prices_fit day }
 {
     if day.shares == 0 {
-        if day.first != 0 {
-            return false;
-        }
-        return day.last == 0;
+        day.first == 0 && day.last == 0
+    } else {
+        is_price(day.first) && is_price(day.last)
     }
-    if !is_price(day.first) {
-        return false;
-    }
-    is_price(day.last)
 }
 
 // Turnover is between the shares traded and 999,999 times that.
+#[tactic(auto, unfolding(model::specs::Sound::turnover_fits))]
 pub fn turnover_fits(day: Day) -> bool
     requires { day.shares ≤ 500_000_000_000 }
     ensures { result ≡ turnover_fits day }

@@ -2,18 +2,17 @@
 ghost use Rattle.std.specs.Prelude.{◌≡◌};
 ghost use Rattle.model.specs.Book.{ahead, may_follow, in_order};
 
-use book::order_at;
 use book::places::is_live;
 use model::Order;
 
 // The better price is ahead, then the lower number.
+#[tactic(auto, unfolding(model::specs::Book::ahead, model::specs::Book::better))]
 fn is_ahead(side: u64, a: Order, b: Order) -> bool
     ensures { result ≡ ahead side a b }
 {
     if a.price == b.price {
-        return a.number < b.number;
-    }
-    if side == 0 {
+        a.number < b.number
+    } else if side == 0 {
         b.price < a.price
     } else {
         a.price < b.price
@@ -21,31 +20,29 @@ fn is_ahead(side: u64, a: Order, b: Order) -> bool
 }
 
 // Whether the place b may stand right behind the place a.
+#[tactic(auto, unfolding(model::specs::Book::may_follow))]
 fn may_follow(a: Order, b: Order) -> bool
     ensures { result ≡ may_follow a b }
 {
     if !is_live(b) {
-        return true;
+        true
+    } else if !is_live(a) {
+        false
+    } else if a.side == b.side {
+        is_ahead(a.side, a, b)
+    } else {
+        a.side == 0
     }
-    if !is_live(a) {
-        return false;
-    }
-    if a.side == b.side {
-        return is_ahead(a.side, a, b);
-    }
-    a.side == 0
 }
 
 // Each place may be followed by the next one.
 pub fn is_in_order(rows: &[Order]) -> bool
     ensures { result ≡ in_order rows.now }
 {
-    let mut i = 1;
-    while i < rows.len() {
-        if !may_follow(order_at(rows, i - 1), order_at(rows, i)) {
+    for i in 1..rows.len() {
+        if !may_follow(rows[i - 1], rows[i]) {
             return false;
         }
-        i += 1;
     }
     true
 }

@@ -4,83 +4,54 @@ ghost use Rattle.model.specs.Lists.{all, total};
 ghost use Rattle.model.specs.Limits.{is_price};
 ghost use Rattle.model.specs.Book.{is_live};
 ghost use Rattle.model.specs.Halts.{runs};
-ghost use Rattle.model.specs.Sound.{has_places, may_stand, sound_figures, is_free, is_order, own_numbers, crosses, between};
+ghost use Rattle.model.specs.Sound.{may_stand, sound_figures, is_free, is_order, is_order_of, own_numbers, crosses, between};
 ghost use Rattle.bits.specs.Maps.{has_bit};
 ghost use Rattle.book.specs.Standing.{Ranked};
 ghost use Rattle.soundness.specs.Numbers.{no_numbers, FreshMap};
 
-use crate::day_figures::is_between;
 use bits::{has, set_bit};
-use book::order_at;
+use book::places::{free_place, is_live};
 use book::seats::best_price;
+use limits::places::is_between;
 use limits::{in_band, is_price};
-use model::{Day, MOST_PLACES, MOST_SHARES, Order};
-
-// 1 to 4,096 places.
-pub fn has_places(rows: &[Order]) -> bool
-    ensures { result ≡ has_places rows.now }
-{
-    1 <= rows.len() && rows.len() <= MOST_PLACES
-}
+use model::{Day, MOST_SHARES, Order};
 
 // A price, and in the band on limited days.
+#[tactic(auto, unfolding(model::specs::Sound::may_stand))]
 fn may_stand(day: Day, price: u64) -> bool
     requires { is_price day.close ≡ true }
     ensures { result ≡ may_stand day price }
 {
-    if !is_price(price) {
-        return false;
-    }
-    if day.limited == 0 {
-        return true;
-    }
-    in_band(day.close, price)
+    is_price(price) && (day.limited == 0 || in_band(day.close, price))
 }
 
 // All zeros.
+#[tactic(auto, unfolding(model::specs::Sound::is_free, model::specs::Book::free))]
 fn is_free(o: Order) -> bool
     ensures { result ≡ is_free o }
 {
-    if o.side != 0 {
-        return false;
-    }
-    if o.account != 0 {
-        return false;
-    }
-    if o.left != 0 {
-        return false;
-    }
-    if o.price != 0 {
-        return false;
-    }
-    o.number == 0
+    o == free_place()
 }
 
 // A side, an account, 1 to 1,000,000 shares, a price that may stand, and a number among those issued.
-fn is_order(day: Day, o: Order) -> bool
+#[tactic(auto, unfolding(model::specs::Sound::is_order_of, model::specs::Sound::between))]
+fn is_order(day: Day, issued: u64, o: Order) -> bool
     requires { is_price day.close ≡ true }
-    ensures { result ≡ is_order day o }
+    ensures { result ≡ is_order_of day issued o }
 {
-    if o.side > 1 {
-        return false;
-    }
-    if o.account == 0 {
-        return false;
-    }
-    if !is_between(1, MOST_SHARES, o.left) {
-        return false;
-    }
-    if !may_stand(day, o.price) {
-        return false;
-    }
-    is_between(1, day.issued, o.number)
+    o.side <= 1
+        && o.account != 0
+        && is_between(1, MOST_SHARES, o.left)
+        && may_stand(day, o.price)
+        && is_between(1, issued, o.number)
 }
 
-fn place_is_sound(day: Day, o: Order) -> bool
+// Free, or with an order whose number is among those issued in its book.
+pub fn place_is_sound(day: Day, issued: u64, o: Order) -> bool
     requires { is_price day.close ≡ true }
-    ensures { result ≡ (is_free o || is_order day o) }
+    ensures { result ≡ (is_free o || is_order_of day issued o) }
 {
-    is_free(o) || is_order(day, o)
+    is_free(o) || is_order(day, issued, o)
 }
 
 // Maps of numbers, 64 to a word: of 0 to 65,535, and of all.
@@ -91,26 +62,18 @@ const ALL_WORDS: usize = 15_625;
 const LAST_OF_FEW: u64 = 65_535;
 
 // They start with no number in them.
-fn few_numbers() -> [u64; FEW_WORDS]
-    ensures { result ≡ no_numbers 1_024 }
+#[tactic(auto, unfolding(crate::specs::Numbers::no_numbers))]
+fn no_numbers<const WORDS: usize>() -> [u64; WORDS]
+    ensures { result ≡ no_numbers WORDS }
 {
-    [0; FEW_WORDS]
-}
-
-fn all_numbers() -> [u64; ALL_WORDS]
-    ensures { result ≡ no_numbers 15_625 }
-{
-    [0; ALL_WORDS]
+    [0; WORDS]
 }
 
 // Whether an order's number was used at a place before.
 fn is_used(used: &[u64], o: Order) -> bool
     ensures { result ≡ (is_live o && has_bit used.now o.number) }
 {
-    if o.number == 0 {
-        return false;
-    }
-    has(used, o.number)
+    is_live(o) && has(used, o.number)
 }
 
 // Each place is free or has an order, and each order its own number: found with a map of the numbers used so far.
@@ -119,17 +82,11 @@ fn places_with(used: &mut [u64], day: Day, rows: &[Order]) -> bool
     requires fresh_map { FreshMap day.issued used.old }
     ensures { result ≡ (all (λ o. is_free o || is_order day o) rows.now && own_numbers rows.now) }
 {
-    let mut i = 0;
-    while i < rows.len() {
-        let o = order_at(rows, i);
-        if !place_is_sound(day, o) {
+    for o in rows {
+        if !place_is_sound(day, day.issued, *o) || is_used(used, *o) {
             return false;
         }
-        if is_used(used, o) {
-            return false;
-        }
-        set_bit(&mut *used, o.number);
-        i += 1;
+        set_bit(used, o.number);
     }
     true
 }
@@ -142,11 +99,10 @@ pub fn sound_places(day: Day, rows: &[Order]) -> bool
     ensures { result ≡ (all (λ o. is_free o || is_order day o) rows.now && own_numbers rows.now) }
 {
     if day.issued <= LAST_OF_FEW {
-        let mut used = few_numbers();
-        return places_with(&mut used[..], day, rows);
+        places_with(&mut no_numbers::<FEW_WORDS>(), day, rows)
+    } else {
+        places_with(&mut no_numbers::<ALL_WORDS>(), day, rows)
     }
-    let mut used = all_numbers();
-    places_with(&mut used[..], day, rows)
 }
 
 // The shares left of all orders.
@@ -155,41 +111,28 @@ pub fn shares_left(rows: &[Order]) -> u64
     ensures { result ≡ total (λ o. o.left) rows.now }
 {
     let mut sum: u64 = 0;
-    let mut i = 0;
-    while i < rows.len() {
-        let o = order_at(rows, i);
+    for o in rows {
         sum += o.left;
-        i += 1;
     }
     sum
 }
 
 // Buys reach sells: both sides have an order, and the best buy is not below the best sell.
+#[tactic(auto, unfolding(model::specs::Sound::crosses))]
 pub fn buys_reach_sells(rows: &[Order]) -> bool
     requires { Ranked rows.now }
     ensures { result ≡ crosses rows.now }
 {
     let buy = best_price(rows, 0);
     let sell = best_price(rows, 1);
-    if buy == 0 {
-        return false;
-    }
-    if sell == 0 {
-        return false;
-    }
-    sell <= buy
+    buy != 0 && sell != 0 && sell <= buy
 }
 
 // From 33,900 to 53,819 they may not, unless a halt runs.
+#[tactic(auto, unfolding(model::specs::Sound::between, model::specs::Halts::runs))]
 pub fn crosses_in_hours(day: Day, rows: &[Order]) -> bool
     requires { Ranked rows.now }
     ensures { result ≡ (between 33_900 53_819 day.time && not (runs day) && crosses rows.now) }
 {
-    if !is_between(33_900, 53_819, day.time) {
-        return false;
-    }
-    if day.halt != 0 {
-        return false;
-    }
-    buys_reach_sells(rows)
+    is_between(33_900, 53_819, day.time) && day.halt == 0 && buys_reach_sells(rows)
 }

@@ -1,4 +1,6 @@
 -- The orders are moved up, and the places that they leave are set free.
+use Rattle.std.proofs.Common.{rules}
+use mathlib.Core.Path.{sym}
 use Rattle.book.proofs.Closing.{closed_nothing, closed_up}
 use Rattle.book.proofs.settling.close_up.Goals as goal
 
@@ -7,5 +9,6 @@ returns-then-place-next c = closed_nothing c.args.rows.now _ _ _ c.requires.next
 
 pub returns : goal.returns
 returns c =
-    closed_up c.args.rows.now c.move_up.new.rows _ _ _ c.requires.place_le_next c.requires.next_le_end c.requires.end_in_bounds
-    c.move_up.ensures c.free_places.ensures
+    closed_up c.args.rows.now c.copy_within.new.self _ _ _ c.requires.place_le_next c.requires.next_le_end c.requires.end_in_bounds
+    c.copy_within.ensures.after c.copy_within.ensures.len
+    (rw (sym c.free_place.ensures) (c.fill.ensures.after (λ y h. search rules)))

@@ -2,14 +2,11 @@
 use Rattle.screens.proofs.Widening.{widening_start, widening_next, widening_end}
 use Rattle.screens.proofs.ranges.range_of.Goals as goal
 
-pub loop-i-init : goal.loop-i-init
-loop-i-init c = widening_start c.args.trades.now c.args.n c.requires c.args.start
+pub loop-t-init : goal.loop-t-init
+loop-t-init c = widening_start c.args.trades.now c.args.start
 
-pub loop-i-preserved : goal.loop-i-preserved
-loop-i-preserved c =
-    widening_next c.args.trades.now c.args.n c.requires c.loop-i.invariant c.loop-i-test.true
-    c.trade_at-t.ensures c.widen-range.ensures
+pub loop-t-preserved : goal.loop-t-preserved
+loop-t-preserved c = widening_next c.args.trades.now c.loop-t.invariant c.loop-t-test.true c.widen-range.ensures
 
 pub returns : goal.returns
-returns c =
-    widening_end c.args.trades.now c.args.n c.requires c.loop-i.invariant c.loop-i-test.false
+returns c = widening_end c.args.trades.now c.loop-t.invariant c.loop-t-test.false

@@ -1,11 +1,6 @@
 -- Place by place: what is summed and what is left to sum make the whole, which is small enough.
-use Prim.Native.Nat.{◌-◌}
-use lib.ListN.{length}
 use Rattle.soundness.proofs.Totals.{Summed}
 use Rattle.soundness.proofs.places.shares_left.Given as goal
 
-abbrev pub invariant-loop-i : goal.invariant-loop-i
-invariant-loop-i l = Summed l.rows l.sum l.i
-
-abbrev pub decreases-loop-i : goal.decreases-loop-i
-decreases-loop-i l = length l.rows - l.i
+abbrev pub invariant-loop-o : goal.invariant-loop-o
+invariant-loop-o l = Summed l.rows l.sum l.o-index
