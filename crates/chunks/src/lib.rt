@@ -11,7 +11,6 @@ ghost use Rattle.chunks.specs.Points.{point_of, past_line};
 use desk::answering::answer_command;
 use desk::{Answered, Desk, LONGEST_ANSWER};
 use model::{Order, Trade};
-use text::NextCommand;
 use text::reading::next_command;
 
 // How far a chunk is answered: the desk, the place of the next line, whether that line began before the chunk and is too long,
@@ -60,13 +59,20 @@ pub fn answer_lines(
         done: false,
     };
     while p.next <= room {
-        let NextCommand::Found { command, place } = next_command(chunk, p.at, p.long) else {
+        let Some(next) = next_command(chunk, p.at, p.long) else {
             p.done = true;
             return p;
         };
         let desk = p.desk;
-        let a = answer_command(desk, &mut *rows, &mut *trades, command, &mut *out, p.next);
-        p = past_line(a, place);
+        let a = answer_command(
+            desk,
+            &mut *rows,
+            &mut *trades,
+            next.command,
+            &mut *out,
+            p.next,
+        );
+        p = past_line(a, next.place);
     }
     p
 }

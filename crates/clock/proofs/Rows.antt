@@ -3,7 +3,7 @@ use Prim.Native.Nat.{ℕ, ◌+◌, ◌≤◌, ◌<◌}
 use mathlib.Core.Path.{◌≡◌}
 use mathlib.Core.List.{List}
 use native.Mathlib.Numerals.{add-one}
-use lib.ListN.{length, get_or, drop}
+use lib.ListN.{length, get_or, drop, drop_of_length-le}
 use lib.Seq.{drop-cons}
 use borrow.Author.Tests.{lt-ltb, le-ltb}
 use Rattle.model.specs.declared.Row.{Row}
@@ -19,3 +19,8 @@ pub holds_next : (r : Row) (rows : List Row) (d : Row) (n t : ℕ) → n < lengt
     → holding r (drop n rows) t ≡ holding (get_or rows n d) (drop (n + 1) rows) t
 unfolding holding
 holds_next r rows d n t h e = rw (drop-cons rows n d h, holding, le-ltb t _ e, add-one)
+
+-- after the last row there is none
+pub holds_on : (r : Row) (rows : List Row) (n t : ℕ) → length rows ≤ n → holding r (drop n rows) t ≡ r
+unfolding holding
+holds_on r rows n t h = rw (drop_of_length-le rows h, holding)

@@ -69,38 +69,39 @@ const ROWS: [Row; 9] = [
 pub fn row_at(time: u64) -> Row
     ensures { result ≡ row_at time }
 {
-    let rows = ROWS;
-    let mut at: usize = 0;
-    while at < 8 {
-        if time < rows[at + 1].start {
-            return rows[at];
+    let mut held = ROWS[0];
+    for next in &ROWS[1..] {
+        if time < next.start {
+            break;
         }
-        at += 1;
+        held = *next;
     }
-    rows[at]
+    held
 }
 
+#[tactic(auto, unfolding(model::specs::Clock::phase_at))]
 pub fn phase_at(time: u64) -> u64
     ensures { result ≡ phase_at time }
 {
-    let r = row_at(time);
-    r.phase
+    row_at(time).phase
 }
 
+#[tactic(auto, unfolding(model::specs::Clock::takes_cancels))]
 pub fn takes_cancels(time: u64) -> bool
     ensures { result ≡ takes_cancels time }
 {
-    let r = row_at(time);
-    r.cancels
+    row_at(time).cancels
 }
 
 // The phase of a day whose row of the clock is handed in: in continuous trading another one while a halt runs.
+#[tactic(auto, unfolding(model::specs::Clock::phase_at, model::specs::Clock::continuous, model::specs::Halts::runs, model::specs::Halts::phase_now))]
 pub fn phase_now(day: Day, row: Row) -> u64
     requires { row ≡ row_at day.time }
     ensures { result ≡ phase_now day }
 {
     if row.phase == CONTINUOUS && day.halt != 0 {
-        return HALTED;
+        HALTED
+    } else {
+        row.phase
     }
-    row.phase
 }

@@ -11,22 +11,33 @@ use borrow.Author.Tests.{eqb-true, eqb-false, leb-true, leb-false, not-true}
 use Rattle.model.specs.Lists.{all, total}
 use Rattle.model.specs.Lines.{onto_word, words_of, is_digit, value_from, bare, number_of, numbers_of}
 use Rattle.model.proofs.Bools.{and_left, and_right, not_both}
-use Rattle.parsing.proofs.Words.{words_first, digit_from}
+use Rattle.parsing.proofs.Words.{digit_from}
 use Rattle.convert.specs.Converting.{are_five, five_words}
 
 -- ---- words
 
+some_word : (t : List ℕ) → 1 ≤ length (words_of t)
+unfolding words_of onto_word
+some_word [] = omega arith
+some_word (b ∷ t) = go (eqb b 32) (words_of t)
+  where
+    go : (x : Bool) (ws : List (List ℕ)) → 1 ≤ length (cond x ([] ∷ ws) (onto_word b ws))
+    go true ws = omega arith
+    go false [] = omega arith
+    go false (w ∷ ws) = omega arith
+
 pub words_append : (t s : List ℕ) → words_of (t ++ 32 ∷ s) ≡ words_of t ++ words_of s
 unfolding words_of onto_word
 words_append [] s = refl
-words_append (b ∷ t) s = rw (words_of, words_append t s, words_first t) (go (eqb b 32) _ _)
+words_append (b ∷ t) s = rw (words_of, words_append t s) (go (eqb b 32) (words_of t) (some_word t))
   where
     go :
-        (x : Bool) (w : List ℕ) (ws : List (List ℕ))
-        → cond x ([] ∷ (w ∷ ws) ++ words_of s) ((b ∷ w) ∷ ws ++ words_of s)
-        ≡ cond x ([] ∷ w ∷ ws) ((b ∷ w) ∷ ws) ++ words_of s
-    go true w ws = refl
-    go false w ws = refl
+        (x : Bool) (ws : List (List ℕ))
+        → 1 ≤ length ws
+        → cond x ([] ∷ (ws ++ words_of s)) (onto_word b (ws ++ words_of s)) ≡ cond x ([] ∷ ws) (onto_word b ws) ++ words_of s
+    go true ws h = refl
+    go false [] h = absurd (omega arith)
+    go false (w ∷ ws) h = refl
 
 -- ---- numbers
 

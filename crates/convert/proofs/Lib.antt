@@ -2,8 +2,8 @@
 pub mod Balances
 pub mod Bytes
 pub mod OneLine
+pub mod Sessions
+pub mod Tried
 pub mod Pendings
 pub mod Steps
-pub mod Sessions
 pub mod Determined
-pub mod Tried

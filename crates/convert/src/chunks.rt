@@ -4,15 +4,14 @@ ghost use Rattle.printing.specs.Printing.{Wrote};
 ghost use Rattle.convert.specs.Chunkwise.{added};
 ghost use Rattle.convert.specs.Promises.{text_of, Converts, Answers};
 
-use crate::lines::{is_five, start, with_byte};
-use crate::{Converted, Pending};
+use crate::Pending;
 
 // Balance 0 after an order of five numbers.
-fn put_added(line: Pending, out: &mut [u8], at: usize) -> usize
+fn put_added(line: &Pending, out: &mut [u8], at: usize) -> usize
     requires { at + 2 ≤ length out.old }
-    ensures { Wrote out.old at (added (text_of line)) out.new result }
+    ensures { Wrote out.old at (added (text_of line.now)) out.new result }
 {
-    if !is_five(line) {
+    if !line.is_five() {
         return at;
     }
     out[at] = b' ';
@@ -20,47 +19,33 @@ fn put_added(line: Pending, out: &mut [u8], at: usize) -> usize
     at + 2
 }
 
-fn convert_byte(line: Pending, b: u8, out: &mut [u8], at: usize) -> Converted
+fn convert_byte(line: &mut Pending, b: u8, out: &mut [u8], at: usize) -> usize
     requires { at + 3 ≤ length out.old }
-    ensures { Converts (text_of line) (b ∷ []) out.old at out.new result }
+    ensures { Converts (text_of line.old) (b ∷ []) out.old at out.new result line.new }
 {
     if b == b'\n' {
-        let p = put_added(line, out, at);
-        out[p] = b;
-        return Converted {
-            fits: true,
-            next: p + 1,
-            line: start(),
-        };
-    }
-    out[at] = b;
-    Converted {
-        fits: true,
-        next: at + 1,
-        line: with_byte(line, b),
+        let end = put_added(line, out, at);
+        out[end] = b;
+        line.clear();
+        end + 1
+    } else {
+        out[at] = b;
+        line.push(b);
+        at + 1
     }
 }
 
-// Converts a chunk after the line that has not ended. The output takes up to three bytes for each byte of the chunk; a
-// shorter one is refused, and stays.
-pub fn convert_chunk(line: Pending, chunk: &[u8], out: &mut [u8]) -> Converted
-    ensures { Answers line chunk.now out.old out.new result }
+// Converts a chunk after the line that has not ended: answers the place after what was put, and the line goes on. The output takes
+// up to three bytes for each byte of the chunk; a shorter one is refused, and then both stay.
+pub fn convert_chunk(line: &mut Pending, chunk: &[u8], out: &mut [u8]) -> Option<usize>
+    ensures { Answers line.old chunk.now out.old out.new result line.new }
 {
-    let mut done = Converted {
-        fits: true,
-        next: 0,
-        line,
-    };
     if out.len() / 3 < chunk.len() {
-        done.fits = false;
-        return done;
+        return None;
     }
-    let mut i: usize = 0;
-    while i < chunk.len() {
-        let pending = done.line;
-        let b = chunk[i];
-        done = convert_byte(pending, b, &mut *out, done.next);
-        i = i + 1;
+    let mut next = 0;
+    for b in chunk {
+        next = convert_byte(line, *b, out, next);
     }
-    done
+    Some(next)
 }

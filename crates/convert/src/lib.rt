@@ -1,21 +1,16 @@
 // The converter of old scripts: it adds balance 0 to each order line of five numbers, and copies every other byte.
 #![tactic(auto)]
 
+ghost use Rattle.std.specs.Prelude.{◌≤◌, length};
+
 pub mod chunks;
 pub mod lines;
 
-// The line that has not ended: its bytes so far, of which 80 are enough to know that it is no order.
-#[derive(Clone, Copy)]
-pub struct Pending {
-    pub bytes: [u8; 80],
-    pub kept: usize,
-}
+use arrayvec::ArrayVec;
 
-// What a chunk became: whether the lent output is long enough for it, the place after what was put there, and the line that
-// has not ended.
-#[derive(Clone, Copy)]
-pub struct Converted {
-    pub fits: bool,
-    pub next: usize,
-    pub line: Pending,
+// The line that has not ended: its bytes so far, of which 80 are enough to know that it is no order.
+#[derive(Drop)]
+pub struct Pending {
+    bytes: ArrayVec<u8, 80>,
+    ghost few: { length bytes.items ≤ 80 },
 }

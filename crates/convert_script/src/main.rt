@@ -4,22 +4,7 @@
 
 mod serving;
 
-use convert::Pending;
 use streams::Streams;
-
-// What goes from chunk to chunk: the line that has not ended, and whether the program stops here.
-#[derive(Clone, Copy)]
-pub struct AfterChunk {
-    pub line: Pending,
-    pub stops: bool,
-}
-
-// What a read brought; no bytes at the end of the input.
-#[derive(Clone, Copy)]
-pub struct Input {
-    pub failed: bool,
-    pub bytes: usize,
-}
 
 fn main(rt: HostRuntime) {
     let mut streams = Streams {

@@ -13,7 +13,6 @@ use floor_desk::FloorAnswered;
 use floor_desk::answering::answer_wish;
 use judge::Claim;
 use model::{Order, Trade};
-use text::Bounds;
 use text::reading::line_from;
 use wishes::wish_after;
 
@@ -69,12 +68,12 @@ pub fn answer_lines(
         done: false,
     };
     while p.next <= room {
-        let Bounds::Found { start, end } = line_from(chunk, p.at) else {
+        let Some(line) = line_from(chunk, p.at) else {
             p.done = true;
             return p;
         };
-        let place = end + 1;
-        let w = wish_after(&chunk[start..end], p.long);
+        let place = line.end + 1;
+        let w = wish_after(&chunk[line], p.long);
         let desk = p.desk;
         let a = answer_wish(
             desk,

@@ -1,3 +1,1 @@
 pub mod Spans
-pub mod Quantities
-pub mod Ranges

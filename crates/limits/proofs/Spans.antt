@@ -5,7 +5,7 @@ use mathlib.Core.Bool.{Bool, true, ◌&&◌}
 use lib.Dec.{leb}
 use borrow.Author.Tests.{le-leb, lt-leb, leb-true}
 use Rattle.model.specs.Limits.{is_price}
-use Rattle.model.proofs.Bools.{and_left, and_right, and_no, and_yes}
+use Rattle.model.proofs.Bools.{and_right, and_no, and_yes}
 
 pub too_low : (a b n : ℕ) → n < a → leb a n ≡ (leb a n && leb n b)
 too_low a b n h = lt-leb a n h ∙ and_no (leb n b) (lt-leb a n h)
@@ -16,7 +16,3 @@ from_low a b n h e = and_yes (leb n b) (le-leb a n h) e
 pub small : (p : ℕ) → is_price p ≡ true → p ≤ 999_999
 unfolding is_price
 small p e = leb-true p 999_999 (and_right (leb 1 p) (leb p 999_999) e)
-
--- what two price tests say of their numbers
-pub small_both : (p q : ℕ) → is_price p && is_price q ≡ true → (p ≤ 999_999) × (q ≤ 999_999)
-small_both p q e = (small p (and_left (is_price p) (is_price q) e), small q (and_right (is_price p) (is_price q) e))

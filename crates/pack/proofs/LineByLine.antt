@@ -5,16 +5,16 @@ use mathlib.Core.Bool.{Bool, true, false, cond}
 use mathlib.Core.List.{List, [], ◌∷◌, ◌++◌, append_assoc, append-nil}
 use native.Mathlib.Omega.{arith}
 use lib.ListN.{length, drop, length-append}
+use Rattle.std.specs.Prelude.{Some, None}
 use Rattle.model.specs.declared.Event.{Event}
 use Rattle.model.specs.declared.Command.{Command}
 use Rattle.model.specs.declared.Command.TheVariants.{Malformed, Asks}
 use Rattle.model.specs.Lines.{lines_of, reply}
 use Rattle.printing.specs.Printing.{Wrote}
 use Rattle.printing.proofs.Printed.{nothing_put, and_then, put_as, reply_fits}
-use Rattle.text.specs.declared.NextCommand as NextCommand
 use Rattle.text.specs.Readers.{asks_of, commands}
 use Rattle.text.specs.Chunks.{tail_of, tail_long, next_command}
-use Rattle.text.proofs.Chunks.{Taken, taken, AllTaken, all_taken}
+use Rattle.text.proofs.Chunks.{reads, Taken, taken, AllTaken, all_taken}
 use Rattle.file_records.specs.Records.{is_wide}
 use Rattle.file_scripts.specs.Scripts.{stored, stored_of, told, told_from}
 use Rattle.pack.specs.declared.Packing.{Packing}
@@ -202,7 +202,7 @@ module _ (chunk : List ℕ) (records line : ℕ) (long : Bool) (block₀ out₀ 
 
   module _ {p : Packing} {block out said : List ℕ} (g : Going chunk p₀ block₀ out₀ said₀ p block out said) where
     pub going_end :
-        next_command p.long chunk p.at ≡ NextCommand.TheVariants.Tail
+        next_command p.long chunk p.at ≡ None
         → PacksChunk chunk p₀ block₀ out₀ said₀ p block out said
     going_end e =
         let t : AllTaken chunk p.at commands p.long = all_taken chunk p.at p.long e in
@@ -215,7 +215,7 @@ module _ (chunk : List ℕ) (records line : ℕ) (long : Bool) (block₀ out₀ 
           still = g.still ∙ t.still;
         }
 
-    module _ (command : Command) (place : ℕ) (e : next_command p.long chunk p.at ≡ NextCommand.TheVariants.Found command place) where
+    module _ (command : Command) (place : ℕ) (e : next_command p.long chunk p.at ≡ Some (reads command place)) where
       next : Taken chunk p.at commands p.long command place
       next = taken chunk p.at p.long command place e
 

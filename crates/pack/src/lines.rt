@@ -15,8 +15,8 @@ use file_records::writing::is_wide;
 use model::Command;
 use octets::put_bytes;
 use printing::put_reply;
+use text::Carry;
 use text::reading::{is_left, next_command};
-use text::{Carry, NextCommand};
 
 // Tells why a line is not stored.
 fn tell(why: u64, line: u64, said: &mut [u8], at: usize) -> usize
@@ -102,10 +102,17 @@ pub fn pack_lines(
         told: 0,
     };
     loop {
-        let NextCommand::Found { command, place } = next_command(chunk, p.at, p.long) else {
+        let Some(next) = next_command(chunk, p.at, p.long) else {
             return p;
         };
-        p = pack_command(p, command, place, &mut *block, &mut *out, &mut *said);
+        p = pack_command(
+            p,
+            next.command,
+            next.place,
+            &mut *block,
+            &mut *out,
+            &mut *said,
+        );
     }
 }
 

@@ -7,47 +7,57 @@ use mathlib.Core.List.{List, [], ◌∷◌}
 use mathlib.Core.Option.{Option, none, some}
 use native.Mathlib.Omega.{arith}
 use lib.Dec.{leb}
-use lib.ListN.{length, take, drop, get_or}
+use Rattle.std.proofs.lemmas.List.{nil_from_length}
+use lib.ListN.{length}
 use borrow.Author.Tests.{eq-eqb, ne_eqb, le-leb, lt-leb, leb-false}
 use Rattle.model.specs.declared.Command.{Command}
 use Rattle.model.specs.declared.Command.TheVariants.{Malformed}
 use Rattle.model.specs.Lines.{onto_word, words_of, numbers_of, command_of, words_command, line_command, Line}
-use Rattle.parsing.specs.Words.{first_word, numbers_after, command_with, Phrase, phrase_with, words_phrase, line_phrase, Formed}
-use Rattle.parsing.specs.declared.Form.{Form}
-use Rattle.parsing.proofs.Words.{words_first}
-use Rattle.parsing.proofs.Commands.{unwanted_is}
+use Rattle.parsing.specs.Words.{command_with, up_to_six, Phrase, phrase_with, words_phrase, line_phrase}
 
 -- ---- a line by its first two bytes
 
--- no byte, or a space in front
-blank_line : (s : List ℕ) → (length s ≡ 0) → words_phrase (words_of s) ≡ none
+-- a space in front
+space_line : (c : ℕ) (s : List ℕ) → c ≡ 32 → words_phrase (words_of (c ∷ s)) ≡ none
 unfolding words_of words_phrase
-blank_line [] h = refl
-blank_line (c ∷ s) h = absurd (omega arith)
-
-space_line : (s : List ℕ) → 1 ≤ length s → get_or s 0 0 ≡ 32 → words_phrase (words_of s) ≡ none
-unfolding words_of words_phrase
-space_line [] h e = absurd (omega arith)
-space_line (c ∷ s) h e = rw (words_of, eq-eqb c 32 e)
+space_line c s e = rw (words_of, eq-eqb c 32 e)
 
 -- another letter after the first
-other_line : (s : List ℕ) → (get_or s 0 0 ≡ 32 → ⊥) → 2 ≤ length s → (get_or s 1 0 ≡ 32 → ⊥) → words_phrase (words_of s) ≡ none
-unfolding words_of onto_word first_word words_phrase
-other_line [] f h e = absurd (omega arith)
-other_line (c ∷ []) f h e = absurd (omega arith)
-other_line (c ∷ d ∷ s) f h e = rw (words_of, ne_eqb c 32 f, ne_eqb d 32 e, words_first s)
+other_line : (c d : ℕ) (s : List ℕ) → (c ≡ 32 → ⊥) → (d ≡ 32 → ⊥) → words_phrase (words_of (c ∷ d ∷ s)) ≡ none
+unfolding words_of onto_word words_phrase
+other_line c d s f e = rw (words_of, ne_eqb c 32 f, ne_eqb d 32 e) (go (words_of s))
+  where
+    go : (ws : List (List ℕ)) → words_phrase (onto_word c (onto_word d ws)) ≡ none
+    go [] = refl
+    go (w ∷ ws) = refl
 
 -- one letter alone, or with a space after it
-letter_line :
-    (s : List ℕ)
-    → 1 ≤ length s
-    → (get_or s 0 0 ≡ 32 → ⊥)
-    → (2 ≤ length s → get_or s 1 0 ≡ 32)
-    → phrase_with (get_or s 0 0) (numbers_after (drop 1 s)) ≡ words_phrase (words_of s)
-unfolding words_of onto_word numbers_of numbers_after words_phrase
-letter_line [] h f e = absurd (omega arith)
-letter_line (c ∷ []) h f e = rw (words_of, ne_eqb c 32 f)
-letter_line (c ∷ d ∷ s) h f e = rw (words_of, ne_eqb c 32 f, eq-eqb d 32 (e (omega arith)))
+lone_line : (c : ℕ) → (c ≡ 32 → ⊥) → words_phrase (words_of (c ∷ [])) ≡ some (record { letter = c; numbers = [] })
+unfolding words_of onto_word numbers_of words_phrase phrase_with
+lone_line c f = rw (words_of, ne_eqb c 32 f)
+
+letter_line : (c d : ℕ) (s : List ℕ) → (c ≡ 32 → ⊥) → d ≡ 32 → words_phrase (words_of (c ∷ d ∷ s)) ≡ phrase_with c (numbers_of (words_of s))
+unfolding words_of onto_word words_phrase
+letter_line c d s f e = rw (words_of, ne_eqb c 32 f, eq-eqb d 32 e)
+
+-- its numbers are those that were read
+lettered : (c : ℕ) (o : Option (List ℕ)) (ns : List ℕ) → some ns ≡ up_to_six o → ◌≡◌ {A = Option Phrase} (some (record { letter = c; numbers = ns })) (phrase_with c o)
+unfolding phrase_with
+lettered c none ns e = cc
+lettered c (some ms) ns e = go (leb (length ms) 6) e
+  where
+    go : (b : Bool) → some ns ≡ cond b (some ms) none → ◌≡◌ {A = Option Phrase} (some (record { letter = c; numbers = ns })) (cond b (some (record { letter = c; numbers = ms })) none)
+    go true e = let z : ns ≡ ms = cc in let f : List ℕ → Option Phrase = λ l. some (record { letter = c; numbers = l }) in ap f z
+    go false e = cc
+
+unlettered : (c : ℕ) (o : Option (List ℕ)) → none ≡ up_to_six o → ◌≡◌ {A = Option Phrase} none (phrase_with c o)
+unfolding phrase_with
+unlettered c none e = refl
+unlettered c (some ms) e = go (leb (length ms) 6) e
+  where
+    go : (b : Bool) → none ≡ cond b (some ms) none → ◌≡◌ {A = Option Phrase} none (cond b (some (record { letter = c; numbers = ms })) none)
+    go true e = cc
+    go false e = refl
 
 -- ---- a line as a whole
 
@@ -69,25 +79,36 @@ module _ (s : List ℕ) where
       go false = refl
 
   module _ (b : Bool) (e : b ≡ true) (h : length s ≤ 79) where
-    whole : line_phrase (line b) ≡ words_phrase (words_of s)
+    whole : (t : List ℕ) → s ≡ t → line_phrase (line b) ≡ words_phrase (words_of t)
     unfolding line_phrase
-    whole = rw (e, le-leb (length s) 79 h)
+    whole t g = rw (e, le-leb (length s) 79 h) (ap (λ l. words_phrase (words_of l)) g)
 
-    pub blank_form : length s ≡ 0 → line_phrase (line b) ≡ none
-    blank_form f = whole ∙ blank_line s f
+    pub blank_form : length s ≡ 0 → none ≡ line_phrase (line b)
+    unfolding words_of words_phrase
+    blank_form f = sym (whole [] (nil_from_length s f))
 
-    pub space_form : 1 ≤ length s → get_or s 0 0 ≡ 32 → line_phrase (line b) ≡ none
-    space_form f g = whole ∙ space_line s f g
+    -- the first byte, and those after it
+    module _ (c : ℕ) (r : List ℕ) (p : s ≡ c ∷ r) where
+      pub space_form : c ≡ 32 → none ≡ line_phrase (line b)
+      space_form f = sym (whole (c ∷ r) p ∙ space_line c r f)
 
-    pub other_form : (get_or s 0 0 ≡ 32 → ⊥) → 2 ≤ length s → (get_or s 1 0 ≡ 32 → ⊥) → line_phrase (line b) ≡ none
-    other_form f g k = whole ∙ other_line s f g k
+      module _ (f : c ≡ 32 → ⊥) where
+        pub lone_form : length r ≡ 0 → ◌≡◌ {A = Option Phrase} (some (record { letter = c; numbers = [] })) (line_phrase (line b))
+        lone_form g = sym (whole (c ∷ []) (p ∙ ap (λ l. c ∷ l) (nil_from_length r g)) ∙ lone_line c f)
 
-    pub letter_form :
-        1 ≤ length s
-        → (get_or s 0 0 ≡ 32 → ⊥)
-        → (2 ≤ length s → get_or s 1 0 ≡ 32)
-        → phrase_with (get_or s 0 0) (numbers_after (drop 1 s)) ≡ line_phrase (line b)
-    letter_form f g k = letter_line s f g k ∙ sym whole
+        -- the second byte, and those after it
+        module _ (d : ℕ) (t : List ℕ) (q : r ≡ d ∷ t) where
+          two : s ≡ c ∷ d ∷ t
+          two = p ∙ ap (λ l. c ∷ l) q
+
+          pub other_form : (d ≡ 32 → ⊥) → none ≡ line_phrase (line b)
+          other_form g = sym (whole (c ∷ d ∷ t) two ∙ other_line c d t f g)
+
+          pub letter_form : d ≡ 32 → (ns : List ℕ) → some ns ≡ up_to_six (numbers_of (words_of t)) → ◌≡◌ {A = Option Phrase} (some (record { letter = c; numbers = ns })) (line_phrase (line b))
+          letter_form g ns k = lettered c (numbers_of (words_of t)) ns k ∙ sym (whole (c ∷ d ∷ t) two ∙ letter_line c d t f g)
+
+          pub unread_form : d ≡ 32 → none ≡ up_to_six (numbers_of (words_of t)) → none ≡ line_phrase (line b)
+          unread_form g k = unlettered c (numbers_of (words_of t)) k ∙ sym (whole (c ∷ d ∷ t) two ∙ letter_line c d t f g)
 
 -- ---- what a line asks for, by its form
 
@@ -97,9 +118,15 @@ command_by (some p) = command_of p.letter p.numbers
 
 -- no letter wants a seventh number
 many : (c : ℕ) (ns : List ℕ) → 6 < length ns → command_of c ns ≡ Malformed
-many c ns h =
-    unwanted_is c ns
-    (record { time = λ p q. omega arith; opening = λ p q. omega arith; cancel = λ p q. omega arith; order = λ p q. omega arith })
+unfolding command_of
+many c [] h = absurd (omega arith)
+many c (x ∷ []) h = absurd (omega arith)
+many c (x ∷ y ∷ []) h = absurd (omega arith)
+many c (x ∷ y ∷ z ∷ []) h = absurd (omega arith)
+many c (x ∷ y ∷ z ∷ u ∷ []) h = absurd (omega arith)
+many c (x ∷ y ∷ z ∷ u ∷ v ∷ []) h = absurd (omega arith)
+many c (x ∷ y ∷ z ∷ u ∷ v ∷ w ∷ []) h = absurd (omega arith)
+many c (x ∷ y ∷ z ∷ u ∷ v ∷ w ∷ t ∷ ns) h = refl
 
 with_phrase : (c : ℕ) (o : Option (List ℕ)) → command_with c o ≡ command_by (phrase_with c o)
 unfolding command_with phrase_with
@@ -130,16 +157,8 @@ line_asks l = go (l.ended && leb (length l.text) 79)
     go true = words_ask (words_of l.text)
     go false = refl
 
-module _ {f : Form} (l : Line) (r : Formed f (line_phrase l)) where
-  pub asks_unsaid : f.said ≡ false → Malformed ≡ line_command l
-  asks_unsaid e =
-      let h : line_phrase l ≡ none = sym r.phrase ∙ rw e in
-      sym (line_asks l ∙ ap command_by h)
-
-  pub asks_said : f.said ≡ true → command_of f.letter (take f.count f.values) ≡ line_command l
-  asks_said e =
-      let h : line_phrase l ≡ some (record { letter = f.letter; numbers = take f.count f.values }) = sym r.phrase ∙ rw e in
-      sym (line_asks l ∙ ap command_by h)
+pub asks_by : (l : Line) (p : Option Phrase) → p ≡ line_phrase l → command_by p ≡ line_command l
+asks_by l p e = sym (line_asks l ∙ ap command_by (sym e))
 
 -- a line that is not of the form asks for nothing
 pub unended_is : (s : List ℕ) (b : Bool) → b ≡ false → Malformed ≡ line_command (record { text = s; ended = b })

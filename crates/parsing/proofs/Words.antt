@@ -1,71 +1,24 @@
--- A line read from the left, byte by byte and word by word, is the definitions' line. Assumes nothing.
-use Prim.Native.Nat.{ℕ, suc, ◌+◌, ◌*◌, ◌-◌, ◌≤◌, ◌<◌}
-use mathlib.Core.Path.{◌≡◌, refl, ap, ◌∙◌}
-use mathlib.Core.Bool.{Bool, true, false, cond, not, ◌&&◌}
+-- Words and their numbers, as they are read from the left, are the definitions'. Assumes nothing.
+use Prim.Native.Nat.{ℕ, zero, suc, ◌+◌, ◌*◌, ◌-◌, ◌≤◌, ◌<◌}
+use mathlib.Core.Path.{◌≡◌, refl, sym, ap, ◌∙◌}
+use mathlib.Core.Bool.{Bool, true, false, cond, ◌&&◌}
 use mathlib.Core.List.{List, [], ◌∷◌, ◌++◌}
 use mathlib.Core.Option.{Option, none, some}
 use native.Mathlib.Nat.{le_refl}
 use native.Mathlib.Numerals.{add-one}
 use native.Mathlib.Omega.{arith}
 use lib.Dec.{eqb, leb}
-use lib.ListN.{length, get_or, take, drop, drop_of_length-le}
-use lib.Seq.{drop-cons, drop-drop}
-use borrow.Author.Tests.{eq-eqb, ne_eqb, le-leb, lt-leb, leb-true}
+use lib.ListN.{length, length-append, get_or, drop, drop_of_length-le}
+use lib.Seq.{drop-cons}
+use borrow.Author.Tests.{le-leb, lt-leb, leb-true}
 use Rattle.model.specs.Lists.{all}
 use Rattle.model.specs.Lines.{onto_word, words_of, is_digit, value_from, bare, number_of, numbers_of}
 use Rattle.model.proofs.Bools.{and_left, and_right}
-use Rattle.parsing.specs.Words.{first_word, numbers_after}
-
--- ---- the first word from a place on
-
-module _ (s : List ℕ) (i : ℕ) where
-  pub word_stops : i < length s → get_or s i 0 ≡ 32 → length (first_word (drop i s)) ≡ 0
-  unfolding first_word
-  word_stops h e = rw (drop-cons s i 0 h, first_word, eq-eqb _ _ e)
-
-  pub word_goes : i < length s → (get_or s i 0 ≡ 32 → ⊥) → length (first_word (drop i s)) ≡ suc (length (first_word (drop (i + 1) s)))
-  unfolding first_word
-  word_goes h e = rw (drop-cons s i 0 h, first_word, ne_eqb _ _ e, add-one)
-
-  pub word_ends : length s ≤ i → length (first_word (drop i s)) ≡ 0
-  unfolding first_word
-  word_ends h = rw (drop_of_length-le s h)
-
-pub word_fits : (s : List ℕ) → length (first_word s) ≤ length s
-unfolding first_word
-word_fits [] = le_refl 0
-word_fits (b ∷ s) = go (eqb b 32) (word_fits s)
-  where
-    go : (t : Bool) → length (first_word s) ≤ length s → length (cond t [] (b ∷ first_word s)) ≤ suc (length s)
-    go true h = omega arith
-    go false h = omega arith
-
--- the word is the front of what it was read from
-pub word_front : (s : List ℕ) → take (length (first_word s)) s ≡ first_word s
-unfolding first_word
-word_front [] = refl
-word_front (b ∷ s) = go (eqb b 32) (word_front s)
-  where
-    go :
-        (t : Bool)
-        → take (length (first_word s)) s ≡ first_word s
-        → take (length (cond t [] (b ∷ first_word s))) (b ∷ s) ≡ cond t [] (b ∷ first_word s)
-    go true h = refl
-    go false h = ap (λ (l : List ℕ). b ∷ l) h
+use Rattle.std.specs.Prelude.{Some, None}
+use Rattle.std.specs.List.{slice_split, onto_first}
+use Rattle.parsing.specs.Words.{found, up_to_six}
 
 -- ---- a word as a number
-
-pub bare_short : (w : List ℕ) → length w < 2 → eqb (length w) 1 ≡ bare w
-unfolding bare
-bare_short [] h = refl
-bare_short (b ∷ []) h = refl
-bare_short (b ∷ d ∷ w) h = absurd (omega arith)
-
-pub bare_more : (w : List ℕ) → 2 ≤ length w → not (eqb (get_or w 0 0) 48) ≡ bare w
-unfolding bare
-bare_more [] h = absurd (omega arith)
-bare_more (b ∷ []) h = absurd (omega arith)
-bare_more (b ∷ d ∷ w) h = refl
 
 -- the value never falls
 value_grows : (w : List ℕ) (v : ℕ) → v ≤ value_from v w
@@ -148,57 +101,109 @@ module _ (w : List ℕ) (v i : ℕ) (r : Reading w v i) where
 
 -- ---- word by word
 
--- the words after the first byte, which is a space
-abbrev pub words_after : List ℕ → List (List ℕ)
-words_after [] = []
-words_after (b ∷ s) = words_of s
+-- a text cut at each space is its words
+abbrev pub cut : List ℕ → List (List ℕ)
+cut s = slice_split (λ b. eqb b 32) s
 
-pub words_first : (s : List ℕ) → words_of s ≡ first_word s ∷ words_after (drop (length (first_word s)) s)
-unfolding words_of first_word onto_word
-words_first [] = refl
-words_first (b ∷ s) = go (eqb b 32) (words_first s)
+pub cut_words : (s : List ℕ) → cut s ≡ words_of s
+unfolding words_of onto_word
+cut_words [] = refl
+cut_words (b ∷ s) = rw (cut_words s) (go (words_of s))
   where
-    go : (t : Bool) → words_of s ≡ first_word s ∷ words_after (drop (length (first_word s)) s)
-        → cond t ([] ∷ words_of s) (onto_word b (words_of s)) ≡ cond t [] (b ∷ first_word s) ∷ words_after (drop (length (cond t [] (b ∷ first_word s))) (b ∷ s))
-    go true h = refl
-    go false h = rw h
+    go : (ws : List (List ℕ)) → cond (eqb b 32) ([] ∷ ws) (onto_first b ws) ≡ cond (eqb b 32) ([] ∷ ws) (onto_word b ws)
+    go [] = refl
+    go (w ∷ ws) = refl
 
-words_numbers : (s : List ℕ) → numbers_of (words_after s) ≡ numbers_after s
-unfolding numbers_of numbers_after
-words_numbers [] = refl
-words_numbers (b ∷ s) = refl
+-- the first words are read, and they are numbers
+pub record Numbers (ws : List (List ℕ)) (ns : List ℕ) : Type 0 where
+  pub all : numbers_of ws ≡ some ns
+  pub few : length ns ≤ 6
 
--- numbers in front of those that follow, if these are all numbers
-abbrev pub ahead : List ℕ → Option (List ℕ) → Option (List ℕ)
-ahead ns none = none
-ahead ns (some ms) = some (ns ++ ms)
-
-numbers_first : (w t : List ℕ) (v : ℕ) → number_of w ≡ some v → numbers_of (w ∷ words_after t) ≡ ahead (v ∷ []) (numbers_after t)
+pub no_words : Numbers [] []
 unfolding numbers_of
-numbers_first w t v p = rw (numbers_of, p, words_numbers t) (go (numbers_after t))
+no_words = record { all = refl; few = omega arith }
+
+-- the number of a first word in front of the others'
+with_first : Option ℕ → Option (List ℕ) → Option (List ℕ)
+with_first none p = none
+with_first (some n) none = none
+with_first (some n) (some ns) = some (n ∷ ns)
+
+numbers_step : (w : List ℕ) (ws : List (List ℕ)) → numbers_of (w ∷ ws) ≡ with_first (number_of w) (numbers_of ws)
+unfolding numbers_of with_first
+numbers_step w ws = go (number_of w) (numbers_of ws)
   where
-    go : (o : Option (List ℕ)) → (elim o as (λ _. Option (List ℕ)) [ none ↦ none | some ns ↦ some (v ∷ ns) ]) ≡ ahead (v ∷ []) o
+    go :
+        (o : Option ℕ) (p : Option (List ℕ))
+        → (elim o as (λ _. Option (List ℕ)) [ none ↦ none | some n ↦ elim p as (λ _. Option (List ℕ)) [ none ↦ none | some ns ↦ some (n ∷ ns) ] ]) ≡ with_first o p
+    go none p = refl
+    go (some n) none = refl
+    go (some n) (some ns) = refl
+
+-- where there is such a list, it is the number and the others'
+with_both : (o : Option ℕ) (p : Option (List ℕ)) (ns : List ℕ) → with_first o p ≡ some ns → (n : ℕ) × (ms : List ℕ) × (o ≡ some n) × (p ≡ some ms) × (ns ≡ n ∷ ms)
+unfolding with_first
+with_both none p ns e = cc
+with_both (some n) none ns e = cc
+with_both (some n) (some ms) ns e = (n, ms, refl, refl, cc)
+
+numbers_more : (ws : List (List ℕ)) (ns : List ℕ) (w : List ℕ) (v : ℕ) → numbers_of ws ≡ some ns → number_of w ≡ some v → numbers_of (ws ++ (w ∷ [])) ≡ some (ns ++ (v ∷ []))
+unfolding numbers_of with_first
+numbers_more [] ns w v e f = let z : ns ≡ [] = cc in rw (z, numbers_of, f)
+numbers_more (u ∷ ws) ns w v e f =
+    let b = with_both (number_of u) (numbers_of ws) ns (sym (numbers_step u ws) ∙ e) in
+    let h : numbers_of (ws ++ (w ∷ [])) ≡ some (b.1 ++ (v ∷ [])) = numbers_more ws b.1 w v b.3 f in
+    let o : number_of u ≡ some b.0 = b.2 in
+    numbers_step u (ws ++ (w ∷ [])) ∙ rw (o, h) (ap (λ (l : List ℕ). some (l ++ (v ∷ []))) (sym b.4))
+
+numbers_length : (ws : List (List ℕ)) (ns : List ℕ) → numbers_of ws ≡ some ns → length ns ≡ length ws
+unfolding numbers_of
+numbers_length [] ns e = let z : ns ≡ [] = cc in rw z
+numbers_length (u ∷ ws) ns e =
+    let b = with_both (number_of u) (numbers_of ws) ns (sym (numbers_step u ws) ∙ e) in
+    ap length b.4 ∙ ap suc (numbers_length ws b.1 b.3)
+
+bad_word : (ws : List (List ℕ)) (k : ℕ) (d : List ℕ) → k < length ws → number_of (get_or ws k d) ≡ none → numbers_of ws ≡ none
+unfolding with_first
+bad_word [] k d h e = absurd (omega arith)
+bad_word (u ∷ ws) zero d h e = numbers_step u ws ∙ rw e
+bad_word (u ∷ ws) (suc k) d h e =
+    let i = bad_word ws k d (omega arith) e in
+    numbers_step u ws ∙ rw i (go (number_of u))
+  where
+    go : (o : Option ℕ) → with_first o none ≡ none
     go none = refl
-    go (some ns) = refl
+    go (some n) = refl
 
-numbers_bad : (w : List ℕ) (ws : List (List ℕ)) → number_of w ≡ none → numbers_of (w ∷ ws) ≡ none
-unfolding numbers_of
-numbers_bad w ws p = rw (numbers_of, p)
+found_is : (o : Option ℕ) (v : ℕ) → found o ≡ Some v → o ≡ some v
+found_is none v e = cc
+found_is (some w) v e = let z : w ≡ v = cc in ap (λ (n : ℕ). some n) z
 
-module _ (s : List ℕ) (i : ℕ) (h : i < length s) where
-  abbrev rest : List ℕ
-  rest = drop (i + 1) s
+found_bad : (o : Option ℕ) → found o ≡ None → o ≡ none
+found_bad none e = refl
+found_bad (some w) e = cc
 
-  after_words : numbers_after (drop i s) ≡ numbers_of (first_word rest ∷ words_after (drop (length (first_word rest)) rest))
-  unfolding numbers_after
-  after_words = rw (drop-cons s i 0 h, ← add-one) (ap numbers_of (words_first rest))
+module _ (ws : List (List ℕ)) (ns : List ℕ) (r : Numbers ws ns) where
+  pub numbers_on : (w : List ℕ) (v : ℕ) → found (number_of w) ≡ Some v → length ns < 6 → Numbers (ws ++ (w ∷ [])) (ns ++ (v ∷ []))
+  numbers_on w v e h =
+      record { all = numbers_more ws ns w v r.all (found_is (number_of w) v e); few = rw length-append (omega arith) }
 
-  pub number_next : (v : ℕ) → number_of (first_word rest) ≡ some v
-      → numbers_after (drop i s) ≡ ahead (v ∷ []) (numbers_after (drop (i + 1 + length (first_word rest)) s))
-  number_next v p =
-      after_words
-      ∙ numbers_first (first_word rest) _ v p
-      ∙ ap (λ (t : List ℕ). ahead (v ∷ []) (numbers_after t)) (drop-drop (length (first_word rest)) (i + 1) s)
+  -- they are all the words of a text
+  pub numbers_read : (s : List ℕ) → ws ≡ cut s → some ns ≡ up_to_six (numbers_of (words_of s))
+  numbers_read s e = rw (← cut_words s, ← e, r.all, le-leb (length ns) 6 r.few)
 
-  pub number_bad : number_of (first_word rest) ≡ none → numbers_after (drop i s) ≡ none
-  number_bad p = after_words ∙ numbers_bad _ _ p
+  -- the next of the words of a text is a seventh
+  pub seventh_word : (s : List ℕ) → length ns ≡ 6 → length ws < length (cut s) → none ≡ up_to_six (numbers_of (words_of s))
+  seventh_word s six h = rw (← cut_words s) (go (numbers_of (cut s)) refl)
+    where
+      go : (o : Option (List ℕ)) → numbers_of (cut s) ≡ o → none ≡ up_to_six o
+      go none e = refl
+      go (some ms) e =
+          let l = numbers_length ws ns r.all in
+          let m = numbers_length (cut s) ms e in
+          rw (lt-leb (length ms) 6 (omega arith))
+
+pub word_bad : (s : List ℕ) (k : ℕ) (w : List ℕ) → k < length (cut s) → w ≡ get_or (cut s) k w → found (number_of w) ≡ None → none ≡ up_to_six (numbers_of (words_of s))
+word_bad s k w h e f =
+    let b : number_of (get_or (cut s) k w) ≡ none = ap number_of (sym e) ∙ found_bad (number_of w) f in
+    rw (← cut_words s, bad_word (cut s) k w h b)

@@ -1,14 +1,13 @@
 -- What is carried over from chunk to chunk stands for the bytes that it leaves out. Assumes nothing.
-use Prim.Native.Nat.{ℕ, zero, suc, ◌+◌, ◌-◌, ◌≤◌, ◌<◌}
+use Prim.Native.Nat.{ℕ, zero, suc, ◌-◌, ◌≤◌, ◌<◌}
 use mathlib.Core.Path.{◌≡◌, refl, sym, ap, ◌∙◌}
 use mathlib.Core.Bool.{Bool, true, false, cond, ◌||◌}
 use mathlib.Core.List.{List, [], ◌∷◌, ◌++◌, map, append-nil}
-use native.Mathlib.Nat.{add_comm, le_refl}
-use native.Mathlib.Numerals.{add-one}
+use native.Mathlib.Nat.{le_refl}
 use native.Mathlib.Omega.{arith}
 use lib.Dec.{ltb}
-use lib.ListN.{length, get_or, take, drop, set, length-append, length-drop}
-use lib.Seq.{drop-cons, append_snoc, take-suc, take-length, set_at, get_or-drop, get_or-append-add, length-take-le, take-nil}
+use lib.ListN.{length, take, drop, length-append}
+use lib.Seq.{take-length, take-nil}
 use borrow.Author.Tests.{lt-ltb, le-ltb, ltb-true, ltb-false}
 use Rattle.model.specs.Lines.{lines_of}
 use Rattle.text.specs.declared.Carry.{Carry}
@@ -16,36 +15,6 @@ use Rattle.text.specs.Readers.{Reader, Strict, after_first, rest_asks, commands}
 use Rattle.text.specs.Chunks.{carry_of, CarriedOver, is_left}
 use Rattle.parsing.proofs.Forms.{unended_is, long_is}
 use Rattle.text.proofs.Chunks.{Unended, onto_all, grown_first, first_text, first_ended, lines_grow}
-
--- ---- bytes moved to the front
-
--- the byte at start + i is still what it was, and goes to i
-pub moved_on_lem :
-    (buf₀ buf : List ℕ) (start i : ℕ)
-    → start + i < length buf₀
-    → buf ≡ take i (drop start buf₀) ++ drop i buf₀
-    → set buf i (get_or buf (start + i) 0) ≡ take (i + 1) (drop start buf₀) ++ drop (i + 1) buf₀
-moved_on_lem buf₀ buf start i h e =
-    let front = take i (drop start buf₀) in
-    let long : i < length (drop start buf₀) = rw length-drop (omega arith) in
-    let n : length front ≡ i = length-take-le i (drop start buf₀) (omega arith) in
-    let f : get_or buf (start + i) 0 ≡ get_or buf₀ (start + i) 0 =
-    rw (e, add_comm start i)
-    (ap (λ (k : ℕ). get_or (front ++ drop i buf₀) (k + start) 0) (sym n)
-    ∙ get_or-append-add front (drop i buf₀) start 0
-    ∙ get_or-drop i buf₀ start 0)
-    in
-    let g : take (i + 1) (drop start buf₀) ≡ front ++ (get_or buf₀ (start + i) 0 ∷ []) =
-    rw (add-one, take-suc (drop start buf₀) i 0 long, get_or-drop)
-    in
-    rw (f, e, g) (one_further front buf₀ i (get_or buf₀ (start + i) 0) n (omega arith))
-  where
-    one_further :
-        (front l : List ℕ) (i v : ℕ)
-        → length front ≡ i
-        → i < length l
-        → set (front ++ drop i l) i v ≡ front ++ (v ∷ []) ++ drop (i + 1) l
-    one_further front l i v e h = rw (drop-cons l i v h, add-one, append_snoc, set_at front _ _ v i e)
 
 -- what is read from a buffer up to n stands there from any place on
 pub drop_take : (at n : ℕ) (buf : List ℕ) → drop at (take n buf) ≡ take (n - at) (drop at buf)

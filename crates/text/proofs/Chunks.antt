@@ -1,50 +1,35 @@
 -- Input read chunk by chunk is the definitions' input: a chunk's next line, what is carried over, and the end. Assumes
 -- nothing.
-use Prim.Native.Nat.{ℕ, suc, ◌+◌, ◌-◌, ◌≤◌, ◌<◌}
+use Prim.Native.Nat.{ℕ, zero, suc, ◌+◌, ◌-◌, ◌≤◌, ◌<◌}
 use mathlib.Core.Path.{◌≡◌, refl, sym, ap, subst, ◌∙◌}
 use mathlib.Core.Bool.{Bool, true, false, cond}
 use mathlib.Core.List.{List, [], ◌∷◌, ◌++◌, append-nil}
-use native.Mathlib.Nat.{add-zero}
+use native.Mathlib.Nat.{le_refl}
 use native.Mathlib.Numerals.{add-one}
 use native.Mathlib.Omega.{arith}
-use lib.Dec.{eqb}
-use lib.ListN.{length, get_or, take, drop, length-append, length-drop, drop_of_length-le}
-use lib.Seq.{drop-cons, drop-drop, drop-append-add, take_at}
-use borrow.Author.Tests.{eq-eqb, ne_eqb, eqb-true, eqb-false}
+use lib.Dec.{eqb, ltb}
+use lib.ListN.{length, get_or, take, drop, length-append, length-drop, take-append-drop, drop_of_length-le}
+use lib.Seq.{drop-cons, drop-drop, drop-append-add, take_at, take-length, length-take-le}
+use borrow.Author.Tests.{ne_eqb, eqb-true, eqb-false, ltb-false}
 use Rattle.model.specs.declared.Command.{Command}
 use Rattle.model.specs.declared.Command.TheVariants.{Malformed}
 use Rattle.model.specs.Lines.{Line, onto, lines_of, line_command}
 use Rattle.model.specs.Words.{Each}
-use Rattle.text.specs.declared.Bounds as Bounds
-use Rattle.text.specs.declared.NextCommand as NextCommand
+use Rattle.std.specs.Prelude.{Some, None}
+use Rattle.std.specs.List.{position, position_or_len}
+use Rattle.std.proofs.lemmas.List.Quantifiers.{position-Some}
+use Rattle.std.proofs.lemmas.List.Sums.{fails_before_first}
+use Rattle.std.specs.declared.ops.Range.{Range}
+use Rattle.text.specs.declared.NextCommand.{NextCommand}
 use Rattle.text.specs.Readers.{Reader, asks_after, asks_of, after_first, commands}
 use Rattle.text.specs.Chunks.{tail_of, tail_long, bounds_at, next_line, command_at, next_command}
 
--- ---- looking for the newline, byte by byte
+-- a line's place, and what was read in it
+abbrev pub span : ℕ → ℕ → Range ℕ
+span a b = record { start = a; end = b }
 
-bounds_onto : (b start at : ℕ) (ls : List Line) → bounds_at start at (onto b ls) ≡ bounds_at start (suc at) ls
-unfolding onto bounds_at
-bounds_onto b start at [] = refl
-bounds_onto b start at (l ∷ ls) =
-    ap (λ (e : ℕ). cond l.ended (Bounds.TheVariants.Found start e) Bounds.TheVariants.Tail) (omega arith)
-
-module _ (s : List ℕ) (start i : ℕ) where
-  pub newline_here : i < length s → get_or s i 0 ≡ 10 → bounds_at start i (lines_of (drop i s)) ≡ Bounds.TheVariants.Found start i
-  unfolding bounds_at lines_of
-  newline_here h e =
-      rw (drop-cons s i 0 h, lines_of, eq-eqb _ _ e) (ap (λ (k : ℕ). Bounds.TheVariants.Found start k) (add-zero i))
-
-  pub newline_later :
-      i < length s
-      → (get_or s i 0 ≡ 10 → ⊥)
-      → bounds_at start i (lines_of (drop i s)) ≡ bounds_at start (i + 1) (lines_of (drop (i + 1) s))
-  unfolding lines_of
-  newline_later h e =
-      rw (drop-cons s i 0 h, lines_of, ne_eqb _ _ e, add-one) (bounds_onto (get_or s i 0) start i (lines_of (drop (suc i) s)))
-
-  pub newline_never : length s ≤ i → bounds_at start i (lines_of (drop i s)) ≡ Bounds.TheVariants.Tail
-  unfolding bounds_at lines_of
-  newline_never h = rw (drop_of_length-le s h)
+abbrev pub reads : Command → ℕ → NextCommand
+reads c p = record { command = c; place = p }
 
 -- ---- lines of an input with a newline or without
 
@@ -84,6 +69,11 @@ unfolding onto_all onto
 grown_first b [] [] = refl
 grown_first b [] (l ∷ ls) = refl
 grown_first b (d ∷ t) ls = rw (grown_first d t ls)
+
+pub unended_from : (n : ℕ) (s : List ℕ) → n ≤ length s → ((k : ℕ) → k < n → get_or s k 0 ≡ 10 → ⊥) → Unended (take n s)
+unended_from zero s h below = tt
+unended_from (suc n) [] h below = absurd (omega arith)
+unended_from (suc n) (b ∷ s) h below = (below 0 (omega arith), unended_from n s (omega arith) (λ k l. below (suc k) (omega arith)))
 
 -- an input cut at its newlines: each line's bytes, and those after the last newline
 pub data Cut : List ℕ → Type 0 where
@@ -125,12 +115,12 @@ open_long [] long = refl
 open_long (b ∷ t) long = rw (grown_first b t [])
 
 module _ (start at : ℕ) (long : Bool) where
-  tail_bounds : (t : List ℕ) → bounds_at start at (onto_all t []) ≡ Bounds.TheVariants.Tail
+  tail_bounds : (t : List ℕ) → bounds_at start at (onto_all t []) ≡ None
   unfolding bounds_at onto_all
   tail_bounds [] = refl
   tail_bounds (b ∷ t) = rw (grown_first b t [])
 
-  tail_command : (t : List ℕ) → command_at long at (onto_all t []) ≡ NextCommand.TheVariants.Tail
+  tail_command : (t : List ℕ) → command_at long at (onto_all t []) ≡ None
   unfolding command_at onto_all
   tail_command [] = refl
   tail_command (b ∷ t) = rw (grown_first b t [])
@@ -146,11 +136,11 @@ module _ (chunk : List ℕ) (at : ℕ) where
     first_ended_lem : lines_of there ≡ first ∷ lines_of rest
     first_ended_lem = ap lines_of e ∙ lines_ended t rest u
 
-    line_cut : next_line chunk at ≡ Bounds.TheVariants.Found at (at + length t)
+    pub line_cut : next_line chunk at ≡ Some (span at (at + length t))
     unfolding next_line bounds_at
     line_cut = rw (next_line, first_ended_lem)
 
-    command_cut : (long : Bool) → next_command long chunk at ≡ NextCommand.TheVariants.Found (asks_after commands long first) (at + length t + 1)
+    command_cut : (long : Bool) → next_command long chunk at ≡ Some (reads (asks_after commands long first) (at + length t + 1))
     unfolding next_command command_at
     command_cut long = rw (next_command, first_ended_lem)
 
@@ -176,11 +166,11 @@ module _ (chunk : List ℕ) (at : ℕ) where
         let n : end - start ≡ length t = omega arith in
         ap (λ (k : ℕ). take k (drop start chunk)) n ∙ ap (λ (k : ℕ). take (length t) (drop k chunk)) f ∙ first_text_lem
 
-  line_uncut : Unended there → next_line chunk at ≡ Bounds.TheVariants.Tail
+  pub line_uncut : Unended there → next_line chunk at ≡ None
   unfolding next_line
   line_uncut u = rw (lines_open there u) (tail_bounds at at true there)
 
-  command_uncut : (long : Bool) → Unended there → next_command long chunk at ≡ NextCommand.TheVariants.Tail
+  command_uncut : (long : Bool) → Unended there → next_command long chunk at ≡ None
   unfolding next_command
   command_uncut long u = rw (lines_open there u) (tail_command at at long there)
 
@@ -192,16 +182,17 @@ module _ (chunk : List ℕ) (at : ℕ) where
     pub asks :
         (long : Bool)
         → next_command long chunk at
-        ≡ NextCommand.TheVariants.Found (asks_after commands long (record { text = take (end - start) (drop start chunk); ended = true })) (end + 1)
+        ≡ Some (reads (asks_after commands long (record { text = take (end - start) (drop start chunk); ended = true })) (end + 1))
 
-  pub bounded : (start end : ℕ) → next_line chunk at ≡ Bounds.TheVariants.Found start end → Bounded start end
+  pub bounded : (start end : ℕ) → next_line chunk at ≡ Some (span start end) → Bounded start end
   bounded start end p = go (cut_up there)
     where
       go : Cut there → Bounded start end
       go (cut t rest u e _) =
           let q = sym (line_cut t rest u e) ∙ p in
-          let f : start ≡ at = cc in
-          let g : end ≡ at + length t = cc in
+          let same : span start end ≡ span at (at + length t) = cc in
+          let f : start ≡ at = ap (λ (l : Range ℕ). l.start) same in
+          let g : end ≡ at + length t = ap (λ (l : Range ℕ). l.end) same in
           let w = first_within t rest u e in
           let m : at + length t + 1 ≡ end + 1 = omega arith in
           let x = cut_text t rest u e start end f g in
@@ -211,27 +202,59 @@ module _ (chunk : List ℕ) (at : ℕ) where
             inside = omega arith;
             asks = λ long.
                 command_cut t rest u e long
-                ∙ ap (λ (l : List ℕ). NextCommand.TheVariants.Found (asks_after commands long (record { text = l; ended = true })) (at + length t + 1)) (sym x)
-                ∙ ap (NextCommand.TheVariants.Found (asks_after commands long (record { text = take (end - start) (drop start chunk); ended = true }))) m;
+                ∙ ap (λ (l : List ℕ). Some (reads (asks_after commands long (record { text = l; ended = true })) (at + length t + 1))) (sym x)
+                ∙ ap (λ (k : ℕ). Some (reads (asks_after commands long (record { text = take (end - start) (drop start chunk); ended = true })) k)) m;
           }
-      go (uncut u) = let q = sym (line_uncut u) ∙ p in let z : ◌≡◌ {A = ℕ} 0 1 = cc in absurd (omega arith)
+      go (uncut u) = let q = sym (line_uncut u) ∙ p in cc
 
   module _ {start end : ℕ} (b : Bounded start end) (long : Bool) where
-    pub asks_long : long ≡ true → NextCommand.TheVariants.Found Malformed (end + 1) ≡ next_command long chunk at
+    pub asks_long : long ≡ true → Some (reads Malformed (end + 1)) ≡ next_command long chunk at
     asks_long e = sym (b.asks long ∙ rw e)
 
     pub asks_line :
         long ≡ false
         → (command : Command)
         → command ≡ line_command (record { text = take (end - start) (drop start chunk); ended = true })
-        → NextCommand.TheVariants.Found command (end + 1) ≡ next_command long chunk at
+        → Some (reads command (end + 1)) ≡ next_command long chunk at
     asks_line e command f = sym (b.asks long ∙ rw (e, f))
 
-  pub unbounded : (long : Bool) → next_line chunk at ≡ Bounds.TheVariants.Tail → next_command long chunk at ≡ NextCommand.TheVariants.Tail
+  -- ---- by the place of the first newline
+
+  pub newline_first : (n : ℕ) → position (λ b. eqb b 10) there ≡ Some n → next_line chunk at ≡ Some (span at (at + n))
+  newline_first n e =
+      let p = position-Some (λ b. eqb b 10) there n 0 e in
+      let l : length (take n there) ≡ n = length-take-le n there (omega (arith, p.0)) in
+      let here : get_or there n 0 ≡ 10 = eqb-true _ 10 p.1 in
+      let t : there ≡ take n there ++ 10 ∷ drop (n + 1) there =
+      sym (take-append-drop n there) ∙ ap (λ (r : List ℕ). take n there ++ r) (drop-cons there n 0 p.0 ∙ rw (add-one, here))
+      in
+      line_cut (take n there) (drop (n + 1) there) (unended_from n there (omega (arith, p.0)) (λ k h f. eqb-false _ 10 (p.2 k h) f)) t ∙ rw l
+
+  pub newline_missing : position (λ b. eqb b 10) there ≡ None → next_line chunk at ≡ None
+  newline_missing e =
+      line_uncut (subst Unended (take-length there) (unended_from (length there) there (le_refl (length there)) (λ k h f. eqb-false _ 10 (never there k h e) f)))
+    where
+      never : (s : List ℕ) (k : ℕ) → k < length s → position (λ b. eqb b 10) s ≡ None → eqb (get_or s k 0) 10 ≡ false
+      never s k h n = go (ltb (position_or_len (λ b. eqb b 10) s) (length s)) refl n
+        where
+          go :
+              (t : Bool)
+              → ltb (position_or_len (λ b. eqb b 10) s) (length s) ≡ t
+              → cond t (Some (position_or_len (λ b. eqb b 10) s)) None ≡ None
+              → eqb (get_or s k 0) 10 ≡ false
+          go true q e = cc
+          go false q e =
+              let l = ltb-false (position_or_len (λ b. eqb b 10) s) (length s) q in
+              fails_before_first (λ b. eqb b 10) s k 0 (omega arith)
+
+  pub beyond : length chunk ≤ at → next_line chunk at ≡ None
+  beyond h = line_uncut (rw (drop_of_length-le chunk h) tt)
+
+  pub unbounded : (long : Bool) → next_line chunk at ≡ None → next_command long chunk at ≡ None
   unbounded long p = go (cut_up there)
     where
-      go : Cut there → next_command long chunk at ≡ NextCommand.TheVariants.Tail
-      go (cut t rest u e _) = let q = sym (line_cut t rest u e) ∙ p in let z : ◌≡◌ {A = ℕ} 0 1 = cc in absurd (omega arith)
+      go : Cut there → next_command long chunk at ≡ None
+      go (cut t rest u e _) = let q = sym (line_cut t rest u e) ∙ p in cc
       go (uncut u) = command_uncut long u
 
   module _ {A : Type 0} (r : Reader A) where
@@ -282,45 +305,47 @@ module _ (chunk : List ℕ) (at : ℕ) where
     -- by the bounds of the next line
     pub taken_line :
         (long : Bool) (start end : ℕ)
-        → next_line chunk at ≡ Bounds.TheVariants.Found start end
+        → next_line chunk at ≡ Some (span start end)
         → Taken long (asks_after r long (record { text = take (end - start) (drop start chunk); ended = true })) (end + 1)
     taken_line long start end p = go (cut_up there)
       where
         go : Cut there → Taken long (asks_after r long (record { text = take (end - start) (drop start chunk); ended = true })) (end + 1)
         go (cut t rest u e _) =
             let q = sym (line_cut t rest u e) ∙ p in
-            let f : start ≡ at = cc in
-            let g : end ≡ at + length t = cc in
+            let same : span start end ≡ span at (at + length t) = cc in
+            let f : start ≡ at = ap (λ (l : Range ℕ). l.start) same in
+            let g : end ≡ at + length t = ap (λ (l : Range ℕ). l.end) same in
             subst (λ (l : List ℕ). Taken long (asks_after r long (record { text = l; ended = true })) (end + 1))
             (sym (cut_text t rest u e start end f g)) (taken_cut t rest u e long (end + 1) (omega arith))
-        go (uncut u) = let q = sym (line_uncut u) ∙ p in let z : ◌≡◌ {A = ℕ} 0 1 = cc in absurd (omega arith)
+        go (uncut u) = let q = sym (line_uncut u) ∙ p in cc
 
-    pub none_taken : (long : Bool) → next_line chunk at ≡ Bounds.TheVariants.Tail → AllTaken long
+    pub none_taken : (long : Bool) → next_line chunk at ≡ None → AllTaken long
     none_taken long p = go (cut_up there)
       where
         go : Cut there → AllTaken long
-        go (cut t rest u e _) = let q = sym (line_cut t rest u e) ∙ p in let z : ◌≡◌ {A = ℕ} 0 1 = cc in absurd (omega arith)
+        go (cut t rest u e _) = let q = sym (line_cut t rest u e) ∙ p in cc
         go (uncut u) = taken_uncut u long
 
   -- by what ./run reads
   pub taken :
       (long : Bool) (command : Command) (place : ℕ)
-      → next_command long chunk at ≡ NextCommand.TheVariants.Found command place
+      → next_command long chunk at ≡ Some (reads command place)
       → Taken commands long command place
   taken long command place p = go (cut_up there)
     where
       go : Cut there → Taken commands long command place
       go (cut t rest u e _) =
           let q = sym (command_cut t rest u e long) ∙ p in
-          let f : asks_after commands long (first t rest u e) ≡ command = cc in
-          let g : at + length t + 1 ≡ place = cc in
+          let same : reads (asks_after commands long (first t rest u e)) (at + length t + 1) ≡ reads command place = cc in
+          let f : asks_after commands long (first t rest u e) ≡ command = ap (λ (n : NextCommand). n.command) same in
+          let g : at + length t + 1 ≡ place = ap (λ (n : NextCommand). n.place) same in
           subst (λ (c : Command). Taken commands long c place) f (taken_cut commands t rest u e long place g)
-      go (uncut u) = let q = sym (command_uncut long u) ∙ p in let z : ◌≡◌ {A = ℕ} 0 1 = cc in absurd (omega arith)
+      go (uncut u) = let q = sym (command_uncut long u) ∙ p in cc
 
-  pub all_taken : (long : Bool) → next_command long chunk at ≡ NextCommand.TheVariants.Tail → AllTaken commands long
+  pub all_taken : (long : Bool) → next_command long chunk at ≡ None → AllTaken commands long
   all_taken long p = go (cut_up there)
     where
       go : Cut there → AllTaken commands long
       go (cut t rest u e _) =
-          let q = sym (command_cut t rest u e long) ∙ p in let z : ◌≡◌ {A = ℕ} 0 1 = cc in absurd (omega arith)
+          let q = sym (command_cut t rest u e long) ∙ p in cc
       go (uncut u) = taken_uncut commands u long

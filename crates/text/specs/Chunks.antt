@@ -1,29 +1,28 @@
 -- Input that is read chunk by chunk: the next line of a chunk, what it asks for, and what is carried over to the next chunk.
 -- Of a line that is too long nothing but that is kept: whatever it is, it is one malformed line.
-use Rattle.std.specs.Prelude.{ℕ, ◌+◌, Bool, true, false, ◌||◌, ◌≡◌, List, [], ◌∷◌, ◌++◌, ltb, length, take, drop, if◌then◌else◌}
+use Rattle.std.specs.Prelude.{ℕ, ◌+◌, Bool, true, false, ◌||◌, ◌≡◌, List, [], ◌∷◌, ◌++◌, ltb, length, take, drop, if◌then◌else◌, Option, None, Some}
+use Rattle.std.specs.declared.ops.Range.{Range}
 use Rattle.model.specs.Lines.{Line, lines_of}
-use Rattle.text.specs.declared.Bounds as Bounds
-use Rattle.text.specs.declared.NextCommand as NextCommand
+use Rattle.text.specs.declared.NextCommand.{NextCommand}
 use Rattle.text.specs.declared.Carry.{Carry}
 use Rattle.text.specs.Readers.{asks_after, commands}
 
 -- the bounds of the first of some lines, which stands at a place, if it is ended
-unfoldable pub bounds_at : ℕ → ℕ → List Line → Bounds.Bounds
-bounds_at start at [] = Bounds.TheVariants.Tail
-bounds_at start at (l ∷ ls) =
-    if l.ended then Bounds.TheVariants.Found start (at + length l.text) else Bounds.TheVariants.Tail
+unfoldable pub bounds_at : ℕ → ℕ → List Line → Option (Range ℕ)
+bounds_at start at [] = None
+bounds_at start at (l ∷ ls) = if l.ended then Some (record { start = start; end = at + length l.text }) else None
 
-unfoldable pub next_line : List ℕ → ℕ → Bounds.Bounds
+unfoldable pub next_line : List ℕ → ℕ → Option (Range ℕ)
 next_line chunk at = bounds_at at at (lines_of (drop at chunk))
 
-unfoldable pub command_at : Bool → ℕ → List Line → NextCommand.NextCommand
-command_at long at [] = NextCommand.TheVariants.Tail
+unfoldable pub command_at : Bool → ℕ → List Line → Option NextCommand
+command_at long at [] = None
 command_at long at (l ∷ ls) =
     if l.ended
-    then NextCommand.TheVariants.Found (asks_after commands long l) (at + length l.text + 1)
-    else NextCommand.TheVariants.Tail
+    then Some (record { command = asks_after commands long l; place = at + length l.text + 1 })
+    else None
 
-unfoldable pub next_command : Bool → List ℕ → ℕ → NextCommand.NextCommand
+unfoldable pub next_command : Bool → List ℕ → ℕ → Option NextCommand
 next_command long chunk at = command_at long at (lines_of (drop at chunk))
 
 -- an unended line is kept as long as it may still be taken

@@ -5,18 +5,11 @@ pub mod reading;
 
 use model::Command;
 
-// Where the next line of a chunk stands, without its newline; the chunk's tail has none.
-#[derive(Clone, Copy)]
-pub enum Bounds {
-    Found { start: usize, end: usize },
-    Tail,
-}
-
 // What the next line of a chunk asks for, and the place after its newline.
 #[derive(Clone, Copy)]
-pub enum NextCommand {
-    Found { command: Command, place: usize },
-    Tail,
+pub struct NextCommand {
+    pub command: Command,
+    pub place: usize,
 }
 
 // What goes from chunk to chunk of a line that has not ended: how many of its bytes stand at the buffer's front, or that

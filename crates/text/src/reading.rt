@@ -1,23 +1,17 @@
 // Lines in the chunk that was just read, and what goes over to the next chunk.
-ghost use Rattle.std.specs.Prelude.{◌≡◌, ◌++◌, ◌-◌, ◌≤◌, length, take, drop};
+ghost use Rattle.std.specs.Prelude.{eqb, ◌≡◌, ◌++◌, ◌-◌, ◌≤◌, length, take, drop};
+ghost use Rattle.std.specs.List.{position};
 ghost use Rattle.text.specs.Chunks.{next_line, next_command, is_left, CarriedOver};
 
-use crate::{Bounds, Carry, NextCommand};
+use crate::{Carry, NextCommand};
 use model::Command;
 use parsing::{LONGEST_LINE, command_of};
+use std::ops::Range;
 
-// Looks for the next newline.
-fn scan(chunk: &[u8], at: usize) -> Bounds
-    ensures { result ≡ next_line chunk.now at }
+fn newline_in(text: &[u8]) -> Option<usize>
+    ensures { result ≡ position (λ b. eqb b 10) text.now }
 {
-    let mut i = at;
-    while i < chunk.len() {
-        if chunk[i] == b'\n' {
-            return Bounds::Found { start: at, end: i };
-        }
-        i = i + 1;
-    }
-    Bounds::Tail
+    text.iter().position(|b| *b == b'\n')
 }
 
 // A reader of lines: the chunk, and the place in it that is reached.
@@ -27,41 +21,41 @@ pub struct Lines<'a> {
     pub at: usize,
 }
 
-pub fn lines_from<'a>(chunk: &'a [u8], at: usize) -> Lines<'a>
-    ensures { (result.chunk ≡ chunk.entry) × (result.at ≡ at) }
-{
-    Lines { chunk, at }
-}
+impl<'a> Lines<'a> {
+    pub fn new(chunk: &'a [u8], at: usize) -> Self
+        ensures { (result.chunk ≡ chunk.entry) × (result.at ≡ at) }
+    {
+        Lines { chunk, at }
+    }
 
-pub fn next_line<'a>(lines: Lines<'a>) -> Bounds
-    ensures { result ≡ next_line lines.entry.chunk.now lines.entry.at }
-{
-    scan(lines.chunk, lines.at)
+    // Where the next line stands, without its newline. The chunk's tail has none: it is no line.
+    pub fn next_line(self) -> Option<Range<usize>>
+        ensures { result ≡ next_line self.entry.chunk.now self.entry.at }
+    {
+        let length = newline_in(self.chunk.get(self.at..)?)?;
+        Some(self.at..self.at + length)
+    }
 }
 
 // The next line from plain parameters, for callers that hold no reader.
-pub fn line_from(chunk: &[u8], at: usize) -> Bounds
+pub fn line_from(chunk: &[u8], at: usize) -> Option<Range<usize>>
     ensures { result ≡ next_line chunk.now at }
 {
-    next_line(lines_from(chunk, at))
+    Lines::new(chunk, at).next_line()
 }
 
 // What the next line from a place on asks for. `long`: it began before the chunk, and is too long.
-pub fn next_command(chunk: &[u8], at: usize, long: bool) -> NextCommand
+pub fn next_command(chunk: &[u8], at: usize, long: bool) -> Option<NextCommand>
     ensures { result ≡ next_command long chunk.now at }
 {
-    let Bounds::Found { start, end } = line_from(chunk, at) else {
-        return NextCommand::Tail;
+    let line = line_from(chunk, at)?;
+    let place = line.end + 1;
+    let command = if long {
+        Command::Malformed
+    } else {
+        command_of(&chunk[line], true)
     };
-    let place = end + 1;
-    if long {
-        return NextCommand::Found {
-            command: Command::Malformed,
-            place,
-        };
-    }
-    let command = command_of(&chunk[start..end], true);
-    NextCommand::Found { command, place }
+    Some(NextCommand { command, place })
 }
 
 // Moves the bytes from `start` up to `end` to the front.
@@ -69,12 +63,7 @@ pub fn to_front(buf: &mut [u8], start: usize, end: usize)
     requires { (start ≤ end) × (end ≤ length buf.old) }
     ensures { buf.new ≡ take (end - start) (drop start buf.old) ++ drop (end - start) buf.old }
 {
-    let n = end - start;
-    let mut i: usize = 0;
-    while i < n {
-        buf[i] = buf[start + i];
-        i = i + 1;
-    }
+    buf.copy_within(start..end, 0);
 }
 
 // The chunk's tail goes to the buffer's front, unless its line is too long.
@@ -84,15 +73,16 @@ pub fn carry_over(buf: &mut [u8], start: usize, end: usize, long: bool) -> Carry
 {
     let rest = end - start;
     if long || LONGEST_LINE < rest {
-        return Carry {
+        Carry {
             kept: 0,
             long: true,
-        };
-    }
-    to_front(buf, start, end);
-    Carry {
-        kept: rest,
-        long: false,
+        }
+    } else {
+        to_front(buf, start, end);
+        Carry {
+            kept: rest,
+            long: false,
+        }
     }
 }
 

@@ -1,16 +1,11 @@
 -- ./floor as a program that answers line by line: its reader, its answers and what it keeps.
-use Rattle.std.specs.Prelude.{ℕ, List, get_or}
 use Rattle.model.specs.declared.Command.TheVariants.{Malformed}
 use Rattle.text.specs.Readers.{Reader}
 use Rattle.text.specs.Answers.{Program}
-use Rattle.judge.specs.declared.Claim.{Claim}
 use Rattle.floors.specs.declared.Wish.{Wish}
 use Rattle.floors.specs.declared.Wish.TheVariants.{Says}
 use Rattle.floors.specs.Wishes.{line_wish}
 use Rattle.floors.specs.Floor.{Floor, wish_answer}
-
-abbrev pub claim_from : List ℕ → Claim
-claim_from v = record { shares = get_or v 0 0; buyer = get_or v 1 0; seller = get_or v 2 0 }
 
 abbrev pub wishes : Reader Wish
 wishes = record { asks = line_wish; malformed = Says Malformed }

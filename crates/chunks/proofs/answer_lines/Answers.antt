@@ -42,7 +42,7 @@ answer_command-a-requires c =
 pub loop-p-smaller : goal.loop-p-smaller
 loop-p-smaller c =
     -- the line that was taken
-    let n = taken c.args.chunk.now c.loop-p.p.at c.loop-p.p.long _ _ (sym c.in-Found.ensures) in
+    let n = taken c.args.chunk.now c.loop-p.p.at c.loop-p.p.long _ _ (sym c.in-Some.ensures) in
     omega (arith, n.onward, n.inside, ap (λ (p : Progress). p.at) c.past_line-p.ensures)
 
 pub loop-p-preserved : goal.loop-p-preserved
@@ -50,7 +50,7 @@ loop-p-preserved c =
     let s = c.args in
     let i = c.loop-p.invariant in
     let a = c.answer_command-a in
-    let n = taken s.chunk.now c.loop-p.p.at c.loop-p.p.long _ _ (sym c.in-Found.ensures) in (
+    let n = taken s.chunk.now c.loop-p.p.at c.loop-p.p.long _ _ (sym c.in-Some.ensures) in (
       a.auto.rows ∙ i.0,
       a.auto.trades ∙ i.1,
       a.auto.out ∙ i.2,

@@ -1,6 +1,6 @@
 -- The replies put so far answer the chunk up to the place that is reached; one more line is one more reply. Assumes nothing.
 -- ---- the way back: from a line to its turn, and from a turn to the start
-use Prim.Native.Nat.{◌+◌, ◌-◌}
+use Prim.Native.Nat.{◌+◌}
 use mathlib.Core.Path.{refl, sym, ap, subst, ◌∙◌}
 use native.Mathlib.Omega.{arith}
 use Rattle.text.proofs.Chunks.{Bounded, bounded, Taken, taken_line, none_taken}
@@ -11,22 +11,22 @@ use Rattle.floor_chunks.specs.declared.FloorProgress.{FloorProgress}
 use Rattle.floor_chunks.specs.Points.{point_of}
 use Rattle.floor_chunks.proofs.SoundFloors.{SoundFloor, floor_sound}
 use Rattle.floor_chunks.proofs.answer_lines.Goals as goal
-use Rattle.floor_chunks.proofs.answer_lines.Goals.{After-wish_after-w, In-Found}
+use Rattle.floor_chunks.proofs.answer_lines.Goals.{After-wish_after-w, In-Some}
 
 -- the bounds of the line, and what it asks for
 found :
-    (k : In-Found)
-    → Bounded k.args.chunk.now k.loop-p.p.at k.in-Found.start k.in-Found.end
-found k = bounded _ _ _ _ (sym k.line_from.ensures ∙ k.in-Found.is)
+    (k : In-Some)
+    → Bounded k.args.chunk.now k.loop-p.p.at k.in-Some.line.start k.in-Some.line.end
+found k = bounded _ _ _ _ (sym k.line_from.ensures ∙ k.in-Some.is)
 
 read :
     (w : After-wish_after-w)
     → Taken w.args.chunk.now w.loop-p.p.at wishes w.loop-p.p.long
-    w.wish_after-w.result (w.in-Found.end + 1)
+    w.wish_after-w.result (w.in-Some.line.end + 1)
 read w =
-    subst (λ (x : Wish). Taken w.args.chunk.now w.loop-p.p.at wishes w.loop-p.p.long x (w.in-Found.end + 1))
+    subst (λ (x : Wish). Taken w.args.chunk.now w.loop-p.p.at wishes w.loop-p.p.long x (w.in-Some.line.end + 1))
     (sym w.wish_after-w.ensures)
-    (taken_line w.args.chunk.now w.loop-p.p.at wishes w.loop-p.p.long _ _ (sym w.line_from.ensures ∙ w.in-Found.is))
+    (taken_line w.args.chunk.now w.loop-p.p.at wishes w.loop-p.p.long _ _ (sym w.line_from.ensures ∙ w.in-Some.is))
 
 pub loop-p-init : goal.loop-p-init
 loop-p-init c =

@@ -1,12 +1,12 @@
 -- A line of no form asks for nothing, any other for what its letter wants. Assumes nothing.
-use mathlib.Core.Path.{◌∙◌}
-use borrow.Author.Tests.{not-true, not-false}
-use Rattle.parsing.proofs.Forms.{asks_unsaid, asks_said}
+use mathlib.Core.Path.{ap, ◌∙◌}
+use Rattle.model.specs.Lines.{command_of}
+use Rattle.parsing.proofs.Forms.{asks_by}
 use Rattle.parsing.proofs.command_of.Goals as goal
 
-pub returns-then-not-form : goal.returns-then-not-form
-returns-then-not-form c = asks_unsaid _ c.form_of-form.ensures (not-true _ c.if-not-form.true)
+pub returns-in-Some : goal.returns-in-Some
+returns-in-Some c =
+    c.asked_for.ensures ∙ ap (command_of c.in-Some.form.letter) c.deref.ensures.0 ∙ asks_by _ _ c.in-Some.ensures
 
-pub returns : goal.returns
-returns c =
-    c.asked_for.ensures ∙ asks_said _ c.form_of-form.ensures (not-false _ c.if-not-form.false)
+pub returns-in-None : goal.returns-in-None
+returns-in-None c = asks_by _ _ c.in-None.ensures

@@ -3,7 +3,7 @@ use Rattle.convert_script.proofs.Turns.{at_outset, reached_on}
 use Rattle.convert_script.proofs.serving.run.Goals as goal
 
 pub loop-init : goal.loop-init
-loop-init g c = at_outset c.start-line.ensures
+loop-init g c = at_outset c.new-line.ensures
 
 pub loop-preserved : goal.loop-preserved
-loop-preserved g c = reached_on c.loop.invariant (c.turn-after.ensures c.if-after.false)
+loop-preserved g c = reached_on c.loop.invariant (c.turn.ensures c.if-not-turn.false)

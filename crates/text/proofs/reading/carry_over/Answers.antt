@@ -13,15 +13,15 @@ use Rattle.text.proofs.reading.carry_over.Goals as goal
 tail_size : (buf : List ℕ) (start end : ℕ) → start ≤ end → end ≤ length buf → length (take (end - start) (drop start buf)) ≡ end - start
 tail_size buf start end h k = length-take-le (end - start) (drop start buf) (rw length-drop (omega arith))
 
-pub returns-then-long : goal.returns-then-long
-returns-then-long c =
+pub returns-then-rest-gt-LONGEST_LINE : goal.returns-then-rest-gt-LONGEST_LINE
+returns-then-rest-gt-LONGEST_LINE c =
     let t = tail_size c.args.buf.now c.args.start c.args.end c.requires.0 c.requires.1 in
     ⊎_elim
     (λ w. carried_long _ _ _ _ w refl)
     (λ w. carried_grown _ _ _ _ w.0 (omega (arith, t, w.1)) refl)
-    c.then-long.either
+    c.if-rest-gt-LONGEST_LINE.either
 
-pub returns : goal.returns
-returns c =
+pub returns-else-rest-gt-LONGEST_LINE : goal.returns-else-rest-gt-LONGEST_LINE
+returns-else-rest-gt-LONGEST_LINE c =
     let t = tail_size c.args.buf.now c.args.start c.args.end c.requires.0 c.requires.1 in
-    carried_whole _ _ _ _ _ c.if-long.false (sym t) c.if-rest-gt-LONGEST_LINE.false c.to_front.ensures
+    carried_whole _ _ _ _ _ c.if-rest-gt-LONGEST_LINE.false.0 (sym t) c.if-rest-gt-LONGEST_LINE.false.1 c.to_front.ensures
