@@ -1,5 +1,6 @@
 -- The list that is written: the records that a file has one after the other are those of its events. Assumes nothing.
 use Rattle.std.proofs.Common.{Result, Ok, Err}
+use Rattle.std.specs.Result.{result_unwrap_or}
 use Prim.Native.Nat.{ℕ, zero, suc, ◌+◌, ◌*◌, ◌/◌, ◌≤◌, ◌<◌, min}
 use mathlib.Core.Path.{◌≡◌, refl, ap, ◌∙◌}
 use mathlib.Core.Bool.{Bool, true, false}
@@ -19,18 +20,11 @@ use Rattle.file_lists.specs.Lists.{record_at, listed, listed_from, fitting_recor
 use Rattle.file_lists.proofs.Placed.{few_records, placed}
 
 -- how many are written: none of a refused file, all that there are, or as many as there is room for
-module _ {found : Result ℕ ℕ} (room : ℕ) where
-  pub none_written : {n : ℕ} → found ≡ Err n → 0 ≡ fitting_records found room
-  unfolding fitting_records
-  none_written e = rw e
-
-  pub all_written : {n : ℕ} → found ≡ Ok n → n < room → n ≡ fitting_records found room
-  unfolding fitting_records
-  all_written e h = rw e (omega arith)
-
-  pub cut_written : {n : ℕ} → found ≡ Ok n → room ≤ n → room ≡ fitting_records found room
-  unfolding fitting_records
-  cut_written e h = rw e (omega arith)
+pub fits_written :
+    (found : Result ℕ ℕ) (room : ℕ) {all n : ℕ} → all ≡ result_unwrap_or found 0 → n ≡ min all room → n ≡ fitting_records found room
+unfolding fitting_records
+fits_written (Err m) room e f = omega arith
+fits_written (Ok m) room e f = rw e at f
 
 -- what stands at each place in turn is the row of what belongs there
 flat_from :
