@@ -32,7 +32,7 @@ module _
 
   pub steps :
       Steps (take n buf) h block after block'
-      (record { records = p.records; line = p.line; kept = c.kept; long = c.long; stops = false })
+      (record { records = p.records; line = p.line; kept = c.kept; long = c.long })
   steps =
       record {
         carry = carried.0;
@@ -72,7 +72,7 @@ unfolding waiting
 none_wait = record { count = refl; bytes = refl }
 
 pub at_outset :
-    (buf block : List ℕ) → block ≡ filling [] → Reached buf block (record { records = 0; line = 1; kept = 0; long = false; stops = false })
+    (buf block : List ℕ) → block ≡ filling [] → Reached buf block (record { records = 0; line = 1; kept = 0; long = false })
 unfolding outset after_chunks
 at_outset buf block e =
     record { chunks = []; holds = record { carry = refl; kept = refl; line = refl; waits = rw e none_wait } }

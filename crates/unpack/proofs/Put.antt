@@ -188,7 +188,7 @@ refusal_short (Some n) place = reply_fits 88 (n ∷ place ∷ [])
 is_refused : (n : ℕ) → is_some (some_refusal n) ≡ true → n ≡ 0 → ⊥
 is_refused n e z = false≢true (rw (eq-eqb n 0 z) at e)
 
-none_refused : (n : ℕ) → is_some (some_refusal n) ≡ false → n ≡ 0
+pub none_refused : (n : ℕ) → is_some (some_refusal n) ≡ false → n ≡ 0
 none_refused n e = go (eqb n 0) refl e
   where
     go : (t : Bool) → eqb n 0 ≡ t → is_some (cond {A = Option ℕ} t None (Some n)) ≡ false → n ≡ 0

@@ -40,4 +40,4 @@ carry_over-c-requires g c =
 pub returns : goal.returns
 returns g c =
     let v = c.carry_over-c in
-    λ e. steps c.args.buf.now v.new.buf c.args.n c.args.h c.pack_lines-p.result v.result c.pack_lines-p.ensures v.ensures
+    steps c.args.buf.now v.new.buf c.args.n c.args.h c.pack_lines-p.result v.result c.pack_lines-p.ensures v.ensures

@@ -1,5 +1,6 @@
 -- What was kept fits the buffer, and what was read stands after it, so that the chunk is served. Assumes nothing.
 use Rattle.std.proofs.Common.{arith, rules}
+use Rattle.std.proofs.lemmas.Option.{IfSome_then}
 use Rattle.rescue_file.proofs.Turns.{turned, reached_few}
 use Rattle.rescue_file.proofs.serving.turn.Goals as goal
 
@@ -13,4 +14,5 @@ finish-requires g c =
 
 pub returns-in-Bytes : goal.returns-in-Bytes
 returns-in-Bytes g c =
-    λ e. turned c.args.h c.args.buf.now c.fill-input.new.buf c.in-Bytes.n c.in-Bytes.ensures.filled (c.serve.ensures e)
+    IfSome_then c.serve.result c.serve.ensures
+    (λ r p. turned c.args.h c.args.buf.now c.fill-input.new.buf c.in-Bytes.n c.in-Bytes.ensures.filled p)
