@@ -49,18 +49,16 @@ fn serve<R, W: Write, E: Write>(
     requires { (n ≤ length buf.old) × (length buf.old ≡ 4096) × (length block.old ≡ 512) × (length out.old ≡ 84480) × (length said.old ≡ 180224) × (h.line ≤ 4_611_686_018_427_387_904) × (h.records ≤ 4_611_686_018_427_387_904) }
     ensures { IfSome result (λ r. Steps (take n buf.old) h block.old buf.new block.new r) }
 {
-    let p = pack_lines(h.records, h.line, h.long, &buf[..n], block, out, said);
+    let p = pack_lines(h.records, h.line, h.carry.long, &buf[..n], block, out, said);
     let filed = p.filed;
     let told = p.told;
     if !written(streams, &out[..filed], &said[..told]) {
         return None;
     }
-    let c = carry_over(buf, p.at, n, p.long);
     Some(AfterChunk {
         records: p.records,
         line: p.line,
-        kept: c.kept,
-        long: c.long,
+        carry: carry_over(buf, p.at, n, p.long),
     })
 }
 
@@ -75,12 +73,8 @@ fn finish<R, W: Write, E: Write>(
     requires block_len { (length block.old ≡ 512) × (length out.old ≡ 84480) × (length said.old ≡ 180224) }
     requires waits { Waits h block.old }
 {
-    let carry = Carry {
-        kept: h.kept,
-        long: h.long,
-    };
     let filed = put_last(h.records, block, out);
-    let told = put_end(carry, h.line, h.records, said);
+    let told = put_end(h.carry, h.line, h.records, said);
     written(streams, &out[..filed], &said[..told]);
 }
 
@@ -101,9 +95,7 @@ fn turn<R: Read, W: Write, E: Write>(
         tell(&mut streams.errors, b"pack: no script has so many lines\n");
         return None;
     }
-    let kept = h.kept;
-    let input = fill(&mut streams.input, buf, kept);
-    match input {
+    match fill(&mut streams.input, buf, h.carry.kept) {
         Input::Failed => {
             tell(
                 &mut streams.errors,
@@ -128,8 +120,10 @@ pub fn run<R: Read, W: Write, E: Write>(streams: &mut Streams<R, W, E>) {
     let mut h = AfterChunk {
         records: 0,
         line: 1,
-        kept: 0,
-        long: false,
+        carry: Carry {
+            kept: 0,
+            long: false,
+        },
     };
     for _ in 0..u64::MAX {
         let Some(next) = turn(
