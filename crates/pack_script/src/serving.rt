@@ -50,9 +50,7 @@ fn serve<R, W: Write, E: Write>(
     ensures { IfSome result (λ r. Steps (take n buf.old) h block.old buf.new block.new r) }
 {
     let p = pack_lines(h.records, h.line, h.carry.long, &buf[..n], block, out, said);
-    let filed = p.filed;
-    let told = p.told;
-    if !written(streams, &out[..filed], &said[..told]) {
+    if !written(streams, &out[..p.filed], &said[..p.told]) {
         return None;
     }
     Some(AfterChunk {

@@ -111,9 +111,8 @@ fn serve<R, W: Write, E: Write>(
 fn tell_rest<E: Write>(h: AfterChunk, errors: &mut E, buf: &[u8], said: &mut [u8])
     requires { (h.kept ≤ 1023) × (length buf.now ≡ 4096) × (length said.old ≡ 650) × (h.behind ≤ 4_611_686_018_427_387_904) }
 {
-    let kept = h.kept;
     let place = h.behind + 1;
-    let told = list_rest(&buf[..kept], place as u64, h.records, said);
+    let told = list_rest(&buf[..h.kept], place as u64, h.records, said);
     tell(errors, &said[..told]);
 }
 
@@ -159,9 +158,7 @@ fn turn<R: Read, W: Write, E: Write>(
         );
         return None;
     }
-    let kept = h.kept;
-    let input = fill(&mut streams.input, buf, kept);
-    match input {
+    match fill(&mut streams.input, buf, h.kept) {
         Input::Failed => {
             tell(
                 &mut streams.errors,

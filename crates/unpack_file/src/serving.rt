@@ -57,8 +57,7 @@ fn show<R, W: Write, E: Write>(
     let place = passed + done.good + 1;
     let mut said = note();
     let told = put_refused(done.refusal, place as u64, &mut said);
-    let next = done.next;
-    written(streams, &out[..next], &said[..told])
+    written(streams, &out[..done.next], &said[..told])
 }
 
 // Unpacks the first n bytes of the buffer, and keeps what cannot be judged yet at the buffer's front. None: the program stops here.
@@ -94,8 +93,7 @@ fn finish<R, W: Write, E: Write>(
 )
     requires { (h.kept ≤ 1023) × (length buf.now ≡ 4096) × (length out.old ≡ 25600) × (h.passed ≤ 4_611_686_018_427_387_904) }
 {
-    let kept = h.kept;
-    let done = unpack_rest(&buf[..kept], h.passed, out);
+    let done = unpack_rest(&buf[..h.kept], h.passed, out);
     show(streams, done, h.passed, out);
 }
 
@@ -114,9 +112,7 @@ fn turn<R: Read, W: Write, E: Write>(
         tell(&mut streams.errors, b"unpack: no file has so many blocks\n");
         return None;
     }
-    let kept = h.kept;
-    let input = fill(&mut streams.input, buf, kept);
-    match input {
+    match fill(&mut streams.input, buf, h.kept) {
         Input::Failed => {
             tell(
                 &mut streams.errors,
