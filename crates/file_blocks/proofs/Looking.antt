@@ -30,9 +30,6 @@ pub record Weighing (b : List ℕ) (sum i : ℕ) : Type 0 where
   pub rest : sum + weighed (suc i) (drop i (take 508 b)) ≡ weighed 1 (take 508 b)
 
 module _ (b : List ℕ) (long : length b ≡ 512) where
-  pub weighing_start : Weighing b 0 0
-  weighing_start = record { done = omega arith; small = omega arith; rest = omega arith }
-
   pub weighing_next :
       {sum i x : ℕ}
       → Weighing b sum i
@@ -69,9 +66,6 @@ pub record Checking (b : List ℕ) (n i : ℕ) : Type 0 where
   pub rest : all is_record (parts (take 20) 20 (n - i) (drop (8 + 20 * i) b)) ≡ all is_record (parts (take 20) 20 n (drop 8 b))
 
 module _ (b : List ℕ) (n : ℕ) where
-  pub checking_start : Checking b n 0
-  checking_start = let z : n - 0 ≡ n = omega arith in record { done = omega arith; rest = rw z }
-
   pub checking_no :
       {i : ℕ} {r : Bool}
       → Checking b n i
