@@ -26,10 +26,7 @@ pub fn has(map: &[u64], n: u64) -> bool
     ensures { result ≡ has_bit map.now n }
 {
     let at = (n / 64) as usize;
-    if map.len() <= at {
-        return false;
-    }
-    bit_of(map[at], n % 64)
+    at < map.len() && bit_of(map[at], n % 64)
 }
 
 // The map with n in it. A map that ends before n stays as it is.

@@ -1,4 +1,5 @@
 -- A whole file, block after block: how many records there are when so many blocks have passed. Assumes nothing.
+use Rattle.std.proofs.Common.{Ok, Err}
 use Prim.Native.Nat.{ℕ, zero, suc, ◌+◌, ◌-◌, ◌*◌, ◌/◌, ◌≤◌, ◌<◌}
 use mathlib.Core.Path.{◌≡◌, refl, sym, ap, ◌∙◌}
 use mathlib.Core.List.{List}
@@ -9,7 +10,6 @@ use borrow.Author.Tests.{ne_eqb, lt-ltb, le-ltb}
 use Rattle.model.specs.Refusals.{◌when◌, first_of}
 use Rattle.model.proofs.Rules.{given_by}
 use Rattle.octets.proofs.Parts.{length_parts}
-use Rattle.file_blocks.specs.declared.Block as Block
 use Rattle.file_records.specs.Records.{event_in}
 use Rattle.file_blocks.specs.Blocks.{records_in, events_in, block_rules, read_block}
 use Rattle.day_files.specs.Files.{Reading, whole_blocks, rules_from, read_rules, events_of, read_file, counted, count_file}
@@ -43,11 +43,11 @@ none_due :
     (file : List ℕ) {n : ℕ}
     → first_of (read_rules file) ≡ 0
     → n ≡ length (events_of (whole_blocks file) file)
-    → Block.TheVariants.Records n ≡ count_file file
+    → Ok n ≡ count_file file
 unfolding count_file counted
-none_due file e f = ap Block.TheVariants.Records f ∙ ap counted (sym (reads_none file e))
+none_due file e f = ap Ok f ∙ ap counted (sym (reads_none file e))
 
-one_due : (file : List ℕ) {n : ℕ} → first_of (read_rules file) ≡ n → (n ≡ 0 → ⊥) → Block.TheVariants.Refused n ≡ count_file file
+one_due : (file : List ℕ) {n : ℕ} → first_of (read_rules file) ≡ n → (n ≡ 0 → ⊥) → Err n ≡ count_file file
 unfolding count_file counted
 one_due file e k = ap counted (sym (reads_one file e k))
 
@@ -81,7 +81,7 @@ module _ (file : List ℕ) {whole total done : ℕ} (k : Counting file whole tot
   pub counting_next :
       {b : List ℕ} {count : ℕ}
       → b ≡ take (512 * done + 512 - 512 * done) (drop (512 * done) file)
-      → Block.TheVariants.Records count ≡ read_block whole (done + 1) b
+      → Ok count ≡ read_block whole (done + 1) b
       → (count ≤ 25) × Counting file whole (total + count) (done + 1)
   unfolding events_of events_in
   counting_next {b} {count} e f =
@@ -109,8 +109,8 @@ module _ (file : List ℕ) {whole total done : ℕ} (k : Counting file whole tot
   pub counting_refused :
       {b : List ℕ} {n : ℕ}
       → b ≡ take (512 * done + 512 - 512 * done) (drop (512 * done) file)
-      → Block.TheVariants.Refused n ≡ read_block whole (done + 1) b
-      → Block.TheVariants.Refused n ≡ count_file file
+      → Err n ≡ read_block whole (done + 1) b
+      → Err n ≡ count_file file
   counting_refused {b} {n} e f =
       let whole_block : 512 * done + 512 - 512 * done ≡ 512 = omega arith in
       let same : b ≡ take 512 (drop (512 * done) file) = rw whole_block at e in
@@ -138,12 +138,12 @@ module _ (file : List ℕ) {whole total done : ℕ} (k : Counting file whole tot
   tests_left : first_of (rules_from whole 0 (suc done) (drop (512 * done) file)) ≡ first_of (read_rules file)
   tests_left = rw none_left at k.tests
 
-  pub counting_tail : 512 * whole < length file → Block.TheVariants.Refused 26 ≡ count_file file
+  pub counting_tail : 512 * whole < length file → Err 26 ≡ count_file file
   counting_tail t =
       let some : 0 < length (drop (512 * done) file) = rw (length-drop, all_done) (omega arith) in
       one_due file (sym tests_left ∙ tail_tests whole (suc done) (drop (512 * done) file) some) (λ z. omega arith)
 
-  pub counting_end : length file ≤ 512 * whole → Block.TheVariants.Records total ≡ count_file file
+  pub counting_end : length file ≤ 512 * whole → Ok total ≡ count_file file
   unfolding whole_blocks events_of
   counting_end t =
       let none : length (drop (512 * done) file) ≤ 0 = rw (length-drop, all_done) (omega arith) in

@@ -1,10 +1,9 @@
 -- A day file: its blocks one after the other, written from events and read back.
-use Rattle.std.specs.Prelude.{ℕ, zero, suc, ◌+◌, ◌/◌, List, [], ◌∷◌, ◌++◌, length, take, drop, ltb, eqb, if◌then◌else◌}
+use Rattle.std.specs.Prelude.{Result, Ok, Err, ℕ, zero, suc, ◌+◌, ◌/◌, List, [], ◌∷◌, ◌++◌, length, take, drop, ltb, eqb, if◌then◌else◌}
 use Rattle.model.specs.Lists.{any}
 use Rattle.model.specs.Refusals.{Rule, ◌when◌, first_of}
 use Rattle.model.specs.declared.Event.{Event}
 use Rattle.file_records.specs.Records.{is_wide}
-use Rattle.file_blocks.specs.declared.Block as Block
 use Rattle.file_blocks.specs.Blocks.{block_bytes, events_in, block_rules}
 
 -- ---- written
@@ -61,9 +60,9 @@ read_file file =
 -- ---- what reading a whole file answers
 
 -- a file: how many records it has, or its first refusal
-unfoldable pub counted : Reading → Block.Block
-counted (Reading.Refused n) = Block.TheVariants.Refused n
-counted (Reading.Read es) = Block.TheVariants.Records (length es)
+unfoldable pub counted : Reading → Result ℕ ℕ
+counted (Reading.Refused n) = Err n
+counted (Reading.Read es) = Ok (length es)
 
-unfoldable pub count_file : List ℕ → Block.Block
+unfoldable pub count_file : List ℕ → Result ℕ ℕ
 count_file file = counted (read_file file)

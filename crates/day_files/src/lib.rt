@@ -4,28 +4,21 @@
 ghost use Rattle.std.specs.Prelude.{◌≡◌};
 ghost use Rattle.day_files.specs.Files.{count_file};
 
-use file_blocks::Block;
 use file_blocks::reading::read_block;
+use file_blocks::{BLOCK_BYTES, WRONG_LAYOUT};
 
 // How many records a file has, or its first refusal.
-pub fn count_records(file: &[u8]) -> Block
+pub fn count_records(file: &[u8]) -> Result<usize, u64>
     ensures { result ≡ count_file file.now }
 {
-    let whole = file.len() / 512;
+    let whole = file.len() / BLOCK_BYTES;
     let mut total: usize = 0;
-    let mut done: usize = 0;
-    while done < whole {
-        let at = 512 * done;
-        let end = at + 512;
-        let found = read_block(&file[at..end], done + 1, whole);
-        let Block::Records(count) = found else {
-            return found;
-        };
-        total += count;
-        done += 1;
+    for done in 0..whole {
+        let at = BLOCK_BYTES * done;
+        total += read_block(&file[at..at + BLOCK_BYTES], done + 1, whole)?;
     }
-    if 512 * whole < file.len() {
-        return Block::Refused(26);
+    if BLOCK_BYTES * whole < file.len() {
+        return Err(WRONG_LAYOUT);
     }
-    Block::Records(total)
+    Ok(total)
 }

@@ -1,4 +1,5 @@
 -- What the answer of reading a block says of the block. Assumes nothing.
+use Rattle.std.proofs.Common.{Ok, Err}
 use Prim.Native.Nat.{ℕ}
 use mathlib.Core.Path.{◌≡◌, refl, sym, ◌∙◌}
 use mathlib.Core.Bool.{Bool, true, false, cond}
@@ -8,13 +9,12 @@ use lib.ListN.{length}
 use lib.Dec.{eqb}
 use borrow.Author.Tests.{eqb-true, eqb-false, eq-eqb}
 use Rattle.model.specs.Refusals.{first_of}
-use Rattle.file_blocks.specs.declared.Block as Block
 use Rattle.file_blocks.specs.Blocks.{records_in, block_rules, read_block}
 
 -- a block with records passes its tests, and has so many
 pub says_records :
     (whole place n : ℕ) (b : List ℕ)
-    → Block.TheVariants.Records n ≡ read_block whole place b
+    → Ok n ≡ read_block whole place b
     → (first_of (block_rules whole place b) ≡ 0) × (n ≡ records_in b)
 unfolding read_block
 says_records whole place n b e = go (eqb (length b) 512) (eqb (first_of (block_rules whole place b)) 0) refl e
@@ -22,8 +22,8 @@ says_records whole place n b e = go (eqb (length b) 512) (eqb (first_of (block_r
     go :
         (s t : Bool)
         → eqb (first_of (block_rules whole place b)) 0 ≡ t
-        → Block.TheVariants.Records n
-        ≡ cond s (cond t (Block.TheVariants.Records (records_in b)) (Block.TheVariants.Refused (first_of (block_rules whole place b)))) (Block.TheVariants.Refused 26)
+        → Ok n
+        ≡ cond s (cond t (Ok (records_in b)) (Err (first_of (block_rules whole place b)))) (Err 26)
         → (first_of (block_rules whole place b) ≡ 0) × (n ≡ records_in b)
     go true true z f = (eqb-true _ 0 z, cc)
     go true false z f = let x : ◌≡◌ {A = ℕ} 0 1 = cc in absurd (omega arith)
@@ -33,7 +33,7 @@ says_records whole place n b e = go (eqb (length b) 512) (eqb (first_of (block_r
 pub says_refused :
     (whole place n : ℕ) (b : List ℕ)
     → length b ≡ 512
-    → Block.TheVariants.Refused n ≡ read_block whole place b
+    → Err n ≡ read_block whole place b
     → (n ≡ first_of (block_rules whole place b)) × (n ≡ 0 → ⊥)
 unfolding read_block
 says_refused whole place n b long e = go (eqb (first_of (block_rules whole place b)) 0) refl (rw (eq-eqb (length b) 512 long) at e)
@@ -41,8 +41,8 @@ says_refused whole place n b long e = go (eqb (first_of (block_rules whole place
     go :
         (t : Bool)
         → eqb (first_of (block_rules whole place b)) 0 ≡ t
-        → Block.TheVariants.Refused n
-        ≡ cond t (Block.TheVariants.Records (records_in b)) (Block.TheVariants.Refused (first_of (block_rules whole place b)))
+        → Err n
+        ≡ cond t (Ok (records_in b)) (Err (first_of (block_rules whole place b)))
         → (n ≡ first_of (block_rules whole place b)) × (n ≡ 0 → ⊥)
     go true z f = let x : ◌≡◌ {A = ℕ} 0 1 = cc in absurd (omega arith)
     go false z f =

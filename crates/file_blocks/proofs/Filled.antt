@@ -40,33 +40,6 @@ pub closed_is :
 unfolding closed
 closed_is number count b e s c f = f ∙ rw (c, s, e)
 
--- ---- zeros
-
-pub record Clearing (b₀ b : List ℕ) (i : ℕ) : Type 0 where
-  pub done : i ≤ length b₀
-  pub long : length b ≡ length b₀
-  pub zero : take i b ≡ replicate i 0
-
-module _ (b₀ : List ℕ) where
-  pub clearing_start : Clearing b₀ b₀ 0
-  clearing_start = record { done = omega arith; long = refl; zero = refl }
-
-  module _ {b : List ℕ} {i : ℕ} (k : Clearing b₀ b i) where
-    pub clearing_next : i < length b → Clearing b₀ (set b i 0) (i + 1)
-    clearing_next h =
-        record {
-          done = omega (arith, k.long);
-          long = length-set b i 0 ∙ k.long;
-          zero =
-              rw (← replicate-append-replicate {A = ℕ} i 1 0, add-one)
-              (take-suc-set b i 0 h ∙ ap (λ (l : List ℕ). l ++ (0 ∷ [])) k.zero);
-        }
-
-    pub clearing_end : length b ≤ i → b ≡ replicate (length b₀) 0
-    clearing_end h =
-        let e : i ≡ length b₀ = omega (arith, k.done, k.long) in
-        sym (take_all i b h) ∙ k.zero ∙ ap (λ (n : ℕ). replicate n 0) e
-
 -- ---- a block
 
 check_same : (l m : List ℕ) → take 508 l ≡ m → length m ≡ 508 → check_of l ≡ check_of m
@@ -76,10 +49,6 @@ check_same l m e long = rw (e, take_all 508 m (omega arith))
 pub filling_none : replicate 512 0 ≡ filling []
 unfolding filling flat
 filling_none = refl
-
-pub length_filling : (es : List Event) → length (filling es) ≡ 512
-unfolding filling
-length_filling es = length-sets (replicate 512 0) 8 (flat record_bytes es) ∙ length-replicate {A = ℕ} 512 0
 
 pub filling_more : (es : List Event) (e : Event) → sets (filling es) (8 + 20 * length es) (record_bytes e) ≡ filling (es ++ (e ∷ []))
 unfolding filling flat

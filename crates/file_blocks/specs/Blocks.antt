@@ -1,12 +1,11 @@
 -- A block of 512 bytes. 0 to 3: block number; 4 and 5: records in the block; 6 and 7: zero; 8 to 507: 25 places of 20 bytes;
 -- 508 to 511: the check. All numbers have their least byte first.
-use Rattle.std.specs.Prelude.{ℕ, suc, ◌+◌, ◌-◌, ◌*◌, ◌%◌, Bool, not, ◌&&◌, ◌||◌, List, [], ◌∷◌, ◌++◌, length, take, drop, replicate, leb, eqb, if◌then◌else◌}
+use Rattle.std.specs.Prelude.{Result, Ok, Err, ℕ, suc, ◌+◌, ◌-◌, ◌*◌, ◌%◌, Bool, not, ◌&&◌, ◌||◌, List, [], ◌∷◌, ◌++◌, length, take, drop, replicate, leb, eqb, if◌then◌else◌}
 use Rattle.std.proofs.lemmas.List.Edits.{sets}
 use Rattle.model.specs.Lists.{all}
 use Rattle.model.specs.Refusals.{Rule, ◌when◌, first_of}
 use Rattle.octets.specs.Numbers.{worth, digits, parts, flat}
 use Rattle.model.specs.declared.Event.{Event}
-use Rattle.file_blocks.specs.declared.Block as Block
 use Rattle.file_records.specs.Records.{byte, four_at, record_bytes, event_in, is_record, all_zero}
 
 -- the sum of position times byte
@@ -79,9 +78,9 @@ block_rules whole place b =
     ∷ []
 
 -- a block of a file: how many records it has, or its first refusal; what is not 512 bytes long is no block
-unfoldable pub read_block : ℕ → ℕ → List ℕ → Block.Block
+unfoldable pub read_block : ℕ → ℕ → List ℕ → Result ℕ ℕ
 read_block whole place b =
     let n : ℕ = first_of (block_rules whole place b) in
     if eqb (length b) 512
-    then (if eqb n 0 then Block.TheVariants.Records (records_in b) else Block.TheVariants.Refused n)
-    else Block.TheVariants.Refused 26
+    then (if eqb n 0 then Ok (records_in b) else Err n)
+    else Err 26

@@ -4,9 +4,11 @@
 pub mod reading;
 pub mod writing;
 
-// What reading one block, or a whole file, finds: how many records it has, or the first refusal.
-#[derive(Clone, Copy)]
-pub enum Block {
-    Records(usize),
-    Refused(u64),
-}
+pub const BLOCK_BYTES: usize = 512;
+
+// What a block is refused with: its check, its number, or any other break of its layout.
+pub const WRONG_CHECK: u64 = 24;
+
+pub const WRONG_NUMBER: u64 = 25;
+
+pub const WRONG_LAYOUT: u64 = 26;

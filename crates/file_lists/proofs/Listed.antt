@@ -1,4 +1,6 @@
 -- The list that is written: the records that a file has one after the other are those of its events. Assumes nothing.
+use Rattle.std.proofs.Common.{Result, Ok, Err}
+use Rattle.std.specs.Result.{result_unwrap_or}
 use Prim.Native.Nat.{ℕ, zero, suc, ◌+◌, ◌*◌, ◌/◌, ◌≤◌, ◌<◌, min}
 use mathlib.Core.Path.{◌≡◌, refl, ap, ◌∙◌}
 use mathlib.Core.Bool.{Bool, true, false}
@@ -13,24 +15,16 @@ use Rattle.model.specs.declared.Event.TheVariants.{Clock}
 use Rattle.octets.specs.Numbers.{AllBytes, flat}
 use Rattle.records.specs.Layout.{over}
 use Rattle.file_records.specs.Records.{record_bytes}
-use Rattle.file_blocks.specs.declared.Block as Block
 use Rattle.day_files.specs.Files.{Reading, read_file, counted, count_file}
 use Rattle.file_lists.specs.Lists.{record_at, listed, listed_from, fitting_records}
 use Rattle.file_lists.proofs.Placed.{few_records, placed}
 
 -- how many are written: none of a refused file, all that there are, or as many as there is room for
-module _ {found : Block.Block} (room : ℕ) where
-  pub none_written : {n : ℕ} → found ≡ Block.TheVariants.Refused n → 0 ≡ fitting_records found room
-  unfolding fitting_records
-  none_written e = rw e
-
-  pub all_written : {n : ℕ} → found ≡ Block.TheVariants.Records n → n < room → n ≡ fitting_records found room
-  unfolding fitting_records
-  all_written e h = rw e (omega arith)
-
-  pub cut_written : {n : ℕ} → found ≡ Block.TheVariants.Records n → room ≤ n → room ≡ fitting_records found room
-  unfolding fitting_records
-  cut_written e h = rw e (omega arith)
+pub fits_written :
+    (found : Result ℕ ℕ) (room : ℕ) {all n : ℕ} → all ≡ result_unwrap_or found 0 → n ≡ min all room → n ≡ fitting_records found room
+unfolding fitting_records
+fits_written (Err m) room e f = omega arith
+fits_written (Ok m) room e f = rw e at f
 
 -- what stands at each place in turn is the row of what belongs there
 flat_from :
@@ -61,9 +55,9 @@ take_min xs n = go (leb (length xs) n) refl
 
 module _ (file list : List ℕ) (bytes : AllBytes file) where
   -- the records that are written are there in the file, and have room in the list
-  pub written_inside : {found : Block.Block} {n : ℕ} → found ≡ count_file file → n ≡ fitting_records found (length list / 20) → (n ≤ 25 * (length file / 512)) × (20 * n ≤ length list)
+  pub written_inside : {found : Result ℕ ℕ} {n : ℕ} → found ≡ count_file file → n ≡ fitting_records found (length list / 20) → (n ≤ 25 * (length file / 512)) × (20 * n ≤ length list)
   unfolding count_file counted fitting_records
-  written_inside {found} {n} e w = go (read_file file) refl (w ∙ ap (λ (b : Block.Block). fitting_records b (length list / 20)) e)
+  written_inside {found} {n} e w = go (read_file file) refl (w ∙ ap (λ (b : Result ℕ ℕ). fitting_records b (length list / 20)) e)
     where
       go :
           (r : Reading)
@@ -75,13 +69,13 @@ module _ (file list : List ℕ) (bytes : AllBytes file) where
 
   -- and they are those of the events that are read; none is written of a refused file
   pub list_written :
-      {found : Block.Block} {n : ℕ} {list' : List ℕ}
+      {found : Result ℕ ℕ} {n : ℕ} {list' : List ℕ}
       → found ≡ count_file file
       → n ≡ fitting_records found (length list / 20)
       → list' ≡ over (flat (record_at file) (from 0 n)) list
       → list' ≡ listed_from (read_file file) list
   unfolding count_file counted fitting_records listed_from listed over flat from
-  list_written {found} {n} {list'} e w put = go (read_file file) refl (w ∙ ap (λ (b : Block.Block). fitting_records b (length list / 20)) e)
+  list_written {found} {n} {list'} e w put = go (read_file file) refl (w ∙ ap (λ (b : Result ℕ ℕ). fitting_records b (length list / 20)) e)
     where
       go :
           (r : Reading)

@@ -1,10 +1,9 @@
 -- The records of a day file as one list of bytes, 20 for each, and what reading a file leaves in such a list.
-use Rattle.std.specs.Prelude.{ℕ, ◌+◌, ◌*◌, ◌/◌, ◌%◌, min, List, [], ◌∷◌, length, take, drop}
+use Rattle.std.specs.Prelude.{Result, Ok, Err, ℕ, ◌+◌, ◌*◌, ◌/◌, ◌%◌, min, List, [], ◌∷◌, length, take, drop}
 use Rattle.model.specs.declared.Event.{Event}
 use Rattle.octets.specs.Numbers.{flat}
 use Rattle.records.specs.Layout.{over}
 use Rattle.file_records.specs.Records.{record_bytes}
-use Rattle.file_blocks.specs.declared.Block as Block
 use Rattle.day_files.specs.Files.{Reading}
 
 -- ---- the list
@@ -21,9 +20,9 @@ listed_from (Reading.Read es) list = listed es list
 -- ---- the reply
 
 -- the refusal, 0 where the file is read; and how many records it has, 0 where it is refused
-unfoldable pub found_numbers : Block.Block → List ℕ
-found_numbers (Block.TheVariants.Refused n) = n ∷ 0 ∷ []
-found_numbers (Block.TheVariants.Records n) = 0 ∷ n ∷ []
+unfoldable pub found_numbers : Result ℕ ℕ → List ℕ
+found_numbers (Err n) = n ∷ 0 ∷ []
+found_numbers (Ok n) = 0 ∷ n ∷ []
 
 -- ---- on the way
 
@@ -35,6 +34,6 @@ unfoldable pub record_at : List ℕ → ℕ → List ℕ
 record_at file i = take 20 (drop (place_of i) file)
 
 -- how many records are written where there is room for so many
-unfoldable pub fitting_records : Block.Block → ℕ → ℕ
-fitting_records (Block.TheVariants.Refused n) room = 0
-fitting_records (Block.TheVariants.Records n) room = min n room
+unfoldable pub fitting_records : Result ℕ ℕ → ℕ → ℕ
+fitting_records (Err n) room = 0
+fitting_records (Ok n) room = min n room

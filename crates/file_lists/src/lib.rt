@@ -6,10 +6,9 @@ ghost use Rattle.model.specs.Lists.{from};
 ghost use Rattle.octets.specs.Numbers.{flat};
 ghost use Rattle.records.specs.Layout.{over};
 ghost use Rattle.day_files.specs.Files.{read_file, count_file};
-ghost use Rattle.file_lists.specs.Lists.{record_at, listed_from, fitting_records, found_numbers};
+ghost use Rattle.file_lists.specs.Lists.{record_at, listed_from, found_numbers};
 
 use day_files::count_records;
-use file_blocks::Block;
 use octets::put_bytes;
 
 const RECORD_BYTES: usize = 20;
@@ -19,41 +18,28 @@ fn copy_records(file: &[u8], list: &mut [u8], count: usize)
     requires { (count ≤ 25 * (length file.now / 512)) × (20 * count ≤ length list.old) }
     ensures { list.new ≡ over (flat (record_at file.now) (from 0 count)) list.old }
 {
-    let mut i: usize = 0;
-    while i < count {
+    for i in 0..count {
         let at = 512 * (i / 25) + 8 + 20 * (i % 25);
-        let end = at + RECORD_BYTES;
-        put_bytes(&mut *list, RECORD_BYTES * i, &file[at..end]);
-        i += 1;
+        put_bytes(&mut *list, RECORD_BYTES * i, &file[at..at + RECORD_BYTES]);
     }
 }
 
-// How many records are written where there is room for so many: none of a refused file.
-fn fitting_records(found: Block, room: usize) -> usize
-    ensures { result ≡ fitting_records found room }
-{
-    let Block::Records(count) = found else {
-        return 0;
-    };
-    if count < room { count } else { room }
-}
-
 // Reads a file and writes its records to the list's front, as many whole ones as fit. Nothing is written before the whole file has passed.
-pub fn list_records(file: &[u8], list: &mut [u8]) -> Block
+pub fn list_records(file: &[u8], list: &mut [u8]) -> Result<usize, u64>
     ensures { (result ≡ count_file file.now) × (list.new ≡ listed_from (read_file file.now) list.old) }
 {
     let found = count_records(file);
-    let count = fitting_records(found, list.len() / RECORD_BYTES);
+    let count = found.unwrap_or(0).min(list.len() / RECORD_BYTES);
     copy_records(file, list, count);
     found
 }
 
 // The numbers of a reply that tells what was found.
-pub fn found_numbers(found: Block) -> [u64; 2]
+pub fn found_numbers(found: Result<usize, u64>) -> [u64; 2]
     ensures { result ≡ found_numbers found }
 {
     match found {
-        Block::Records(count) => [0, count as u64],
-        Block::Refused(number) => [number, 0],
+        Ok(count) => [0, count as u64],
+        Err(number) => [number, 0],
     }
 }

@@ -25,6 +25,13 @@ pub wide_kind : (a : Asked) {e : Event} → e ≡ Order a → a.side ≤ 255 →
 unfolding is_wide
 wide_kind a e h = rw (e, le-ltb 255 a.side h)
 
+pub no_order : (e : Event) → ((a : Asked) → e ≡ Order a → ⊥) → false ≡ is_wide e
+unfolding is_wide
+no_order (Open close mark) h = refl
+no_order (Clock time) h = refl
+no_order (Order a) h = absurd (h a refl)
+no_order (Cancel account number) h = refl
+
 -- a side and an order kind that are not wide are bytes
 pub narrow : (a : Asked) {e : Event} → e ≡ Order a → is_wide e ≡ false → (a.side ≤ 255) × (a.kind ≤ 255)
 unfolding is_wide

@@ -3,3 +3,12 @@
 
 pub mod reading;
 pub mod writing;
+
+// The kinds of a record, its first byte.
+pub const OPEN: u8 = 1;
+
+pub const CLOCK: u8 = 2;
+
+pub const ORDER: u8 = 3;
+
+pub const CANCEL: u8 = 4;

@@ -1,4 +1,5 @@
 -- Blocks one after the other: one that passes is counted, and the first that does not ends the walk. Assumes nothing.
+use Rattle.std.proofs.Common.{Ok, Err}
 use Prim.Native.Nat.{ℕ, zero, suc, ◌+◌, ◌-◌, ◌*◌, ◌≤◌, ◌<◌}
 use mathlib.Core.Path.{◌≡◌, refl, sym, ap, ◌∙◌}
 use mathlib.Core.Bool.{Bool, true, false}
@@ -12,7 +13,6 @@ use Rattle.model.specs.declared.Event.{Event}
 use Rattle.model.specs.Refusals.{first_of}
 use Rattle.octets.proofs.Parts.{length_parts}
 use Rattle.file_records.specs.Records.{event_in}
-use Rattle.file_blocks.specs.declared.Block as Block
 use Rattle.file_blocks.specs.Blocks.{records_in, events_in, block_rules, read_block}
 use Rattle.file_blocks.proofs.Unique.{Passed, passed, counts}
 use Rattle.file_blocks.proofs.Answered.{says_records, says_refused}
@@ -88,7 +88,7 @@ module _ (whole blocks place : ℕ) (file : List ℕ) {good : ℕ} (w : Walking 
 
       pub walking_pass :
           {count : ℕ}
-          → Block.TheVariants.Records count ≡ read_block whole (place + good) b
+          → Ok count ≡ read_block whole (place + good) b
           → Walking whole blocks place file (good + 1)
           × (count ≤ 25)
           × (count ≡ records_in b)
@@ -115,14 +115,14 @@ module _ (whole blocks place : ℕ) (file : List ℕ) {good : ℕ} (w : Walking 
 
       pub walking_refused :
           {n : ℕ}
-          → Block.TheVariants.Refused n ≡ read_block whole (place + good) b
-          → (good ≡ good_from whole blocks place file) × (n ≡ refusal_from whole blocks place file)
+          → Err n ≡ read_block whole (place + good) b
+          → (good ≡ good_from whole blocks place file) × (n ≡ refusal_from whole blocks place file) × (n ≡ 0 → ⊥)
       walking_refused {n} f =
           let s = says_refused whole (place + good) n here here_long (rw same at f) in
           let not_zero : first_of (block_rules whole (place + good) here) ≡ 0 → ⊥ = λ z. s.1 (s.0 ∙ z) in
           let left : good_from whole blocks place file ≡ good + 0 =
           w.left ∙ ap (λ (m : ℕ). good + m) (rw one_more (good_stop whole (blocks - (good + 1)) (place + good) (drop (512 * good) file) not_zero)) in
-          (omega arith, s.0 ∙ sym (w.refusal ∙ rw one_more (refusal_stop whole (blocks - (good + 1)) (place + good) (drop (512 * good) file) not_zero)))
+          (omega arith, s.0 ∙ sym (w.refusal ∙ rw one_more (refusal_stop whole (blocks - (good + 1)) (place + good) (drop (512 * good) file) not_zero)), s.1)
 
 -- a block has as many events as records
 pub events_count : (b : List ℕ) → length (events_in b) ≡ records_in b

@@ -1,5 +1,5 @@
 -- The blocks of a file before the first refused one, and that one's refusal; of a whole file, and from the middle of it on.
-use Rattle.std.specs.Prelude.{ℕ, zero, suc, ◌+◌, ◌-◌, ◌/◌, List, length, take, drop, eqb, if◌then◌else◌}
+use Rattle.std.specs.Prelude.{ℕ, zero, suc, ◌+◌, ◌-◌, ◌/◌, Option, None, Some, List, length, take, drop, eqb, if◌then◌else◌}
 use Rattle.model.specs.Refusals.{first_of}
 use Rattle.file_blocks.specs.Blocks.{block_rules}
 use Rattle.day_files.specs.Files.{whole_blocks, rules_from}
@@ -18,6 +18,10 @@ refusal_from whole zero place rest = 0
 refusal_from whole (suc blocks) place rest =
     let n : ℕ = first_of (block_rules whole place (take 512 rest)) in
     if eqb n 0 then refusal_from whole blocks (suc place) (drop 512 rest) else n
+
+-- the refusal that a number tells: 0 is none
+abbrev pub some_refusal : ℕ → Option ℕ
+some_refusal n = if eqb n 0 then None else Some n
 
 unfoldable pub good_blocks : List ℕ → ℕ
 good_blocks file = good_from (whole_blocks file) (whole_blocks file) 1 file

@@ -5,15 +5,15 @@
 ghost use Rattle.std.specs.Prelude.{◌+◌, ◌*◌, ◌≤◌, length};
 ghost use Rattle.fronts.specs.Looking.{Looks};
 
-use file_blocks::Block;
+use file_blocks::BLOCK_BYTES;
 use file_blocks::reading::read_block;
 
-// How many blocks are good, how many records they have, and the first refusal, 0 where there is none.
+// How many blocks are good, how many records they have, and the first refusal, if there is one.
 #[derive(Clone, Copy)]
 pub struct Looked {
     pub good: usize,
     pub records: usize,
-    pub refusal: u64,
+    pub refusal: Option<u64>,
 }
 
 // Looks at so many blocks, from a place on, of a file that has so many whole ones.
@@ -21,28 +21,23 @@ pub fn look(file: &[u8], whole: usize, blocks: usize, place: usize) -> Looked
     requires { (512 * blocks ≤ length file.now) × (place + blocks ≤ 9_223_372_036_854_775_808) }
     ensures { Looks whole blocks place file.now result }
 {
-    let mut seen = Looked {
-        good: 0,
-        records: 0,
-        refusal: 0,
-    };
-    while seen.good < blocks {
-        let at = 512 * seen.good;
-        let end = at + 512;
-        let found = read_block(&file[at..end], place + seen.good, whole);
-        match found {
-            Block::Refused(n) => {
-                seen.refusal = n;
-                return seen;
-            }
-            Block::Records(count) => {
-                seen = Looked {
-                    good: seen.good + 1,
-                    records: seen.records + count,
-                    refusal: 0,
+    let mut records: usize = 0;
+    for good in 0..blocks {
+        let at = BLOCK_BYTES * good;
+        match read_block(&file[at..at + BLOCK_BYTES], place + good, whole) {
+            Ok(count) => records += count,
+            Err(refusal) => {
+                return Looked {
+                    good,
+                    records,
+                    refusal: Some(refusal),
                 };
             }
         }
     }
-    seen
+    Looked {
+        good: blocks,
+        records,
+        refusal: None,
+    }
 }

@@ -32,10 +32,6 @@ outcome line es cs =
 same : {f g t u : List ℕ} → f ≡ g → t ≡ u → ◌≡◌ {A = Packed} (record { file = f; told = t }) (record { file = g; told = u })
 same e f = rw (e, f)
 
-outcome_none : (line : ℕ) (es : List Event) → ◌≡◌ {A = Packed} (outcome line es []) (record { file = last_block es; told = reply 75 (length es ∷ []) })
-unfolding stored_of told_from
-outcome_none line es = same (rw (new_none es, append-nil)) (rw append-nil)
-
 outcome_more :
     (line : ℕ) (es : List Event) (a b : List Command)
     → outcome line es (a ++ b)

@@ -3,6 +3,7 @@ ghost use Rattle.std.specs.Prelude.{◌≡◌, false, [], ◌∷◌, ◌+◌, �
 ghost use Rattle.file_records.specs.Records.{is_wide};
 ghost use Rattle.pack.specs.Promises.{Stores};
 
+use file_blocks::BLOCK_BYTES;
 use file_blocks::writing::{add_record, clear, close};
 use model::Event;
 use octets::put_bytes;
@@ -20,5 +21,5 @@ pub fn store(e: Event, records: u64, block: &mut [u8], out: &mut [u8], at: usize
     close(&mut *block, records / 25 + 1, 25);
     put_bytes(out, at, block);
     clear(block);
-    at + 512
+    at + BLOCK_BYTES
 }

@@ -10,6 +10,7 @@ ghost use Rattle.pack.specs.Promises.{Holds, start_of, left_out, stored_then, Pa
 
 use crate::Packing;
 use crate::events::store;
+use file_blocks::BLOCK_BYTES;
 use file_blocks::writing::close;
 use file_records::writing::is_wide;
 use model::Command;
@@ -32,12 +33,11 @@ fn left_out(p: Packing, place: usize, told: usize) -> Packing
     ensures { result ≡ left_out p place told }
 {
     Packing {
-        records: p.records,
         line: p.line + 1,
         at: place,
         long: false,
-        filed: p.filed,
         told,
+        ..p
     }
 }
 
@@ -52,7 +52,7 @@ fn stored(p: Packing, place: usize, filed: usize) -> Packing
         at: place,
         long: false,
         filed,
-        told: p.told,
+        ..p
     }
 }
 
@@ -127,7 +127,7 @@ pub fn put_last(records: u64, block: &mut [u8], out: &mut [u8]) -> usize
     }
     close(&mut *block, records / 25 + 1, count);
     put_bytes(out, 0, block);
-    512
+    BLOCK_BYTES
 }
 
 // A line that is left is unended, and so it is malformed.

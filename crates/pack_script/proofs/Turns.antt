@@ -22,17 +22,17 @@ use Rattle.pack_script.specs.Serving.{after_chunks, Holds, Reached, Waits, Turne
 
 module _
     (buf after : List ℕ) (n : ℕ) (h : AfterChunk) (p : Packing) (c : Carry) {block out said block' out' said' : List ℕ}
-    (k : Promises.PacksChunk (take n buf) (Promises.start_of h.records h.line h.long) block out said p block' out' said')
+    (k : Promises.PacksChunk (take n buf) (Promises.start_of h.records h.line h.carry.long) block out said p block' out' said')
     (o : CarriedOver buf (take (n - p.at) (drop p.at buf)) p.long after c) where
-  carried : (c ≡ carry_after h.long (take n buf)) × (take c.kept after ≡ kept_after h.long (take n buf))
+  carried : (c ≡ carry_after h.carry.long (take n buf)) × (take c.kept after ≡ kept_after h.carry.long (take n buf))
   carried =
-      carried_after buf after p.long c h.long (take n buf) (take (n - p.at) (drop p.at buf)) o
+      carried_after buf after p.long c h.carry.long (take n buf) (take (n - p.at) (drop p.at buf)) o
       (sym (drop_take p.at n buf) ∙ sym k.tail)
       (sym k.still)
 
   pub steps :
       Steps (take n buf) h block after block'
-      (record { records = p.records; line = p.line; kept = c.kept; long = c.long; stops = false })
+      (record { records = p.records; line = p.line; carry = c })
   steps =
       record {
         carry = carried.0;
@@ -44,7 +44,7 @@ module _
 -- ---- a turn
 
 module _ (h : AfterChunk) (before buf block : List ℕ) (n : ℕ)
-    (f : (h.kept ≤ n) × (n ≤ length buf) × (take h.kept buf ≡ take h.kept before)) where
+    (f : (h.carry.kept ≤ n) × (n ≤ length buf) × (take h.carry.kept buf ≡ take h.carry.kept before)) where
   pub turned :
       {buf' block' : List ℕ} {r : AfterChunk}
       → Steps (take n buf) h block buf' block' r
@@ -52,11 +52,11 @@ module _ (h : AfterChunk) (before buf block : List ℕ) (n : ℕ)
   unfolding after_chunk
   turned t =
       record {
-        chunk = read h.kept n buf;
+        chunk = read h.carry.kept n buf;
         holds = λ s k.
-            let l : h.long ≡ s.carry.long = ap (λ (c : Carry). c.long) k.carry in
-            let w : take n buf ≡ s.kept ++ read h.kept n buf =
-            read_on_lem h.kept n before buf f ∙ ap (λ (b : List ℕ). b ++ read h.kept n buf) k.kept in
+            let l : h.carry.long ≡ s.carry.long = ap (λ (c : Carry). c.long) k.carry in
+            let w : take n buf ≡ s.kept ++ read h.carry.kept n buf =
+            read_on_lem h.carry.kept n before buf f ∙ ap (λ (b : List ℕ). b ++ read h.carry.kept n buf) k.kept in
             record {
               carry = rw (← l, ← w) t.carry;
               kept = rw (← l, ← w) t.kept;
@@ -72,7 +72,7 @@ unfolding waiting
 none_wait = record { count = refl; bytes = refl }
 
 pub at_outset :
-    (buf block : List ℕ) → block ≡ filling [] → Reached buf block (record { records = 0; line = 1; kept = 0; long = false; stops = false })
+    (buf block : List ℕ) → block ≡ filling [] → Reached buf block (record { records = 0; line = 1; carry = record { kept = 0; long = false } })
 unfolding outset after_chunks
 at_outset buf block e =
     record { chunks = []; holds = record { carry = refl; kept = refl; line = refl; waits = rw e none_wait } }
@@ -105,7 +105,7 @@ unfolding outset
 first_few = zero-le
 
 module _ {buf block : List ℕ} {h : AfterChunk} (c : Reached buf block h) where
-  pub reached_few : h.kept ≤ 79
+  pub reached_few : h.carry.kept ≤ 79
   reached_few = rw (ap (λ (k : Carry). k.kept) c.holds.carry) (still_few c.chunks outset first_few)
 
   pub reached_waits : Waits h block

@@ -15,8 +15,8 @@ after_chunks s (b ∷ bs) = after_chunks (after_chunk s b) bs
 
 -- the program's memory holds what goes on
 pub record Holds (s : Between) (buf block : List ℕ) (h : AfterChunk) : Type 0 where
-  pub carry : record { kept = h.kept; long = h.long } ≡ s.carry
-  pub kept : take h.kept buf ≡ s.kept
+  pub carry : h.carry ≡ s.carry
+  pub kept : take h.carry.kept buf ≡ s.kept
   pub line : h.line ≡ s.line
   pub waits : Promises.Holds s.events h.records block
 
@@ -37,10 +37,10 @@ pub record Turned (buf block : List ℕ) (h : AfterChunk) (buf' block' : List �
 
 -- what a chunk asks for is stored, and its tail is carried over
 pub record Steps (chunk : List ℕ) (h : AfterChunk) (block buf' block' : List ℕ) (r : AfterChunk) : Type 0 where
-  pub carry : record { kept = r.kept; long = r.long } ≡ carry_after h.long chunk
-  pub kept : take r.kept buf' ≡ kept_after h.long chunk
-  pub line : r.line ≡ h.line + length (asks_of commands h.long (lines_of chunk))
+  pub carry : r.carry ≡ carry_after h.carry.long chunk
+  pub kept : take r.carry.kept buf' ≡ kept_after h.carry.long chunk
+  pub line : r.line ≡ h.line + length (asks_of commands h.carry.long (lines_of chunk))
   pub waits :
       (es : List Event)
       → Promises.Holds es h.records block
-      → Promises.Holds (es ++ stored_of (asks_of commands h.long (lines_of chunk))) r.records block'
+      → Promises.Holds (es ++ stored_of (asks_of commands h.carry.long (lines_of chunk))) r.records block'

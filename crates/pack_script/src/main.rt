@@ -6,16 +6,14 @@ mod memory;
 mod serving;
 
 use streams::Streams;
+use text::Carry;
 
-// What goes from chunk to chunk: how many records are stored, the number of the next line, the carry, and whether the program
-// stops here.
+// What goes from chunk to chunk: how many records are stored, the number of the next line, and the carry.
 #[derive(Clone, Copy)]
 pub struct AfterChunk {
     pub records: u64,
     pub line: u64,
-    pub kept: usize,
-    pub long: bool,
-    pub stops: bool,
+    pub carry: Carry,
 }
 
 fn main(rt: HostRuntime) {

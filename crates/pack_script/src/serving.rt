@@ -1,7 +1,7 @@
 // Chunks read from standard input, their full blocks written to standard output, and what is not stored told on standard error. What is
 // read and written is said of streams over memory (`Reads`, `Appends`), as nothing can say it of real ones; what lies between is the
 // definitions' step from chunk to chunk.
-ghost use Rattle.std.specs.Prelude.{◌≡◌, true, false, ◌≤◌, length, take};
+ghost use Rattle.std.specs.Prelude.{◌≡◌, true, IfSome, ◌≤◌, length, take};
 ghost use Rattle.std.specs.Io.KnownBytes.{Appends};
 ghost use Rattle.pack_script.specs.Serving.{Waits, Steps, Reached, Turned};
 
@@ -16,21 +16,6 @@ use text::reading::carry_over;
 // More lines than any script has.
 const MOST_LINES: u64 = 4_611_686_018_427_387_904;
 
-fn stopped(h: AfterChunk) -> AfterChunk
-    ensures { result.stops ≡ true }
-{
-    let mut r = h;
-    r.stops = true;
-    r
-}
-
-fn fail<E: Write>(errors: &mut E, text: &[u8], h: AfterChunk) -> AfterChunk
-    ensures { result.stops ≡ true }
-{
-    tell(errors, text);
-    stopped(h)
-}
-
 // Writes blocks out and tells what is told, or says that it cannot.
 fn written<R, W: Write, E: Write>(
     streams: &mut Streams<R, W, E>,
@@ -40,18 +25,18 @@ fn written<R, W: Write, E: Write>(
     ensures written { result ≡ true → Appends (W.contents streams.old.output) (W.contents streams.new.output) blocks.now }
     ensures input { streams.new.input ≡ streams.old.input }
 {
-    if !write_or_tell(
+    let is_written = write_or_tell(
         &mut *streams,
         blocks,
         b"pack: standard output cannot be written\n",
-    ) {
-        return false;
+    );
+    if is_written {
+        tell(&mut streams.errors, told);
     }
-    tell(&mut streams.errors, told);
-    true
+    is_written
 }
 
-// Packs the first n bytes of the buffer as a chunk, and keeps its tail at the buffer's front.
+// Packs the first n bytes of the buffer as a chunk, and keeps its tail at the buffer's front. None: the program stops here.
 fn serve<R, W: Write, E: Write>(
     h: AfterChunk,
     streams: &mut Streams<R, W, E>,
@@ -60,25 +45,19 @@ fn serve<R, W: Write, E: Write>(
     block: &mut [u8],
     out: &mut [u8],
     said: &mut [u8],
-) -> AfterChunk
+) -> Option<AfterChunk>
     requires { (n ≤ length buf.old) × (length buf.old ≡ 4096) × (length block.old ≡ 512) × (length out.old ≡ 84480) × (length said.old ≡ 180224) × (h.line ≤ 4_611_686_018_427_387_904) × (h.records ≤ 4_611_686_018_427_387_904) }
-    ensures { result.stops ≡ false → Steps (take n buf.old) h block.old buf.new block.new result }
+    ensures { IfSome result (λ r. Steps (take n buf.old) h block.old buf.new block.new r) }
 {
-    let p = pack_lines(h.records, h.line, h.long, &buf[..n], block, out, said);
-    let filed = p.filed;
-    let told = p.told;
-    if !written(streams, &out[..filed], &said[..told]) {
-        return stopped(h);
+    let p = pack_lines(h.records, h.line, h.carry.long, &buf[..n], block, out, said);
+    if !written(streams, &out[..p.filed], &said[..p.told]) {
+        return None;
     }
-    let at = p.at;
-    let c = carry_over(buf, at, n, p.long);
-    AfterChunk {
+    Some(AfterChunk {
         records: p.records,
         line: p.line,
-        kept: c.kept,
-        long: c.long,
-        stops: false,
-    }
+        carry: carry_over(buf, p.at, n, p.long),
+    })
 }
 
 // The end of the script.
@@ -88,19 +67,13 @@ fn finish<R, W: Write, E: Write>(
     block: &mut [u8],
     out: &mut [u8],
     said: &mut [u8],
-) -> AfterChunk
+)
     requires block_len { (length block.old ≡ 512) × (length out.old ≡ 84480) × (length said.old ≡ 180224) }
     requires waits { Waits h block.old }
-    ensures { result.stops ≡ true }
 {
-    let carry = Carry {
-        kept: h.kept,
-        long: h.long,
-    };
     let filed = put_last(h.records, block, out);
-    let told = put_end(carry, h.line, h.records, said);
+    let told = put_end(h.carry, h.line, h.records, said);
     written(streams, &out[..filed], &said[..told]);
-    stopped(h)
 }
 
 // Reads once, and packs the lines that end there.
@@ -111,27 +84,27 @@ fn turn<R: Read, W: Write, E: Write>(
     block: &mut [u8],
     out: &mut [u8],
     said: &mut [u8],
-) -> AfterChunk
+) -> Option<AfterChunk>
     requires buf_len { (length buf.old ≡ 4096) × (length block.old ≡ 512) × (length out.old ≡ 84480) × (length said.old ≡ 180224) }
     requires reached { Reached buf.old block.old h }
-    ensures { result.stops ≡ false → Turned buf.old block.old h buf.new block.new result }
+    ensures { IfSome result (λ r. Turned buf.old block.old h buf.new block.new r) }
 {
     if MOST_LINES < h.line || MOST_LINES < h.records {
-        return fail(
-            &mut streams.errors,
-            b"pack: no script has so many lines\n",
-            h,
-        );
+        tell(&mut streams.errors, b"pack: no script has so many lines\n");
+        return None;
     }
-    let kept = h.kept;
-    let input = fill(&mut streams.input, buf, kept);
-    match input {
-        Input::Failed => fail(
-            &mut streams.errors,
-            b"pack: standard input cannot be read\n",
-            h,
-        ),
-        Input::Ended => finish(h, streams, block, out, said),
+    match fill(&mut streams.input, buf, h.carry.kept) {
+        Input::Failed => {
+            tell(
+                &mut streams.errors,
+                b"pack: standard input cannot be read\n",
+            );
+            None
+        }
+        Input::Ended => {
+            finish(h, streams, block, out, said);
+            None
+        }
         Input::Bytes(n) => serve(h, streams, buf, n, block, out, said),
     }
 }
@@ -145,21 +118,22 @@ pub fn run<R: Read, W: Write, E: Write>(streams: &mut Streams<R, W, E>) {
     let mut h = AfterChunk {
         records: 0,
         line: 1,
-        kept: 0,
-        long: false,
-        stops: false,
+        carry: Carry {
+            kept: 0,
+            long: false,
+        },
     };
     for _ in 0..u64::MAX {
-        h = turn(
+        let Some(next) = turn(
             h,
             &mut *streams,
             &mut buf,
             &mut filling,
             &mut out,
             &mut said,
-        );
-        if h.stops {
+        ) else {
             return;
-        }
+        };
+        h = next;
     }
 }

@@ -1,5 +1,4 @@
 -- The laws of the layout.
-pub mod Digits
 pub mod Runs
 pub mod Sizes
 pub mod Rows

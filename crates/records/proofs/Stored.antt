@@ -1,10 +1,11 @@
 -- A day, a book, declarations, trades and a reply as a call reads and stores them. Assumes nothing.
-use Prim.Native.Nat.{ℕ, ◌+◌, ◌*◌, ◌/◌, ◌≤◌, ◌<◌}
+use Prim.Native.Nat.{ℕ, ◌+◌, ◌*◌, ◌/◌, ◌≤◌, min}
 use mathlib.Core.Path.{◌≡◌, refl, sym, ap, ◌∙◌}
 use mathlib.Core.List.{List, [], ◌∷◌, ◌++◌}
 use native.Mathlib.Omega.{arith}
-use lib.ListN.{length, take}
-use lib.Seq.{sets, take_all, length-take-le}
+use lib.ListN.{length, take, length-take}
+use lib.Seq.{sets}
+use Rattle.std.proofs.lemmas.List.{take_min}
 use Rattle.model.specs.declared.Screen.{Screen}
 use Rattle.model.specs.declared.Day.{Day}
 use Rattle.octets.specs.Numbers.{digits, parts, flat}
@@ -104,16 +105,13 @@ trades_put b list b' h e =
     e ∙ sets_over (trades_bytes list) b (omega (arith, length_trades list))
 
 -- as many numbers as fit
-pub cut_fits : (n : ℕ) (ns : List ℕ) {m : ℕ} → n < length ns → 8 * n ≤ m → 0 + 8 * length (take n ns) ≤ m
-cut_fits n ns h k = omega (arith, length-take-le n ns (omega arith))
-
-module _ (reply ns : List ℕ) {reply' : List ℕ} where
-  pub reply_cut : length reply / 8 < length ns → reply' ≡ sets reply 0 (bytes (take (length reply / 8) ns)) → reply' ≡ replied ns reply
-  unfolding replied
-  reply_cut h e =
-      let front = take (length reply / 8) ns in
-      e ∙ sets_over (bytes front) reply (omega (arith, length_bytes front, length-take-le (length reply / 8) ns (omega arith)))
-
-  pub reply_whole : length ns ≤ length reply / 8 → reply' ≡ sets reply 0 (bytes ns) → reply' ≡ replied ns reply
-  unfolding replied
-  reply_whole h e = rw (take_all (length reply / 8) ns h) (e ∙ sets_over (bytes ns) reply (omega (arith, length_bytes ns)))
+pub reply_put :
+    (reply ns : List ℕ) {n : ℕ} {reply' : List ℕ}
+    → n ≡ min (length reply / 8) (length ns)
+    → reply' ≡ sets reply 0 (bytes (take n ns))
+    → reply' ≡ replied ns reply
+unfolding replied
+reply_put reply ns {n} e f =
+    let some : take n ns ≡ take (length reply / 8) ns = rw e (take_min (length reply / 8) ns) in
+    let front = take (length reply / 8) ns in
+    f ∙ rw some (sets_over (bytes front) reply (omega (arith, length_bytes front, length-take (length reply / 8) ns)))

@@ -10,11 +10,7 @@ pub fn put_reply(reply: &mut [u8], list: &[u64]) -> u64
     requires { 0 < length list.now }
     ensures { (result ≡ returned list.now) × (reply.new ≡ replied list.now reply.old) }
 {
-    let n = reply.len() / NUMBER_BYTES;
-    if n < list.len() {
-        put_numbers(reply, 0, &list[..n]);
-        return list[0];
-    }
-    put_numbers(reply, 0, list);
+    let n = (reply.len() / NUMBER_BYTES).min(list.len());
+    put_numbers(reply, 0, &list[..n]);
     list[0]
 }

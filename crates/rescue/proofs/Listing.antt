@@ -1,9 +1,10 @@
 -- The list as lines: a block's, those of several blocks one after the other, and the end. Assumes nothing.
-use Prim.Native.Nat.{ℕ, zero, suc, ◌+◌, ◌-◌, ◌*◌, ◌/◌, ◌≤◌, ◌<◌}
+use Prim.Native.Nat.{ℕ, zero, suc, ◌+◌, ◌-◌, ◌*◌, ◌/◌, ◌%◌, ◌≤◌, ◌<◌}
 use mathlib.Core.Path.{◌≡◌, refl, sym, ap, ◌∙◌}
 use mathlib.Core.Bool.{Bool, true, false, cond, ◌&&◌}
 use mathlib.Core.List.{List, [], ◌∷◌, ◌++◌, append_assoc, append-nil}
 use native.Mathlib.Omega.{arith}
+use mir.Val.{bool_byte}
 use lib.Dec.{ltb}
 use borrow.Author.Tests.{lt-ltb}
 use lib.ListN.{length, take, drop, length-append, length-drop}
@@ -20,17 +21,9 @@ use Rattle.rescue.specs.Marks.{mark, Tells}
 
 -- ---- one block
 
-module _ (b : List ℕ) {right : Bool} (r : right ≡ right_check b) where
-  pub not_right : right ≡ false → 0 ≡ mark (right_check b && own_layout b)
-  not_right e = let t : right_check b ≡ false = sym r ∙ e in rw t
-
-  pub right_but : {own : Bool} → right ≡ true → own ≡ own_layout b → own ≡ false → 0 ≡ mark (right_check b && own_layout b)
-  right_but e o f =
-      let t : right_check b ≡ true = sym r ∙ e in let u : own_layout b ≡ false = sym o ∙ f in rw (t, u)
-
-  pub both_right : {own : Bool} → right ≡ true → own ≡ own_layout b → own ≡ true → 1 ≡ mark (right_check b && own_layout b)
-  both_right e o f =
-      let t : right_check b ≡ true = sym r ∙ e in let u : own_layout b ≡ true = sym o ∙ f in rw (t, u)
+pub mark_byte : (t : Bool) → bool_byte t ≡ mark t
+mark_byte true = refl
+mark_byte false = refl
 
 pub block_line :
     (b : List ℕ) (place : ℕ) {sound number : ℕ}
@@ -68,9 +61,8 @@ one_short place rest =
     (line_short
     (record { place = place; sound = right_check (take 512 rest) && own_layout (take 512 rest); number = number_in (take 512 rest) }))
 
-pub record Going (file : List ℕ) (blocks place : ℕ) (said₀ said : List ℕ) (p i next : ℕ) : Type 0 where
+pub record Going (file : List ℕ) (blocks place : ℕ) (said₀ said : List ℕ) (p i : ℕ) : Type 0 where
   pub done : i ≤ blocks
-  pub at : next ≡ place + i
   pub long : length said ≡ length said₀
   pub room : p ≤ 65 * i
   pub text : List ℕ
@@ -78,33 +70,32 @@ pub record Going (file : List ℕ) (blocks place : ℕ) (said₀ said : List ℕ
   pub all : text ++ lines (blocks - i) (place + i) (drop (512 * i) file) ≡ lines blocks place file
 
 module _ (file : List ℕ) (blocks place : ℕ) (said₀ : List ℕ) where
-  pub going_start : Going file blocks place said₀ said₀ 0 0 place
+  pub going_start : Going file blocks place said₀ said₀ 0 0
   going_start =
       let b : blocks - 0 ≡ blocks = omega arith in
       let p : place + 0 ≡ place = omega arith in
-      record { done = omega arith; at = sym p; long = refl; room = omega arith; text = []; put = nothing_put; all = rw (b, p) }
+      record { done = omega arith; long = refl; room = omega arith; text = []; put = nothing_put; all = rw (b, p) }
 
-  module _ {said : List ℕ} {p i next : ℕ} (g : Going file blocks place said₀ said p i next) where
+  module _ {said : List ℕ} {p i : ℕ} (g : Going file blocks place said₀ said p i) where
     pub going_next :
         i < blocks
         → {b said' : List ℕ} {q : ℕ}
         → b ≡ take (512 * i + 512 - 512 * i) (drop (512 * i) file)
-        → Wrote said p (lines 1 next b) said' q
-        → Going file blocks place said₀ said' q (i + 1) (next + 1)
+        → Wrote said p (lines 1 (place + i) b) said' q
+        → Going file blocks place said₀ said' q (i + 1)
     going_next h {b} e w =
         let n : 512 * i + 512 - 512 * i ≡ 512 = omega arith in
         let same : b ≡ take 512 (drop (512 * i) file) = rw n at e in
         let m : blocks - i ≡ suc (blocks - (i + 1)) = omega arith in
         let d : 512 * (i + 1) ≡ 512 * i + 512 = omega arith in
         let q : place + (i + 1) ≡ suc (place + i) = omega arith in
-        let line : lines 1 next b ≡ lines 1 (place + i) (drop (512 * i) file) =
-        rw (same, g.at) (one_line (place + i) (drop (512 * i) file)) in
+        let line : lines 1 (place + i) b ≡ lines 1 (place + i) (drop (512 * i) file) =
+        rw same (one_line (place + i) (drop (512 * i) file)) in
         record {
           done = omega arith;
-          at = omega (arith, g.at);
           long = put_long w ∙ g.long;
           room = omega (arith, w.place, g.room, ap length line, one_short (place + i) (drop (512 * i) file));
-          text = g.text ++ lines 1 next b;
+          text = g.text ++ lines 1 (place + i) b;
           put = and_then g.put w;
           all =
               rw (append_assoc, line, q, d, ← drop-drop 512 (512 * i) file)
@@ -172,11 +163,11 @@ tail_is place rest = refl
 pub list_whole :
     (place : ℕ) (rest : List ℕ) (n bytes : ℕ)
     → n ≡ length rest / 512
-    → bytes ≡ length rest - 512 * n
+    → bytes ≡ length rest % 512
     → lines n place rest ++ flat list_line (tail_listed bytes (place + n)) ≡ flat list_line (list_from (length rest / 512) place rest)
 list_whole place rest n bytes e f =
     let z : n + 0 ≡ length rest / 512 = omega arith in
-    let l : length (drop (512 * n) rest) ≡ bytes = length-drop (512 * n) rest ∙ sym f in
+    let l : length (drop (512 * n) rest) ≡ bytes = length-drop (512 * n) rest ∙ omega arith in
     sym
     (ap (λ (k : ℕ). flat list_line (list_from k place rest)) (sym z)
     ∙ ap (flat list_line) (list_split n 0 place rest)
@@ -196,7 +187,7 @@ module _ (file : List ℕ) (place n : ℕ) (said : List ℕ) (e : n ≡ length f
   pub tail_room : {said₁ : List ℕ} {p : ℕ} → Tells (lines n place file) said said₁ p → p + 65 ≤ length said₁
   tail_room t = omega (arith, t.put.place, lines_short n place file, put_long t.put)
 
-  module _ {bytes : ℕ} (b : bytes ≡ length file - 512 * n) {said₁ said₂ : List ℕ} {p q : ℕ}
+  module _ {bytes : ℕ} (b : bytes ≡ length file % 512) {said₁ said₂ : List ℕ} {p q : ℕ}
       (t : Tells (lines n place file) said said₁ p)
       (w : Wrote said₁ p (flat list_line (tail_listed bytes (place + n))) said₂ q) where
     pub end_room : q + 21 * 1 + 2 ≤ length said₂

@@ -1,41 +1,27 @@
 // The rescue of a damaged day file: each block from the first refused one on, as a line. What it means is defined in specs/.
 #![tactic(auto)]
 
-ghost use Rattle.std.specs.Prelude.{◌≡◌, ◌&&◌, [], ◌∷◌, ◌++◌, ◌+◌, ◌*◌, ◌/◌, ◌≤◌, length};
+ghost use Rattle.std.specs.Prelude.{◌≡◌, [], ◌∷◌, ◌++◌, ◌+◌, ◌*◌, ◌/◌, ◌≤◌, length};
 ghost use Rattle.model.specs.Lines.{reply};
 ghost use Rattle.octets.specs.Numbers.{flat};
 ghost use Rattle.printing.specs.Printing.{Wrote};
-ghost use Rattle.file_blocks.specs.Blocks.{right_check, own_layout};
 ghost use Rattle.rescue.specs.Rescue.{list_from};
 ghost use Rattle.rescue.specs.Chunkwise.{list_line, blocks_listed, tail_listed};
-ghost use Rattle.rescue.specs.Marks.{mark, Tells};
+ghost use Rattle.rescue.specs.Marks.{Tells};
 
+use file_blocks::BLOCK_BYTES;
 use file_blocks::reading::{own_layout, right_check};
 use file_records::reading::four_at;
 use printing::put_reply;
 
-// Whether a block's own check and layout are sound, as 1 or 0.
-fn sound_by_itself(block: &[u8]) -> u64
-    requires { length block.now ≡ 512 }
-    ensures { result ≡ mark (right_check block.now && own_layout block.now) }
-{
-    if !right_check(block) {
-        return 0;
-    }
-    if !own_layout(block) {
-        return 0;
-    }
-    1
-}
-
-// One block's line, put at a place.
+// One block's line, put at a place: whether its own check and layout are sound, and its number.
 fn put_block(block: &[u8], place: u64, said: &mut [u8], at: usize) -> usize
     requires { (length block.now ≡ 512) × (at + 65 ≤ length said.old) }
     ensures { Wrote said.old at (flat list_line (blocks_listed 1 place block.now)) said.new result }
 {
-    let sound = sound_by_itself(block);
-    let number = four_at(block, 0) as u64;
-    put_reply(b'B', &[place, sound, number], said, at)
+    let sound = right_check(block) && own_layout(block);
+    let number = u64::from(four_at(block, 0));
+    put_reply(b'B', &[place, u64::from(sound), number], said, at)
 }
 
 // The lines of so many blocks, from a place on.
@@ -44,14 +30,10 @@ pub fn list_blocks(file: &[u8], blocks: usize, place: u64, said: &mut [u8]) -> u
     ensures { Tells (flat list_line (blocks_listed blocks place file.now)) said.old said.new result }
 {
     let mut p: usize = 0;
-    let mut i: usize = 0;
-    let mut next = place;
-    while i < blocks {
-        let at = 512 * i;
-        let end = at + 512;
-        p = put_block(&file[at..end], next, &mut *said, p);
-        next += 1;
-        i += 1;
+    for i in 0..blocks {
+        let at = BLOCK_BYTES * i;
+        let block = &file[at..at + BLOCK_BYTES];
+        p = put_block(block, place + i as u64, &mut *said, p);
     }
     p
 }
@@ -72,13 +54,9 @@ pub fn list_rest(file: &[u8], place: u64, records: u64, said: &mut [u8]) -> usiz
     requires { (place + length file.now ≤ 9_223_372_036_854_775_808) × (65 * (length file.now / 512 + 2) ≤ length said.old) }
     ensures { Tells (flat list_line (list_from (length file.now / 512) place file.now) ++ reply 75 (records ∷ [])) said.old said.new result }
 {
-    let blocks = file.len() / 512;
+    let blocks = file.len() / BLOCK_BYTES;
     let p = list_blocks(file, blocks, place, &mut *said);
-    let q = put_tail(
-        file.len() - 512 * blocks,
-        place + blocks as u64,
-        &mut *said,
-        p,
-    );
+    let tail = file.len() % BLOCK_BYTES;
+    let q = put_tail(tail, place + blocks as u64, &mut *said, p);
     put_reply(b'K', &[records], said, q)
 }

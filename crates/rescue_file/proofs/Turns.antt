@@ -1,7 +1,9 @@
 -- Turn by turn the memory holds what the chunks so far have made of the outset. Assumes nothing.
 use Prim.Native.Nat.{ℕ, suc, ◌+◌, ◌-◌, ◌*◌, ◌/◌, ◌≤◌}
 use mathlib.Core.Path.{◌≡◌, refl, sym, ap, subst, ◌∙◌}
-use mathlib.Core.Bool.{Bool, true, false, not}
+use mathlib.Core.Bool.{Bool, true, false, not, cond}
+use Rattle.std.proofs.Common.{Option, None, Some}
+use Rattle.std.specs.Option.{is_some}
 use mathlib.Core.List.{List, [], ◌∷◌, ◌++◌}
 use native.Mathlib.Omega.{arith}
 use native.Mathlib.Numerals.{add-one}
@@ -12,12 +14,12 @@ use borrow.Author.Tests.{eqb-true, not-false}
 use Rattle.text.proofs.Carrying.{drop_take}
 use Rattle.fronts.specs.declared.Looked.{Looked}
 use Rattle.fronts.specs.Looking.{Looks}
-use Rattle.fronts.specs.Good.{good_from, refusal_from, followed, look_from}
+use Rattle.fronts.specs.Good.{good_from, refusal_from, some_refusal, followed, look_from}
 use Rattle.fronts.proofs.Read.{good_most}
 use Rattle.fronts.proofs.Cutting.{front_on}
 use Rattle.streams.proofs.Filling.{read, read_on_lem}
 use Rattle.rescue_file.specs.declared.AfterChunk.{AfterChunk}
-use Rattle.rescue_file.specs.Serving.{Between, outset, after_keep, after_list, with_more, served, after_chunk, after_chunks, Holds, Reached, Turned, to_serve, with_bytes, Keeps, Lists, Steps}
+use Rattle.rescue_file.specs.Serving.{Between, outset, after_keep, after_list, with_more, served, after_chunk, after_chunks, Holds, Reached, Turned, to_serve, Keeps, Lists, Steps}
 
 -- ---- what is moved to the front
 
@@ -37,6 +39,13 @@ module _ (buf after : List ℕ) (n end : ℕ) (inside : n ≤ length buf) (e : e
 
 -- ---- blocks that are kept
 
+is_some_refusal : (n : ℕ) → is_some (some_refusal n) ≡ not (eqb n 0)
+is_some_refusal n = go (eqb n 0)
+  where
+    go : (t : Bool) → is_some (cond {A = Option ℕ} t None (Some n)) ≡ not t
+    go true = refl
+    go false = refl
+
 module _ (buf after : List ℕ) (n whole blocks : ℕ) (h : AfterChunk) (seen : Looked)
     (inside : n ≤ length buf)
     (fits : 512 * blocks ≤ n)
@@ -45,23 +54,24 @@ module _ (buf after : List ℕ) (n whole blocks : ℕ) (h : AfterChunk) (seen : 
   seen_few = rw l.good (good_most whole blocks (h.behind + 1) (take n buf))
 
   pub keeps :
-      after ≡ take (n - 512 * seen.good) (drop (512 * seen.good) buf) ++ drop (n - 512 * seen.good) buf
+      {listing : Bool}
+      → listing ≡ is_some seen.refusal
+      → after ≡ take (n - 512 * seen.good) (drop (512 * seen.good) buf) ++ drop (n - 512 * seen.good) buf
       → Keeps whole blocks (take n buf) h after
       (record {
-        listing = not (eqb seen.refusal 0);
+        listing = listing;
         behind = h.behind + seen.good;
         records = h.records + seen.records;
         kept = n - 512 * seen.good;
-        stops = false;
       })
   unfolding after_keep
-  keeps f =
+  keeps t f =
       let few = seen_few in
       let good : seen.good ≡ good_from whole blocks (suc h.behind) (take n buf) = l.good ∙ rw add-one in
-      let refusal : seen.refusal ≡ refusal_from whole blocks (suc h.behind) (take n buf) = l.refusal ∙ rw add-one in
+      let refusal : seen.refusal ≡ some_refusal (refusal_from whole blocks (suc h.behind) (take n buf)) = l.refusal ∙ rw add-one in
       let end : 512 * seen.good ≤ n = omega arith in
       record {
-        listing = rw refusal;
+        listing = t ∙ ap is_some refusal ∙ is_some_refusal (refusal_from whole blocks (suc h.behind) (take n buf));
         behind = rw good;
         records = rw (l.records, good);
         kept = rw (← good) (moved buf after n (512 * seen.good) inside end f);
@@ -79,7 +89,6 @@ module _ (buf after : List ℕ) (h : AfterChunk) (inside : h.kept ≤ length buf
         behind = h.behind + h.kept / 512;
         records = h.records;
         kept = h.kept - 512 * (h.kept / 512);
-        stops = false;
       })
   unfolding after_list
   lists f =
@@ -150,7 +159,7 @@ module _ (h : AfterChunk) (before buf : List ℕ) (n : ℕ)
 
 -- ---- all turns
 
-pub at_outset : (buf : List ℕ) → Reached buf (record { listing = false; behind = 0; records = 0; kept = 0; stops = false })
+pub at_outset : (buf : List ℕ) → Reached buf (record { listing = false; behind = 0; records = 0; kept = 0 })
 unfolding outset after_chunks
 at_outset buf =
     record { chunks = []; holds = record { listing = refl; behind = refl; records = refl; kept = refl; count = refl } }
@@ -229,11 +238,3 @@ keeps_few whole blocks n buf h {buf'} {r} k inside =
     let long : length (take n buf) ≡ n = length-take-le n buf inside in
     let left : length (drop (512 * g) (take n buf)) ≡ n - 512 * g = length-drop (512 * g) (take n buf) ∙ rw long in
     (omega (arith, k.count, left), omega (arith, k.behind, few))
-
--- the state with other bytes at the front
-module _ (h w : AfterChunk) (n : ℕ) (e : w ≡ with_bytes h n) where
-  pub bytes_are : (w.kept ≡ n) × (w.behind ≡ h.behind)
-  bytes_are = (ap (λ (x : AfterChunk). x.kept) e, ap (λ (x : AfterChunk). x.behind) e)
-
-  pub bytes_listed : (buf : List ℕ) {buf' : List ℕ} {r : AfterChunk} → Lists (take w.kept buf) w buf' r → Lists (take n buf) h buf' r
-  bytes_listed buf {buf'} {r} k = subst (λ (x : AfterChunk). Lists (take x.kept buf) x buf' r) e k

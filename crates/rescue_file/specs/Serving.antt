@@ -79,9 +79,6 @@ pub record Turned (buf : List ℕ) (h : AfterChunk) (buf' : List ℕ) (r : After
 abbrev pub to_serve : AfterChunk → List ℕ → Between
 to_serve h chunk = record { listing = h.listing; behind = h.behind; records = h.records; kept = chunk }
 
-abbrev pub with_bytes : AfterChunk → ℕ → AfterChunk
-with_bytes h n = record { listing = h.listing; behind = h.behind; records = h.records; kept = n; stops = false }
-
 abbrev pub Keeps : ℕ → ℕ → List ℕ → AfterChunk → List ℕ → AfterChunk → Type 0
 Keeps whole blocks chunk h buf' r = Holds (after_keep whole blocks (to_serve h chunk)) buf' r
 

@@ -6,15 +6,14 @@ mod serving;
 
 use streams::Streams;
 
-// What goes from chunk to chunk: whether a block was refused, how many blocks stand behind, how many records are kept, how many
-// bytes stand at the buffer's front, and whether the program stops here.
+// What goes from chunk to chunk: whether a block was refused, how many blocks stand behind, how many records are kept, and how many
+// bytes stand at the buffer's front.
 #[derive(Clone, Copy)]
 pub struct AfterChunk {
     pub listing: bool,
     pub behind: usize,
     pub records: u64,
     pub kept: usize,
-    pub stops: bool,
 }
 
 fn main(rt: HostRuntime) {

@@ -1,9 +1,9 @@
 // Chunks read from standard input, their good blocks written to standard output, and the others listed on standard error. What is read and
 // written is said of streams over memory (`Reads`, `Appends`), as nothing can say it of real ones; what lies between is the definitions'
 // step from chunk to chunk.
-ghost use Rattle.std.specs.Prelude.{◌≡◌, true, false, ◌*◌, ◌≤◌, length, take};
+ghost use Rattle.std.specs.Prelude.{◌≡◌, true, IfSome, ◌*◌, ◌≤◌, length, take};
 ghost use Rattle.std.specs.Io.KnownBytes.{Appends};
-ghost use Rattle.rescue_file.specs.Serving.{with_bytes, Keeps, Lists, Steps, Reached, Turned};
+ghost use Rattle.rescue_file.specs.Serving.{Keeps, Lists, Steps, Reached, Turned};
 
 use crate::AfterChunk;
 use fronts::look;
@@ -27,21 +27,6 @@ fn notes() -> [u8; NOTES]
     [0; NOTES]
 }
 
-fn stopped(h: AfterChunk) -> AfterChunk
-    ensures { result.stops ≡ true }
-{
-    let mut r = h;
-    r.stops = true;
-    r
-}
-
-fn fail<E: Write>(errors: &mut E, text: &[u8], h: AfterChunk) -> AfterChunk
-    ensures { result.stops ≡ true }
-{
-    tell(errors, text);
-    stopped(h)
-}
-
 // Writes blocks out, or says that it cannot.
 fn written<R, W: Write, E: Write>(streams: &mut Streams<R, W, E>, blocks: &[u8]) -> bool
     ensures written { result ≡ true → Appends (W.contents streams.old.output) (W.contents streams.new.output) blocks.now }
@@ -54,7 +39,7 @@ fn written<R, W: Write, E: Write>(streams: &mut Streams<R, W, E>, blocks: &[u8])
     )
 }
 
-// Copies the good ones of so many blocks, of a file that has so many whole ones, and goes on behind them.
+// Copies the good ones of so many blocks, of a file that has so many whole ones, and goes on behind them. None: the program stops here.
 fn keep<R, W: Write, E: Write>(
     h: AfterChunk,
     streams: &mut Streams<R, W, E>,
@@ -62,23 +47,22 @@ fn keep<R, W: Write, E: Write>(
     n: usize,
     whole: usize,
     blocks: usize,
-) -> AfterChunk
+) -> Option<AfterChunk>
     requires { (n ≤ length buf.old) × (length buf.old ≡ 4096) × (512 * blocks ≤ n) × (h.behind ≤ 2_305_843_009_213_693_952) × (h.records ≤ 2_305_843_009_213_693_952) }
-    ensures { result.stops ≡ false → Keeps whole blocks (take n buf.old) h buf.new result }
+    ensures { IfSome result (λ r. Keeps whole blocks (take n buf.old) h buf.new r) }
 {
     let seen = look(&buf[..n], whole, blocks, h.behind + 1);
     let end = 512 * seen.good;
     if !written(streams, &buf[..end]) {
-        return stopped(h);
+        return None;
     }
     to_front(buf, end, n);
-    AfterChunk {
-        listing: seen.refusal != 0,
+    Some(AfterChunk {
+        listing: seen.refusal.is_some(),
         behind: h.behind + seen.good,
         records: h.records + seen.records as u64,
         kept: n - end,
-        stops: false,
-    }
+    })
 }
 
 // Lists the whole blocks that stand in the buffer, and goes on behind them.
@@ -98,20 +82,6 @@ fn list<E: Write>(h: AfterChunk, errors: &mut E, buf: &mut [u8], said: &mut [u8]
         behind: h.behind + blocks,
         records: h.records,
         kept: kept - end,
-        stops: false,
-    }
-}
-
-// The same state with n bytes at the buffer's front.
-fn with_bytes(h: AfterChunk, n: usize) -> AfterChunk
-    ensures { result ≡ with_bytes h n }
-{
-    AfterChunk {
-        listing: h.listing,
-        behind: h.behind,
-        records: h.records,
-        kept: n,
-        stops: false,
     }
 }
 
@@ -122,33 +92,28 @@ fn serve<R, W: Write, E: Write>(
     buf: &mut [u8],
     n: usize,
     said: &mut [u8],
-) -> AfterChunk
+) -> Option<AfterChunk>
     requires { (n ≤ length buf.old) × (length buf.old ≡ 4096) × (length said.old ≡ 650) × (h.behind ≤ 2_305_843_009_213_693_952) × (h.records ≤ 2_305_843_009_213_693_952) }
-    ensures { result.stops ≡ false → Steps (take n buf.old) h buf.new result }
+    ensures { IfSome result (λ r. Steps (take n buf.old) h buf.new r) }
 {
     if h.listing {
-        return list(with_bytes(h, n), &mut streams.errors, buf, said);
+        let filled = AfterChunk { kept: n, ..h };
+        return Some(list(filled, &mut streams.errors, buf, said));
     }
-    let r = keep(h, &mut *streams, buf, n, 0, followed(n));
-    if r.stops {
-        return r;
-    }
+    let r = keep(h, &mut *streams, buf, n, 0, followed(n))?;
     if !r.listing {
-        return r;
+        return Some(r);
     }
-    list(r, &mut streams.errors, buf, said)
+    Some(list(r, &mut streams.errors, buf, said))
 }
 
 // What is told at the end.
-fn tell_rest<E: Write>(h: AfterChunk, errors: &mut E, buf: &[u8], said: &mut [u8]) -> AfterChunk
+fn tell_rest<E: Write>(h: AfterChunk, errors: &mut E, buf: &[u8], said: &mut [u8])
     requires { (h.kept ≤ 1023) × (length buf.now ≡ 4096) × (length said.old ≡ 650) × (h.behind ≤ 4_611_686_018_427_387_904) }
-    ensures { result.stops ≡ true }
 {
-    let kept = h.kept;
     let place = h.behind + 1;
-    let told = list_rest(&buf[..kept], place as u64, h.records, said);
+    let told = list_rest(&buf[..h.kept], place as u64, h.records, said);
     tell(errors, &said[..told]);
-    stopped(h)
 }
 
 // The end of the file: what was kept is its rest.
@@ -157,20 +122,18 @@ fn finish<R, W: Write, E: Write>(
     streams: &mut Streams<R, W, E>,
     buf: &mut [u8],
     said: &mut [u8],
-) -> AfterChunk
+)
     requires { (h.kept ≤ 1023) × (length buf.old ≡ 4096) × (length said.old ≡ 650) × (h.behind ≤ 2_305_843_009_213_693_952) × (h.records ≤ 2_305_843_009_213_693_952) }
-    ensures { result.stops ≡ true }
 {
     if h.listing {
-        return tell_rest(h, &mut streams.errors, buf, said);
+        tell_rest(h, &mut streams.errors, buf, said);
+        return;
     }
-    let kept = h.kept;
-    let blocks = kept / 512;
-    let r = keep(h, &mut *streams, buf, kept, h.behind + blocks, blocks);
-    if r.stops {
-        return r;
+    let blocks = h.kept / 512;
+    let whole = h.behind + blocks;
+    if let Some(r) = keep(h, &mut *streams, buf, h.kept, whole, blocks) {
+        tell_rest(r, &mut streams.errors, buf, said);
     }
-    tell_rest(r, &mut streams.errors, buf, said)
 }
 
 // Reads once, and serves the blocks that can be judged then.
@@ -179,34 +142,34 @@ fn turn<R: Read, W: Write, E: Write>(
     streams: &mut Streams<R, W, E>,
     buf: &mut [u8],
     said: &mut [u8],
-) -> AfterChunk
+) -> Option<AfterChunk>
     requires buf_len { (length buf.old ≡ 4096) × (length said.old ≡ 650) }
     requires reached { Reached buf.old h }
-    ensures { result.stops ≡ false → Turned buf.old h buf.new result }
+    ensures { IfSome result (λ r. Turned buf.old h buf.new r) }
 {
     if MOST < h.behind {
-        return fail(
-            &mut streams.errors,
-            b"rescue: no file has so many blocks\n",
-            h,
-        );
+        tell(&mut streams.errors, b"rescue: no file has so many blocks\n");
+        return None;
     }
     if MOST_RECORDS < h.records {
-        return fail(
+        tell(
             &mut streams.errors,
             b"rescue: no file has so many records\n",
-            h,
         );
+        return None;
     }
-    let kept = h.kept;
-    let input = fill(&mut streams.input, buf, kept);
-    match input {
-        Input::Failed => fail(
-            &mut streams.errors,
-            b"rescue: standard input cannot be read\n",
-            h,
-        ),
-        Input::Ended => finish(h, streams, buf, said),
+    match fill(&mut streams.input, buf, h.kept) {
+        Input::Failed => {
+            tell(
+                &mut streams.errors,
+                b"rescue: standard input cannot be read\n",
+            );
+            None
+        }
+        Input::Ended => {
+            finish(h, streams, buf, said);
+            None
+        }
         Input::Bytes(n) => serve(h, streams, buf, n, said),
     }
 }
@@ -220,12 +183,11 @@ pub fn run<R: Read, W: Write, E: Write>(streams: &mut Streams<R, W, E>) {
         behind: 0,
         records: 0,
         kept: 0,
-        stops: false,
     };
     for _ in 0..u64::MAX {
-        h = turn(h, &mut *streams, &mut buf, &mut said);
-        if h.stops {
+        let Some(next) = turn(h, &mut *streams, &mut buf, &mut said) else {
             return;
-        }
+        };
+        h = next;
     }
 }

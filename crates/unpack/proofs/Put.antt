@@ -1,4 +1,5 @@
 -- The lines of records and of blocks, put one after the other. Assumes nothing.
+use Rattle.std.proofs.Common.{Ok, Err, Option, None, Some}
 use Prim.Native.Nat.{ℕ, zero, suc, ◌+◌, ◌-◌, ◌*◌, ◌/◌, ◌≤◌, ◌<◌}
 use mathlib.Core.Path.{◌≡◌, refl, sym, ap, ◌∙◌}
 use mathlib.Core.Bool.{Bool, true, false, cond}
@@ -8,21 +9,22 @@ use native.Mathlib.Numerals.{add-one}
 use lib.Dec.{eqb}
 use lib.ListN.{length, take, drop, length-append, length-drop}
 use lib.Seq.{drop-drop, length-take-le}
-use borrow.Author.Tests.{eq-eqb, ne_eqb}
+use borrow.Author.Tests.{eqb-true, eq-eqb, ne_eqb}
 use Rattle.model.specs.declared.Event.{Event}
 use Rattle.model.specs.declared.Event.TheVariants.{Open, Clock, Order, Cancel}
 use Rattle.model.specs.Lines.{reply}
+use Rattle.std.proofs.lemmas.Bool.{false≢true}
+use Rattle.std.specs.Option.{is_some}
 use Rattle.printing.specs.Printing.{Wrote}
 use Rattle.printing.proofs.Printed.{nothing_put, and_then, put_as, put_long, reply_fits}
 use Rattle.octets.specs.Numbers.{parts, flat}
 use Rattle.octets.proofs.Parts.{flat_append}
 use Rattle.file_records.specs.Records.{event_in}
-use Rattle.file_blocks.specs.declared.Block as Block
 use Rattle.file_blocks.specs.Blocks.{records_in, events_in, read_block}
 use Rattle.model.specs.Refusals.{first_of}
 use Rattle.day_files.specs.Files.{rules_from, events_of}
 use Rattle.file_scripts.specs.Scripts.{letter_of, numbers_in, event_line, script_of}
-use Rattle.fronts.specs.Good.{good_from, refusal_from, front_from, followed, look_from}
+use Rattle.fronts.specs.Good.{good_from, refusal_from, some_refusal, front_from, followed, look_from}
 use Rattle.fronts.proofs.Walking.{
   Walking,
   walking_start,
@@ -34,7 +36,7 @@ use Rattle.fronts.proofs.Walking.{
   rules_tail,
 }
 use Rattle.unpack.specs.declared.Unpacking.{Unpacking}
-use Rattle.unpack.specs.Unpacking.{refused_line}
+use Rattle.unpack.specs.Unpacking.{refused_line, told_refusal}
 use Rattle.unpack.specs.Promises.{Puts, Gives}
 
 -- ---- records
@@ -111,48 +113,47 @@ unfolding events_in
 records_told b e = rw e
 
 -- so many blocks are good, and their lines are put
-pub record Going (whole blocks place : ℕ) (file out₀ : List ℕ) (done : Unpacking) (out : List ℕ) : Type 0 where
-  pub walk : Walking whole blocks place file done.good
-  pub text : Wrote out₀ 0 (script_of (events_of done.good file)) out done.next
-  pub room : done.next ≤ 3_200 * done.good
-  pub none : done.refusal ≡ 0
+pub record Going (whole blocks place : ℕ) (file out₀ out : List ℕ) (next good : ℕ) : Type 0 where
+  pub walk : Walking whole blocks place file good
+  pub text : Wrote out₀ 0 (script_of (events_of good file)) out next
+  pub room : next ≤ 3_200 * good
   pub long : length out ≡ length out₀
 
 module _ (whole blocks place : ℕ) (file out₀ : List ℕ) where
-  pub going_start : Going whole blocks place file out₀ (record { good = 0; next = 0; refusal = 0 }) out₀
+  pub going_start : Going whole blocks place file out₀ out₀ 0 0
   unfolding events_of script_of flat
   going_start =
-      record { walk = walking_start whole blocks place file; text = nothing_put; room = omega arith; none = refl; long = refl }
+      record { walk = walking_start whole blocks place file; text = nothing_put; room = omega arith; long = refl }
 
-  module _ {done : Unpacking} {out : List ℕ} (k : Going whole blocks place file out₀ done out) where
-    pub going_end : blocks ≤ done.good → Puts whole blocks place file out₀ done out
+  module _ {out : List ℕ} {next good : ℕ} (k : Going whole blocks place file out₀ out next good) where
+    pub going_end : good ≡ blocks → Puts whole blocks place file out₀ (record { good = blocks; next = next; refusal = None }) out
     going_end h =
-        let e = walking_end whole blocks place file k.walk h in
-        record { good = e.0; refusal = k.none ∙ e.1; text = k.text; room = omega (arith, k.room, k.walk.inside) }
+        let e = walking_end whole blocks place file k.walk (omega arith) in
+        record { good = rw h at e.0; refusal = rw (← e.1); text = rw h at k.text; room = omega (arith, k.room) }
 
-    module _ (l : done.good < blocks) (long : 512 * blocks ≤ length file) {b : List ℕ}
-        (e : b ≡ take (512 * done.good + 512 - 512 * done.good) (drop (512 * done.good) file)) where
+    module _ (l : good < blocks) (long : 512 * blocks ≤ length file) {b : List ℕ}
+        (e : b ≡ take (512 * good + 512 - 512 * good) (drop (512 * good) file)) where
       pub going_refused :
           {n : ℕ}
-          → Block.TheVariants.Refused n ≡ read_block whole (place + done.good) b
-          → Puts whole blocks place file out₀ (record { good = done.good; next = done.next; refusal = n }) out
-      going_refused f =
+          → Err n ≡ read_block whole (place + good) b
+          → Puts whole blocks place file out₀ (record { good = good; next = next; refusal = Some n }) out
+      going_refused {n} f =
           let w = walking_refused whole blocks place file k.walk l long e f in
-          record { good = w.0; refusal = w.1; text = k.text; room = omega (arith, k.room, k.walk.inside) }
+          record { good = w.0; refusal = rw (← w.1, ne_eqb n 0 w.2); text = k.text; room = omega (arith, k.room, k.walk.inside) }
 
-      module _ {count : ℕ} (f : Block.TheVariants.Records count ≡ read_block whole (place + done.good) b) where
+      module _ {count : ℕ} (f : Ok count ≡ read_block whole (place + good) b) where
         pub going_count : count ≤ 25
         going_count = (walking_pass whole blocks place file k.walk l long e f).1
 
         pub going_long : length b ≡ 512
         going_long =
-            let n : 512 * done.good + 512 - 512 * done.good ≡ 512 = omega arith in
-            ap length (rw n at e) ∙ length-take-le 512 (drop (512 * done.good) file) (rw length-drop (omega arith))
+            let n : 512 * good + 512 - 512 * good ≡ 512 = omega arith in
+            ap length (rw n at e) ∙ length-take-le 512 (drop (512 * good) file) (rw length-drop (omega arith))
 
         pub going_pass :
             {out' : List ℕ} {p : ℕ}
-            → Wrote out done.next (told count (drop 8 b)) out' p
-            → Going whole blocks place file out₀ (record { good = done.good + 1; next = p; refusal = 0 }) out'
+            → Wrote out next (told count (drop 8 b)) out' p
+            → Going whole blocks place file out₀ out' p (good + 1)
         going_pass {out'} {p} v =
             let w = walking_pass whole blocks place file k.walk l long e f in
             let lines : told count (drop 8 b) ≡ script_of (events_in b) = records_told b w.2 in
@@ -160,31 +161,39 @@ module _ (whole blocks place : ℕ) (file out₀ : List ℕ) where
               walk = w.0;
               text =
                   put_as
-                  (ap (λ (t : List ℕ). script_of (events_of done.good file) ++ t) lines
-                  ∙ sym (ap script_of w.3 ∙ script_append (events_of done.good file) (events_in b)))
+                  (ap (λ (t : List ℕ). script_of (events_of good file) ++ t) lines
+                  ∙ sym (ap script_of w.3 ∙ script_append (events_of good file) (events_in b)))
                   (and_then k.text v);
               room = omega (arith, v.place, k.room, script_short count (drop 8 b), w.1);
-              none = refl;
               long = put_long v ∙ k.long;
             }
 
 -- ---- a refusal
 
-pub refused_none : (n place : ℕ) → n ≡ 0 → [] ≡ refused_line n place
+-- what is told of a refusal is the line of its number
+pub refusal_told : (n place : ℕ) → told_refusal (some_refusal n) place ≡ refused_line n place
 unfolding refused_line
-refused_none n place e = rw (eq-eqb n 0 e)
-
-pub refused_some : (n place : ℕ) → (n ≡ 0 → ⊥) → reply 88 (n ∷ place ∷ []) ≡ refused_line n place
-unfolding refused_line
-refused_some n place e = rw (ne_eqb n 0 e)
-
-pub refused_short : (n place : ℕ) → length (refused_line n place) ≤ 44
-unfolding refused_line
-refused_short n place = go (eqb n 0)
+refusal_told n place = go (eqb n 0)
   where
-    go : (t : Bool) → length (cond {A = List ℕ} t [] (reply 88 (n ∷ place ∷ []))) ≤ 44
-    go true = omega arith
-    go false = reply_fits 88 (n ∷ place ∷ [])
+    go :
+        (t : Bool)
+        → told_refusal (cond {A = Option ℕ} t None (Some n)) place ≡ cond {A = List ℕ} t [] (reply 88 (n ∷ place ∷ []))
+    go true = refl
+    go false = refl
+
+pub refusal_short : (r : Option ℕ) (place : ℕ) → length (told_refusal r place) ≤ 44
+refusal_short None place = omega arith
+refusal_short (Some n) place = reply_fits 88 (n ∷ place ∷ [])
+
+is_refused : (n : ℕ) → is_some (some_refusal n) ≡ true → n ≡ 0 → ⊥
+is_refused n e z = false≢true (rw (eq-eqb n 0 z) at e)
+
+pub none_refused : (n : ℕ) → is_some (some_refusal n) ≡ false → n ≡ 0
+none_refused n e = go (eqb n 0) refl e
+  where
+    go : (t : Bool) → eqb n 0 ≡ t → is_some (cond {A = Option ℕ} t None (Some n)) ≡ false → n ≡ 0
+    go true z f = eqb-true n 0 z
+    go false z f = absurd (false≢true (sym f))
 
 -- ---- a part of a file, and its rest
 
@@ -213,26 +222,34 @@ module _ (file out : List ℕ) (passed : ℕ) {r : Unpacking} {out' : List ℕ} 
     abbrev n : ℕ
     n = length file / 512
 
-    same_refusal : r.refusal ≡ refusal_from (passed + n) n (suc passed) file
+    same_refusal : r.refusal ≡ some_refusal (refusal_from (passed + n) n (suc passed) file)
     same_refusal = k.refusal ∙ rw add-one
 
-    rest_gives : (m : ℕ) → first_of (rules_from (passed + n) n (suc passed) file) ≡ m → Gives (front_from passed file) file out (record { good = r.good; next = r.next; refusal = m }) out'
+    rest_gives :
+        (m : ℕ) (refusal : Option ℕ)
+        → first_of (rules_from (passed + n) n (suc passed) file) ≡ m
+        → refusal ≡ some_refusal m
+        → Gives (front_from passed file) file out (record { good = r.good; next = r.next; refusal = refusal }) out'
     unfolding front_from
-    rest_gives m e =
+    rest_gives m refusal e f =
         let t = text_of (passed + n) n (good_from (passed + n) n (suc passed) file) k refl in
-        record { good = t.0; refusal = sym e; text = t.1; room = omega (arith, k.room) }
+        record { good = t.0; refusal = rw (← e) at f; text = t.1; room = omega (arith, k.room) }
 
-    pub rest_refused : (r.refusal ≡ 0 → ⊥) → Gives (front_from passed file) file out r out'
+    pub rest_refused : is_some r.refusal ≡ true → Gives (front_from passed file) file out r out'
     rest_refused e =
-        rest_gives r.refusal
-        (rules_refused (passed + n) n (suc passed) file (λ z. e (same_refusal ∙ z)) ∙ sym same_refusal)
+        let m : ℕ = refusal_from (passed + n) n (suc passed) file in
+        rest_gives m r.refusal
+        (rules_refused (passed + n) n (suc passed) file (is_refused m (ap is_some (sym same_refusal) ∙ e))) same_refusal
 
-    pub rest_none : r.refusal ≡ 0 → length file ≤ 512 * n → Gives (front_from passed file) file out r out'
-    rest_none e l =
-        rest_gives r.refusal (rules_none (passed + n) n (suc passed) file (sym same_refusal ∙ e) l ∙ sym e)
+    module _ (none : is_some r.refusal ≡ false) where
+      no_refusal : refusal_from (passed + n) n (suc passed) file ≡ 0
+      no_refusal = none_refused _ (ap is_some (sym same_refusal) ∙ none)
 
-    pub rest_tail :
-        r.refusal ≡ 0
-        → 512 * n < length file
-        → Gives (front_from passed file) file out (record { good = r.good; next = r.next; refusal = 26 }) out'
-    rest_tail e l = rest_gives 26 (rules_tail (passed + n) n (suc passed) file (sym same_refusal ∙ e) l)
+      pub rest_none : length file ≤ 512 * n → Gives (front_from passed file) file out r out'
+      rest_none l =
+          rest_gives 0 r.refusal (rules_none (passed + n) n (suc passed) file no_refusal l) (same_refusal ∙ ap some_refusal no_refusal)
+
+      pub rest_tail :
+          512 * n < length file
+          → Gives (front_from passed file) file out (record { good = r.good; next = r.next; refusal = Some 26 }) out'
+      rest_tail l = rest_gives 26 (Some 26) (rules_tail (passed + n) n (suc passed) file no_refusal l) refl

@@ -6,7 +6,7 @@ use Rattle.printing.specs.Printing.{Wrote}
 use Rattle.file_records.specs.Records.{is_event}
 use Rattle.day_files.specs.Files.{Reading, file_bytes, read_file, events_of}
 use Rattle.file_scripts.specs.Scripts.{script_of}
-use Rattle.fronts.specs.Good.{good_from, refusal_from, good_blocks, Front}
+use Rattle.fronts.specs.Good.{good_from, refusal_from, some_refusal, good_blocks, Front}
 use Rattle.unpack.specs.declared.Unpacking.{Unpacking}
 use Rattle.unpack.specs.Unpacking.{refused_line, unpacked}
 
@@ -27,13 +27,13 @@ pub record Unpacks : Type 0 where
 -- so many blocks from a place on: the good ones' lines are put at the front of an output
 pub record Puts (whole blocks place : ℕ) (file out : List ℕ) (r : Unpacking) (out' : List ℕ) : Type 0 where
   pub good : r.good ≡ good_from whole blocks place file
-  pub refusal : r.refusal ≡ refusal_from whole blocks place file
+  pub refusal : r.refusal ≡ some_refusal (refusal_from whole blocks place file)
   pub text : Wrote out 0 (script_of (events_of r.good file)) out' r.next
   pub room : r.next ≤ 3_200 * blocks
 
 -- what a front gives: its good blocks, their lines, and its refusal
 pub record Gives (f : Front) (file out : List ℕ) (r : Unpacking) (out' : List ℕ) : Type 0 where
   pub good : r.good ≡ f.good
-  pub refusal : r.refusal ≡ f.refusal
+  pub refusal : r.refusal ≡ some_refusal f.refusal
   pub text : Wrote out 0 (script_of (events_of f.good file)) out' r.next
   pub room : r.next ≤ length out

@@ -1,6 +1,6 @@
 -- A day file unpacked: the script of the blocks before the first refused one, and what is told of that one. As a whole, from its
 -- middle on, and chunk by chunk.
-use Rattle.std.specs.Prelude.{ℕ, suc, ◌+◌, ◌*◌, List, [], ◌∷◌, ◌++◌, drop, eqb, if◌then◌else◌}
+use Rattle.std.specs.Prelude.{ℕ, suc, ◌+◌, ◌*◌, Option, None, Some, List, [], ◌∷◌, ◌++◌, drop, eqb, if◌then◌else◌}
 use Prim.Native.Char.{code}
 use Rattle.model.specs.Lines.{reply}
 use Rattle.model.specs.Refusals.{first_of}
@@ -15,6 +15,11 @@ pub record Unpacked : Type 0 where
 -- the refusal with the block's place, `X number block`; nothing where none is refused
 unfoldable pub refused_line : ℕ → ℕ → List ℕ
 refused_line n place = if eqb n 0 then [] else reply (code "X") (n ∷ place ∷ [])
+
+-- the same of a refusal, if there is one
+abbrev pub told_refusal : Option ℕ → ℕ → List ℕ
+told_refusal None place = []
+told_refusal (Some n) place = reply (code "X") (n ∷ place ∷ [])
 
 unfoldable pub unpacked : List ℕ → Unpacked
 unpacked file =

@@ -7,9 +7,11 @@ use native.Mathlib.Omega.{arith}
 use lib.ListN.{length, take, drop, length-drop}
 use lib.Seq.{take_at, length-take-le}
 use Rattle.text.proofs.Carrying.{drop_take}
-use Rattle.fronts.specs.Good.{front_from, followed, look_from}
+use Rattle.fronts.specs.Good.{front_from, followed, some_refusal, look_from}
 use Rattle.fronts.proofs.Cutting.{good_followed}
 use Rattle.fronts.proofs.Read.{good_most}
+use Rattle.std.specs.Option.{is_some}
+use Rattle.unpack.proofs.Put.{none_refused}
 use Rattle.streams.proofs.Filling.{read, read_on_lem}
 use Rattle.unpack_file.specs.declared.AfterChunk.{AfterChunk}
 use Rattle.unpack_file.specs.Serving.{Between, outset, after_chunk, after_chunks, Holds, Reached, Turned, Steps}
@@ -25,11 +27,11 @@ module _
     (inside : n ≤ length buf)
     (b : blocks ≡ n / 512 - 1)
     (front : after ≡ take (n - 512 * blocks) (drop (512 * blocks) buf) ++ drop (n - 512 * blocks) buf)
-    (passes : (look_from h.passed (take n buf)).refusal ≡ 0) where
+    (none : is_some (some_refusal (look_from h.passed (take n buf)).refusal) ≡ false) where
   same_blocks : followed (take n buf) ≡ blocks
   same_blocks = followed_is n buf inside ∙ sym b
 
-  pub steps : Steps (take n buf) h after (record { passed = h.passed + blocks; kept = n - 512 * blocks; stops = false })
+  pub steps : Steps (take n buf) h after (record { passed = h.passed + blocks; kept = n - 512 * blocks })
   steps =
       let long : length (take (n - 512 * blocks) (drop (512 * blocks) buf)) ≡ n - 512 * blocks =
       length-take-le (n - 512 * blocks) (drop (512 * blocks) buf) (rw length-drop (omega arith)) in
@@ -41,7 +43,7 @@ module _
             ∙ take_at (take (n - 512 * blocks) (drop (512 * blocks) buf)) (drop (n - 512 * blocks) buf) (n - 512 * blocks) long
             ∙ sym (drop_take (512 * blocks) n buf));
         count = rw (same_blocks, drop_take (512 * blocks) n buf) (sym long);
-        passes = passes;
+        passes = none_refused _ none;
       }
 
 -- few enough blocks for their place to be counted
@@ -72,7 +74,7 @@ module _ (h : AfterChunk) (before buf : List ℕ) (n : ℕ)
 
 -- ---- all turns
 
-pub at_outset : (buf : List ℕ) → Reached buf (record { passed = 0; kept = 0; stops = false })
+pub at_outset : (buf : List ℕ) → Reached buf (record { passed = 0; kept = 0 })
 unfolding outset after_chunks
 at_outset buf = record { chunks = []; holds = record { passed = refl; kept = refl; count = refl } }
 

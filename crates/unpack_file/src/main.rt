@@ -6,13 +6,11 @@ mod serving;
 
 use streams::Streams;
 
-// What goes from chunk to chunk: how many blocks have passed, how many bytes behind them stand at the buffer's front, and
-// whether the program stops here.
+// What goes from chunk to chunk: how many blocks have passed, and how many bytes behind them stand at the buffer's front.
 #[derive(Clone, Copy)]
 pub struct AfterChunk {
     pub passed: usize,
     pub kept: usize,
-    pub stops: bool,
 }
 
 fn main(rt: HostRuntime) {

@@ -1,6 +1,6 @@
 // Chunks read from standard input, and the lines of their blocks written to standard output. What is read and written is said of streams
 // over memory (`Reads`, `Appends`), as nothing can say it of real ones; what lies between is the definitions' step from chunk to chunk.
-ghost use Rattle.std.specs.Prelude.{◌≡◌, true, false, ◌≤◌, length, take};
+ghost use Rattle.std.specs.Prelude.{◌≡◌, true, IfSome, ◌≤◌, length, take};
 ghost use Rattle.std.specs.Io.KnownBytes.{Appends};
 ghost use Rattle.unpack_file.specs.Serving.{Steps, Reached, Turned};
 
@@ -29,35 +29,20 @@ fn note() -> [u8; 44]
     [0; 44]
 }
 
-fn stopped(h: AfterChunk) -> AfterChunk
-    ensures { result.stops ≡ true }
-{
-    let mut r = h;
-    r.stops = true;
-    r
-}
-
-fn fail<E: Write>(errors: &mut E, text: &[u8], h: AfterChunk) -> AfterChunk
-    ensures { result.stops ≡ true }
-{
-    tell(errors, text);
-    stopped(h)
-}
-
 // Writes lines out and tells a refusal, or says that it cannot.
 fn written<R, W: Write, E: Write>(streams: &mut Streams<R, W, E>, lines: &[u8], told: &[u8]) -> bool
     ensures written { result ≡ true → Appends (W.contents streams.old.output) (W.contents streams.new.output) lines.now }
     ensures input { streams.new.input ≡ streams.old.input }
 {
-    if !write_or_tell(
+    let is_written = write_or_tell(
         &mut *streams,
         lines,
         b"unpack: standard output cannot be written\n",
-    ) {
-        return false;
+    );
+    if is_written {
+        tell(&mut streams.errors, told);
     }
-    tell(&mut streams.errors, told);
-    true
+    is_written
 }
 
 // Shows what was unpacked behind the blocks that had passed.
@@ -72,36 +57,31 @@ fn show<R, W: Write, E: Write>(
     let place = passed + done.good + 1;
     let mut said = note();
     let told = put_refused(done.refusal, place as u64, &mut said);
-    let next = done.next;
-    written(streams, &out[..next], &said[..told])
+    written(streams, &out[..done.next], &said[..told])
 }
 
-// Unpacks the first n bytes of the buffer, and keeps what cannot be judged yet at the buffer's front.
+// Unpacks the first n bytes of the buffer, and keeps what cannot be judged yet at the buffer's front. None: the program stops here.
 fn serve<R, W: Write, E: Write>(
     h: AfterChunk,
     streams: &mut Streams<R, W, E>,
     buf: &mut [u8],
     n: usize,
     out: &mut [u8],
-) -> AfterChunk
+) -> Option<AfterChunk>
     requires { (n ≤ length buf.old) × (length buf.old ≡ 4096) × (length out.old ≡ 25600) × (h.passed ≤ 4_611_686_018_427_387_904) }
-    ensures { result.stops ≡ false → Steps (take n buf.old) h buf.new result }
+    ensures { IfSome result (λ r. Steps (take n buf.old) h buf.new r) }
 {
     let done = unpack_part(&buf[..n], h.passed, out);
-    if !show(streams, done, h.passed, out) {
-        return stopped(h);
-    }
-    if done.refusal != 0 {
-        return stopped(h);
+    if !show(streams, done, h.passed, out) || done.refusal.is_some() {
+        return None;
     }
     let blocks = followed(n);
     let at = 512 * blocks;
     to_front(buf, at, n);
-    AfterChunk {
+    Some(AfterChunk {
         passed: h.passed + blocks,
         kept: n - at,
-        stops: false,
-    }
+    })
 }
 
 // The end of the file: what was kept is its rest.
@@ -110,14 +90,11 @@ fn finish<R, W: Write, E: Write>(
     streams: &mut Streams<R, W, E>,
     buf: &[u8],
     out: &mut [u8],
-) -> AfterChunk
+)
     requires { (h.kept ≤ 1023) × (length buf.now ≡ 4096) × (length out.old ≡ 25600) × (h.passed ≤ 4_611_686_018_427_387_904) }
-    ensures { result.stops ≡ true }
 {
-    let kept = h.kept;
-    let done = unpack_rest(&buf[..kept], h.passed, out);
+    let done = unpack_rest(&buf[..h.kept], h.passed, out);
     show(streams, done, h.passed, out);
-    stopped(h)
 }
 
 // Reads once, and unpacks the blocks that can be judged then.
@@ -126,27 +103,27 @@ fn turn<R: Read, W: Write, E: Write>(
     streams: &mut Streams<R, W, E>,
     buf: &mut [u8],
     out: &mut [u8],
-) -> AfterChunk
+) -> Option<AfterChunk>
     requires buf_len { (length buf.old ≡ 4096) × (length out.old ≡ 25600) }
     requires reached { Reached buf.old h }
-    ensures { result.stops ≡ false → Turned buf.old h buf.new result }
+    ensures { IfSome result (λ r. Turned buf.old h buf.new r) }
 {
     if MOST_BLOCKS < h.passed {
-        return fail(
-            &mut streams.errors,
-            b"unpack: no file has so many blocks\n",
-            h,
-        );
+        tell(&mut streams.errors, b"unpack: no file has so many blocks\n");
+        return None;
     }
-    let kept = h.kept;
-    let input = fill(&mut streams.input, buf, kept);
-    match input {
-        Input::Failed => fail(
-            &mut streams.errors,
-            b"unpack: standard input cannot be read\n",
-            h,
-        ),
-        Input::Ended => finish(h, streams, buf, out),
+    match fill(&mut streams.input, buf, h.kept) {
+        Input::Failed => {
+            tell(
+                &mut streams.errors,
+                b"unpack: standard input cannot be read\n",
+            );
+            None
+        }
+        Input::Ended => {
+            finish(h, streams, buf, out);
+            None
+        }
         Input::Bytes(n) => serve(h, streams, buf, n, out),
     }
 }
@@ -155,15 +132,11 @@ fn turn<R: Read, W: Write, E: Write>(
 pub fn run<R: Read, W: Write, E: Write>(streams: &mut Streams<R, W, E>) {
     let mut buf = buffer();
     let mut out = output();
-    let mut h = AfterChunk {
-        passed: 0,
-        kept: 0,
-        stops: false,
-    };
+    let mut h = AfterChunk { passed: 0, kept: 0 };
     for _ in 0..u64::MAX {
-        h = turn(h, &mut *streams, &mut buf, &mut out);
-        if h.stops {
+        let Some(next) = turn(h, &mut *streams, &mut buf, &mut out) else {
             return;
-        }
+        };
+        h = next;
     }
 }

@@ -2,14 +2,14 @@
 use Prim.Native.Nat.{ℕ}
 use mathlib.Core.Path.{◌≡◌, sym, ap, ◌∙◌}
 use mathlib.Core.List.{List}
-use Rattle.file_blocks.specs.declared.Block.{Block}
+use Rattle.std.proofs.Common.{Result}
 use Rattle.day_files.specs.Files.{read_file, count_file}
 use Rattle.file_lists.specs.Lists.{listed_from, found_numbers}
 use Rattle.wire.specs.Files.{FileLeft, file_left, file_leaves, ReadFilePromise}
 use Rattle.wire.proofs.Refused.{Answered}
 
 pub file_answered :
-    (file records reply : List ℕ) {found : Block} {row records' reply' : List ℕ} {r : ℕ}
+    (file records reply : List ℕ) {found : Result ℕ ℕ} {row records' reply' : List ℕ} {r : ℕ}
     → (found ≡ count_file file) × (records' ≡ listed_from (read_file file) records)
     → row ≡ found_numbers found
     → Answered row reply r reply'

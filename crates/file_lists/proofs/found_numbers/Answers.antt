@@ -2,10 +2,10 @@
 use Rattle.file_lists.specs.Lists.{found_numbers}
 use Rattle.file_lists.proofs.found_numbers.Goals as goal
 
-pub returns-in-Records : goal.returns-in-Records
+pub returns-in-Ok : goal.returns-in-Ok
 unfolding found_numbers
-returns-in-Records c = rw c.in-Records.is
+returns-in-Ok c = rw c.in-Ok.is
 
-pub returns-in-Refused : goal.returns-in-Refused
+pub returns-in-Err : goal.returns-in-Err
 unfolding found_numbers
-returns-in-Refused c = rw c.in-Refused.is
+returns-in-Err c = rw c.in-Err.is

@@ -1,25 +1,25 @@
--- `fronts::look` meets its contract. Assumes nothing.
-use mathlib.Core.Path.{refl, sym, ◌∙◌}
+-- `fronts::look` meets its contract: the invariant is `Looking`. Assumes nothing.
+use mathlib.Core.Path.{refl}
 use native.Mathlib.Omega.{arith}
 use Rattle.fronts.proofs.Looks.{looking_start, looking_end, looking_count, looking_pass, looking_refused}
 use Rattle.fronts.proofs.look.Goals as goal
 
-pub loop-seen-init : goal.loop-seen-init
-loop-seen-init c = looking_start _ _ _ _
+pub loop-good-init : goal.loop-good-init
+loop-good-init c = looking_start _ _ _ _
 
-pub returns-in-Refused : goal.returns-in-Refused
-returns-in-Refused c =
-    looking_refused _ _ _ c.args.file.now c.loop-seen.invariant c.loop-seen-test.true c.requires.0 refl (sym c.in-Refused.is ∙ c.read_block-found.ensures)
+pub returns-in-Err : goal.returns-in-Err
+returns-in-Err c =
+    looking_refused _ _ _ c.args.file.now c.loop-good.invariant c.loop-good-test.true c.requires.0 refl c.in-Err.ensures
 
-pub overflow_add-seen-in-Records : goal.overflow_add-seen-in-Records
-overflow_add-seen-in-Records c =
-    let i = c.loop-seen.invariant in
-    let few = looking_count _ _ _ c.args.file.now i c.loop-seen-test.true c.requires.0 refl (sym c.in-Records.is ∙ c.read_block-found.ensures) in
-    omega (arith, few, i.few, c.requires.0, c.loop-seen-test.true)
+pub overflow_add-records : goal.overflow_add-records
+overflow_add-records c =
+    let i = c.loop-good.invariant in
+    let few = looking_count _ _ _ c.args.file.now i c.loop-good-test.true c.requires.0 refl c.in-Ok.ensures in
+    record { fits = omega (arith, few, i.few, c.requires.0, c.loop-good-test.true) }
 
-pub loop-seen-preserved : goal.loop-seen-preserved
-loop-seen-preserved c =
-    looking_pass _ _ _ c.args.file.now c.loop-seen.invariant c.loop-seen-test.true c.requires.0 refl (sym c.in-Records.is ∙ c.read_block-found.ensures)
+pub loop-good-preserved : goal.loop-good-preserved
+loop-good-preserved c =
+    looking_pass _ _ _ c.args.file.now c.loop-good.invariant c.loop-good-test.true c.requires.0 refl c.in-Ok.ensures
 
 pub returns : goal.returns
-returns c = looking_end _ _ _ _ c.loop-seen.invariant c.loop-seen-test.false
+returns c = looking_end _ _ _ _ c.loop-good.invariant (omega (arith, c.loop-good.auto.good-end))

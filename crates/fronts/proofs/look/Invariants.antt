@@ -1,10 +1,6 @@
--- `fronts::look` meets its contract. Assumes nothing.
-use Prim.Native.Nat.{◌-◌}
+-- `fronts::look` meets its contract: the invariant is `Looking`. Assumes nothing.
 use Rattle.fronts.proofs.Looks.{Looking}
 use Rattle.fronts.proofs.look.Given as goal
 
-abbrev pub invariant-loop-seen : goal.invariant-loop-seen
-invariant-loop-seen l = Looking l.whole l.blocks l.place l.file l.seen
-
-abbrev pub decreases-loop-seen : goal.decreases-loop-seen
-decreases-loop-seen l = l.blocks - l.seen.good
+abbrev pub invariant-loop-good : goal.invariant-loop-good
+invariant-loop-good l = Looking l.whole l.blocks l.place l.file l.records l.good

@@ -10,7 +10,7 @@ pub put_event-p-requires : goal.put_event-p-requires
 put_event-p-requires c = omega (arith, c.loop-i.invariant.room, c.loop-i.invariant.long, c.requires)
 
 pub loop-i-preserved : goal.loop-i-preserved
-loop-i-preserved c = listing_next _ _ _ _ c.loop-i.invariant c.loop-i-test.true c.event_at-e.ensures c.put_event-p.ensures
+loop-i-preserved c = listing_next _ _ _ _ c.loop-i.invariant c.loop-i-test.true c.event_at.ensures c.put_event-p.ensures
 
 pub shape_of-out : goal.shape_of-out
 shape_of-out c = c.loop-i.invariant.long

@@ -4,4 +4,4 @@ use Rattle.file_blocks.proofs.writing.put_head.Goals as goal
 
 pub returns : goal.returns
 returns c =
-    put_same _ _ _ _ c.put_bytes.ensures (head_is _ _ c.four-n.ensures c.two-k.ensures)
+    put_same _ _ _ _ c.put_bytes.ensures (head_is _ _ c.last_bytes-n.ensures c.last_bytes-k.ensures)

@@ -1,17 +1,18 @@
 -- `file_records::reading::used_by` meets its contract. Assumes nothing.
 use native.Mathlib.Omega.{arith}
-use borrow.Author.Tests.{eq-eqb, ne_eqb}
+use borrow.Author.Rules.{rules}
+use Rattle.std.proofs.Common.{tests}
 use Rattle.file_records.specs.Records.{used}
 use Rattle.file_records.proofs.reading.used_by.Goals as goal
 
-pub returns-then-kind-eq2 : goal.returns-then-kind-eq2
+pub returns-in-2 : goal.returns-in-2
 unfolding used
-returns-then-kind-eq2 c = (rw (eq-eqb _ _ c.if-kind-eq2.true), omega arith)
+returns-in-2 c = (rw c.in-2.is, omega arith)
 
-pub returns-then-kind-eq3 : goal.returns-then-kind-eq3
+pub returns-in-3 : goal.returns-in-3
 unfolding used
-returns-then-kind-eq3 c = (rw (ne_eqb _ _ c.if-kind-eq2.false, eq-eqb _ _ c.if-kind-eq3.true), omega arith)
+returns-in-3 c = (rw c.in-3.is, omega arith)
 
-pub returns : goal.returns
+pub returns-in_default : goal.returns-in_default
 unfolding used
-returns c = (rw (ne_eqb _ _ c.if-kind-eq2.false, ne_eqb _ _ c.if-kind-eq3.false), omega arith)
+returns-in_default c = search (rules, tests)

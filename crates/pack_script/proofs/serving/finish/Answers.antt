@@ -18,7 +18,7 @@ slice_bounds-written-end-3 g c =
     let h = c.args.h in
     let w = c.put_end-told.ensures in
     omega
-    (arith, w.place, end_fits_lem (record { kept = h.kept; long = h.long }) h.line h.records, put_long w, c.requires.block_len)
+    (arith, w.place, end_fits_lem h.carry h.line h.records, put_long w, c.requires.block_len)
 
 pub slice_bounds-written-end-4 : goal.slice_bounds-written-end-4
 slice_bounds-written-end-4 g c = sym (length-take-le _ _ (slice_bounds-written-end-3 g c))

@@ -6,4 +6,4 @@ pub loop-init : goal.loop-init
 loop-init g c = at_outset _ _ c.block-filling.ensures
 
 pub loop-preserved : goal.loop-preserved
-loop-preserved g c = reached_on c.loop.invariant (c.turn-h.ensures c.if-h.false)
+loop-preserved g c = reached_on c.loop.invariant c.in-Some.ensures

@@ -32,12 +32,12 @@ slice_bounds-written-end-3 g c =
 pub slice_bounds-written-end-4 : goal.slice_bounds-written-end-4
 slice_bounds-written-end-4 g c = sym (length-take-le _ _ (slice_bounds-written-end-3 g c))
 
-pub carry_over-c-requires : goal.carry_over-c-requires
-carry_over-c-requires g c =
+pub carry_over-requires : goal.carry_over-requires
+carry_over-requires g c =
     let l = length-take c.args.n c.args.buf.now in
     (omega (arith, c.pack_lines-p.ensures.inside), c.requires.0)
 
 pub returns : goal.returns
 returns g c =
-    let v = c.carry_over-c in
-    λ e. steps c.args.buf.now v.new.buf c.args.n c.args.h c.pack_lines-p.result v.result c.pack_lines-p.ensures v.ensures
+    let v = c.carry_over in
+    steps c.args.buf.now v.new.buf c.args.n c.args.h c.pack_lines-p.result v.result c.pack_lines-p.ensures v.ensures

@@ -1,28 +1,15 @@
--- `records::numbers::number_at` meets its contract: the invariant is `Reading`. Assumes nothing.
+-- `records::numbers::number_at` meets its contract. Assumes nothing.
+use Prim.Native.Nat.{◌+◌, ◌-◌}
+use mathlib.Core.Path.{◌≡◌, ap, ◌∙◌}
 use native.Mathlib.Omega.{arith}
-use Rattle.records.proofs.Digits.{reading_start, reading_fits, reading_next, reading_end}
+use lib.ListN.{take, drop}
+use Rattle.octets.specs.Numbers.{worth}
+use Rattle.octets.proofs.Words.{word_worth}
 use Rattle.records.proofs.numbers.number_at.Goals as goal
 
-pub loop-i-init : goal.loop-i-init
-loop-i-init c = reading_start _ _
-
-pub overflow_mul-value : goal.overflow_mul-value
-overflow_mul-value c =
-    let f = reading_fits c.args.b.now c.args.at c.requires c.loop-i.invariant c.loop-i-test.true {x = 0} (omega arith) in
-    omega arith
-
-pub overflow_add-value : goal.overflow_add-value
-overflow_add-value c =
-    record {
-      fits =
-          reading_fits c.args.b.now c.args.at c.requires c.loop-i.invariant c.loop-i-test.true
-          c.wide.ensures.1;
-    }
-
-pub loop-i-preserved : goal.loop-i-preserved
-loop-i-preserved c =
-    reading_next c.args.b.now c.args.at c.requires c.loop-i.invariant c.loop-i-test.true c.wide.ensures.0
-    c.wide.ensures.1
-
 pub returns : goal.returns
-returns c = reading_end _ _ c.loop-i.invariant c.loop-i-test.false
+returns c =
+    let eight : c.args.at + 8 - c.args.at ≡ 8 = omega arith in
+    let copy = c.copy_from_slice in
+    let same : copy.new.self ≡ take 8 (drop c.args.at c.args.b.now) = rw eight at copy.ensures.after in
+    c.from_le_bytes.ensures ∙ word_worth copy.new.self copy.ensures.len ∙ ap worth same

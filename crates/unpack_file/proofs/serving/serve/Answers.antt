@@ -1,5 +1,6 @@
 -- The blocks that can be judged fit what is lent; then the rest goes to the buffer's front. Assumes nothing.
-use Rattle.std.proofs.Common.{arith, sym, ◌∙◌, length-take-le}
+use Rattle.std.proofs.Common.{arith, ap, sym, ◌∙◌, length-take-le}
+use Rattle.std.specs.Option.{is_some}
 use Rattle.unpack_file.proofs.Turns.{part_few, steps}
 use Rattle.unpack_file.proofs.serving.serve.Goals as goal
 
@@ -20,5 +21,5 @@ show-requires g c =
 
 pub returns : goal.returns
 returns g c =
-    λ e. steps c.args.buf.now _ c.args.n _ c.args.h c.requires.0 c.followed-blocks.ensures c.to_front.ensures
-    (sym c.unpack_part-done.ensures.refusal ∙ c.if-done-ne0.false)
+    steps c.args.buf.now _ c.args.n _ c.args.h c.requires.0 c.followed-blocks.ensures c.to_front.ensures
+    (ap is_some (sym c.unpack_part-done.ensures.refusal) ∙ sym c.if-is_some.ensures)

@@ -1,16 +1,18 @@
 -- What was kept fits the buffer, and what was read stands after it, so that the chunk is unpacked. Assumes nothing.
 use Rattle.std.proofs.Common.{arith}
+use Rattle.std.proofs.lemmas.Option.{IfSome_then}
 use Rattle.unpack_file.proofs.Turns.{turned, reached_few}
 use Rattle.unpack_file.proofs.serving.turn.Goals as goal
 
-pub fill-input-requires : goal.fill-input-requires
-fill-input-requires g c = omega (arith, c.requires.buf_len.0, reached_few c.requires.reached)
+pub fill-requires : goal.fill-requires
+fill-requires g c = omega (arith, c.requires.buf_len.0, reached_few c.requires.reached)
 
 pub finish-requires : goal.finish-requires
 finish-requires g c =
     let s = c.requires.buf_len in
-    (reached_few c.requires.reached, omega (arith, s.0, c.fill-input.auto.buf), s.1, omega (arith, c.if-h-gt-MOST_BLOCKS.false))
+    (reached_few c.requires.reached, omega (arith, s.0, c.fill.auto.buf), s.1, omega (arith, c.if-h-gt-MOST_BLOCKS.false))
 
 pub returns-in-Bytes : goal.returns-in-Bytes
 returns-in-Bytes g c =
-    λ e. turned c.args.h c.args.buf.now c.fill-input.new.buf c.in-Bytes.n c.in-Bytes.ensures.filled (c.serve.ensures e)
+    IfSome_then c.serve.result c.serve.ensures
+    (λ r p. turned c.args.h c.args.buf.now c.fill.new.buf c.in-Bytes.n c.in-Bytes.ensures.filled p)
