@@ -41,7 +41,7 @@ pub fn other_side(side: u64) -> u64
     if side == 0 { 1 } else { 0 }
 }
 
-// The place of the account's order with this number.
+// The place of the account's order with this number. Laws `no_place` and `its_place` tie it to the definition `place_of`.
 pub fn place_of(rows: &[Order], account: u64, number: u64) -> Option<usize>
     ensures { result ≡ position (is_own account number) rows.now }
 {
