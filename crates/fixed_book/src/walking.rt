@@ -7,8 +7,8 @@ ghost use Rattle.pairing.specs.Dealing.{dealt};
 ghost use Rattle.fixed_book.specs.Ready.{Lined};
 ghost use Rattle.fixed_book.specs.Heads.{may_trade, head_share, shares_from, HeadOf};
 
-use book::places::is_live;
 use book::Head;
+use book::places::is_live;
 use model::{Order, Trade};
 
 // A buy limit below the close, or a sell limit above it.
