@@ -59,14 +59,6 @@ pub fn put_order(rows: &mut [Order], place: usize, o: Order)
     rows[place] = o;
 }
 
-// The trade at a place of the trade list.
-pub fn trade_at(trades: &[Trade], place: usize) -> Trade
-    requires { place < length trades.now }
-    ensures { result ≡ get_or trades.now place no_trade }
-{
-    trades[place]
-}
-
 // A place of a trade list at which no trade was written.
 pub fn no_trade() -> Trade
     ensures { result ≡ no_trade }

@@ -2,26 +2,11 @@
 // They stand in order of arrival, free places last.
 #![tactic(auto)]
 
-ghost use Rattle.std.specs.Prelude.{◌≡◌, [], ◌++◌, ◌-◌, ◌≤◌, ◌<◌, length, get_or, set, take, replicate};
+ghost use Rattle.std.specs.Prelude.{◌≡◌, ◌++◌, ◌-◌, ◌≤◌, length, take, replicate};
 ghost use Rattle.model.specs.Blocks.{undeclared, fits, none_held};
 
 use book::places::other_side;
 use model::Declaration;
-
-// The declaration at a place.
-pub fn declaration_at(rows: &[Declaration], place: usize) -> Declaration
-    requires { place < length rows.now }
-    ensures { result ≡ get_or rows.now place undeclared }
-{
-    rows[place]
-}
-
-pub fn put_declaration(rows: &mut [Declaration], place: usize, x: Declaration)
-    requires { place < length rows.old }
-    ensures { rows.new ≡ set rows.old place x }
-{
-    rows[place] = x;
-}
 
 // A free place is all zeros.
 #[tactic(auto, unfolding(model::specs::Blocks::undeclared))]
