@@ -48,6 +48,7 @@ pub fn walk(rows: &[Order], middle: usize, end: usize) -> Stop
         buy: ABOVE_ALL,
         sell: 0,
     };
+    // No index is counted: each turn moves both heads on by what they trade.
     while crossing(buy, sell) {
         let q = buy.left.min(sell.left);
         c = crossed_by(c, q, buy.price, sell.price);

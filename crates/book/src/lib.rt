@@ -1,5 +1,5 @@
-// The book as rows of memory: reading and setting one place or one trade. Nothing above this crate knows what a row holds. A book
-// stands in priority order: buys from best to worst, then sells the same, free places last, so that the next order is the next row.
+// The book, a lent slice of orders in priority order: buys from best to worst, then sells the same, free places last, so that the next
+// order is the next place. Here: what a walk over it keeps, and how a trade is written.
 #![tactic(auto)]
 
 pub mod heads;
@@ -8,8 +8,7 @@ pub mod places;
 pub mod seats;
 pub mod settling;
 
-ghost use Rattle.std.specs.Prelude.{◌≡◌, ◌<◌, min, [], length, get_or, set};
-ghost use Rattle.model.specs.Book.{free};
+ghost use Rattle.std.specs.Prelude.{◌≡◌, min, set};
 ghost use Rattle.model.specs.Matching.{no_trade};
 
 use model::{Order, Trade};
@@ -42,21 +41,6 @@ pub fn smaller(a: u64, b: u64) -> u64
     ensures { result ≡ min a b }
 {
     a.min(b)
-}
-
-// The order at a place.
-pub fn order_at(rows: &[Order], place: usize) -> Order
-    requires { place < length rows.now }
-    ensures { result ≡ get_or rows.now place free }
-{
-    rows[place]
-}
-
-pub fn put_order(rows: &mut [Order], place: usize, o: Order)
-    requires { place < length rows.old }
-    ensures { rows.new ≡ set rows.old place o }
-{
-    rows[place] = o;
 }
 
 // A place of a trade list at which no trade was written.

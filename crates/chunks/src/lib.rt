@@ -58,6 +58,7 @@ pub fn answer_lines(
         next: 0,
         done: false,
     };
+    // One command a turn, until the chunk has no whole line left or the output no room.
     while p.next <= room {
         let Some(next) = next_command(chunk, p.at, p.long) else {
             p.done = true;

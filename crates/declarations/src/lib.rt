@@ -1,5 +1,4 @@
-// Declarations of block trades as rows of memory: reading and setting one place, places set free, and which two declarations fit.
-// They stand in order of arrival, free places last.
+// Declarations of block trades, a lent slice in order of arrival, free places last: places set free, and which two declarations fit.
 #![tactic(auto)]
 
 ghost use Rattle.std.specs.Prelude.{◌≡◌, ◌++◌, ◌-◌, ◌≤◌, length, take, replicate};

@@ -51,6 +51,7 @@ pub fn deal_at_close(rows: &[Order], trades: &mut [Trade], close: u64) -> Dealt
     let mut quantity = smaller(buy.left, sell.left);
     let mut made: usize = 0;
     let mut shares: u64 = 0;
+    // No index is counted: each turn moves both heads on by what they trade.
     while 0 < quantity {
         let trade = trade_at_close(buy, sell, quantity, close);
         put_trade(trades, made, trade);

@@ -12,7 +12,6 @@ ghost use Rattle.fixed_calls.specs.Entries.{entry_of};
 ghost use Rattle.model.specs.declared.Trade.{Trade};
 
 use book::places::free_place;
-use book::put_order;
 use figures::reference_of;
 use fixed_book::{deal_at_close, settle_at_close, tally_fixed};
 use model::{
@@ -111,7 +110,7 @@ fn enter_early(d: Day, rows: &mut [Order], a: AskedFixed, place: usize) -> Order
     requires time_bound { d.time < 54_300 }
     ensures { (lent : List Trade) → call_left result rows.new lent ≡ welcomed d a rows.old lent }
 {
-    put_order(&mut *rows, place, incoming_order(d, a));
+    rows[place] = incoming_order(d, a);
     let entry = entry_of(d, a, 0, 0);
     OrderAnswer {
         reply: OrderReply::Accepted(entry),
@@ -133,9 +132,9 @@ fn enter_late(
     ensures { call_left result rows.new trades.new ≡ welcomed d a rows.old trades.old }
 {
     let close = reference_of(d);
-    put_order(&mut *rows, place, incoming_order(d, a));
+    rows[place] = incoming_order(d, a);
     if lacks_places(rows, trades.len(), close) {
-        put_order(&mut *rows, place, free_place());
+        rows[place] = free_place();
         return fixed_refused(d, 13);
     }
     let dealt = deal_at_close(rows, &mut *trades, close);

@@ -16,7 +16,6 @@ ghost use Rattle.fixed_calls.specs.Promises.{FixedPromise, FixedCancelPromise};
 use crate::asking::{asked_refusal, long_hours};
 use crate::entering::{enter, fixed_refused};
 use book::places::{free_place, place_of};
-use book::{order_at, put_order};
 use fixed_book::fixed_sound;
 use fixed_book::line::{line_up, orders_in};
 use model::{AskedFixed, CancelReply, Day, LAST_NUMBER, Order, OrderAnswer, Trade};
@@ -59,13 +58,12 @@ pub fn fixed_cancel_sound(d: Day, rows: &mut [Order], account: u64, number: u64)
         return CancelReply::Refused(19);
     }
     // 12: no live order has this number and account
-    let place = place_of(rows, account, number);
-    if rows.len() <= place {
+    let Some(place) = place_of(rows, account, number) else {
         return CancelReply::Refused(12);
-    }
-    let own = order_at(rows, place);
-    put_order(&mut *rows, place, free_place());
-    line_up(&mut *rows);
+    };
+    let own = rows[place];
+    rows[place] = free_place();
+    line_up(rows);
     CancelReply::Withdrawn(own.left)
 }
 

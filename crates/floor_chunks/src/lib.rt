@@ -67,6 +67,7 @@ pub fn answer_lines(
         next: 0,
         done: false,
     };
+    // One command a turn, until the chunk has no whole line left or the output no room.
     while p.next <= room {
         let Some(line) = line_from(chunk, p.at) else {
             p.done = true;

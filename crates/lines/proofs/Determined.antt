@@ -13,8 +13,7 @@ use Rattle.model.specs.Session.{Desk}
 use Rattle.model.proofs.Bools.{true_or_false}
 use Rattle.desk.specs.declared.Desk as Desk
 use Rattle.desk.specs.declared.Answered.{Answered}
-use Rattle.lines.specs.declared.LineAnswer.{LineAnswer}
-use Rattle.lines.specs.declared.LineAnswer.TheVariants.{Given}
+use Rattle.std.specs.Prelude.{Option as Given, Some}
 use Rattle.desk.specs.Desks.{desk_of, Answering}
 use Rattle.lines.specs.OneLine.{fits, OneLine}
 use Rattle.model.specs.declared.Trade.{Trade}
@@ -63,7 +62,7 @@ module _
 -- ---- one line in any memory
 
 pub line_determined :
-    (l : Line) (desk : Desk.Desk) (rows : List Order) (trades : List Trade) (out : List ℕ) (m n : List Order) (ts us : List Trade) (after last : List ℕ) (r s : LineAnswer)
+    (l : Line) (desk : Desk.Desk) (rows : List Order) (trades : List Trade) (out : List ℕ) (m n : List Order) (ts us : List Trade) (after last : List ℕ) (r s : Given Answered)
     → OneLine l desk rows trades out m ts after r
     → OneLine l desk rows trades out n us last s
     → (r ≡ s) × (m ≡ n) × (ts ≡ us) × (after ≡ last)
@@ -73,7 +72,7 @@ line_determined l desk rows trades out m n ts us after last r s x y =
     let a = x.given t in
     let b = y.given t in
     let e = answer_determined (line_command l) desk rows trades out 0 m n ts us after last a.0 b.0 a.2 b.2 in
-    (a.1 ∙ ap Given e.0 ∙ sym b.1, e.1, e.2, e.3))
+    (a.1 ∙ ap Some e.0 ∙ sym b.1, e.1, e.2, e.3))
     (λ t.
     let a = x.unfit t in
     let b = y.unfit t in

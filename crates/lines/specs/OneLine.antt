@@ -1,10 +1,8 @@
 -- One line, answered in any memory.
-use Rattle.std.specs.Prelude.{ℕ, ◌≡◌, Bool, true, false, ◌&&◌, List, eqb, leb, length}
+use Rattle.std.specs.Prelude.{ℕ, ◌≡◌, Bool, true, false, ◌&&◌, List, eqb, leb, length, Option, None, Some}
 use Rattle.model.specs.Lines.{Line, line_command}
 use Rattle.desk.specs.declared.Desk.{Desk}
 use Rattle.desk.specs.declared.Answered.{Answered}
-use Rattle.lines.specs.declared.LineAnswer.{LineAnswer}
-use Rattle.lines.specs.declared.LineAnswer.TheVariants.{Unfit, Given}
 use Rattle.desk.specs.Desks.{Answering}
 use Rattle.model.specs.declared.Order.{Order}
 use Rattle.model.specs.declared.Trade.{Trade}
@@ -14,10 +12,10 @@ unfoldable pub fits : ℕ → ℕ → ℕ → Bool
 fits places trades output = eqb places 1_024 && (eqb trades 2_048 && leb 262_254 output)
 
 -- in such memory the line is answered at the output's front; any other memory is left as it is
-pub record OneLine (l : Line) (desk : Desk) (rows : List Order) (trades : List Trade) (out : List ℕ) (rows' : List Order) (trades' : List Trade) (out' : List ℕ) (r : LineAnswer) : Type 0 where
+pub record OneLine (l : Line) (desk : Desk) (rows : List Order) (trades : List Trade) (out : List ℕ) (rows' : List Order) (trades' : List Trade) (out' : List ℕ) (r : Option Answered) : Type 0 where
   pub given :
       fits (length rows) (length trades) (length out) ≡ true
-      → (a : Answered) × (r ≡ Given a) × Answering (line_command l) desk rows trades out 0 rows' trades' out' a
+      → (a : Answered) × (r ≡ Some a) × Answering (line_command l) desk rows trades out 0 rows' trades' out' a
   pub unfit :
       fits (length rows) (length trades) (length out) ≡ false
-      → (r ≡ Unfit) × (rows' ≡ rows) × (trades' ≡ trades) × (out' ≡ out)
+      → (r ≡ None) × (rows' ≡ rows) × (trades' ≡ trades) × (out' ≡ out)

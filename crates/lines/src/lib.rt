@@ -11,13 +11,6 @@ use model::{Command, Event, Order, Trade};
 use parsing::command_of;
 use soundness::is_sound;
 
-// The answer to one line in any memory: given where the memory is as long as the program's, else none.
-#[derive(Clone, Copy)]
-pub enum LineAnswer {
-    Unfit,
-    Given(Answered),
-}
-
 // Whether the memory is what the program lends, and the output holds the longest answer.
 fn serves(places: usize, trades: usize, output: usize) -> bool
     ensures { result ≡ fits places trades output }
@@ -56,24 +49,24 @@ fn asks_unsound(desk: Desk, rows: &[Order], c: Command) -> bool
     !is_sound(d, rows)
 }
 
-// A line without its newline. The answer is put at the output's front.
+// A line without its newline. The answer is put at the output's front; memory that is not as long as the program's has none.
 pub fn answer_line(
     desk: Desk,
     rows: &mut [Order],
     trades: &mut [Trade],
     line: &[u8],
     out: &mut [u8],
-) -> LineAnswer
+) -> Option<Answered>
     ensures { OneLine (record { text = line.now; ended = true }) desk rows.old trades.old out.old rows.new trades.new out.new result }
 {
     if !serves(rows.len(), trades.len(), out.len()) {
-        return LineAnswer::Unfit;
+        return None;
     }
     let c = command_of(line, true);
     if asks_unsound(desk, rows, c) {
         let a = refuse(desk, 15, out, 0);
-        return LineAnswer::Given(a);
+        return Some(a);
     }
     let a = answer_command(desk, rows, trades, c, out, 0);
-    LineAnswer::Given(a)
+    Some(a)
 }

@@ -47,13 +47,15 @@ pub fn pile_orders(rows: &[Order], tops: &mut [u16], under: &mut [u16])
     }
 }
 
-// The place of the live order with this number, or 0: from the top of its pile downwards.
+// The place of the live order with this number, counted from 1, or 0, as the definition `place_by` has it: from the top of its pile
+// downwards.
 pub fn place_by(rows: &[Order], tops: &[u16], under: &[u16], number: u64) -> usize
     requires { Piled rows.now (length rows.now) tops.now under.now }
     ensures { result ≡ place_by number rows.now }
 {
     let pile = (number % 65_536) as usize;
     let mut at = usize::from(tops[pile]);
+    // Down the pile: each place names the next one below, as a list in fixed memory has it.
     while 0 < at {
         if rows[at - 1].number == number {
             return at;

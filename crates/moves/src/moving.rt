@@ -62,6 +62,7 @@ pub fn pass_stops(d: Day, rows: &mut [Order], trades: &mut [Trade], time: u64) -
     let mut p = Passage { day: d, made: 0 };
     let mut from = d.time;
     let mut stop = next_stop(d.halt, from, time);
+    // Which stop is next depends on the halt, and a stop may start one.
     while stop != 0 {
         p = pass_next(p, &mut *rows, &mut *trades, stop);
         from = stop;

@@ -47,6 +47,7 @@ pub fn pair_at(rows: &[Order], trades: &mut [Trade], price: u64, shares: u64) ->
     let mut buy = head_at(rows, 0, middle);
     let mut sell = head_at(rows, middle, end);
     let mut made = 0;
+    // No index is counted: each turn moves both heads on by what they trade.
     while 0 < left {
         let trade = trade_of_heads(buy, sell, left, price);
         put_trade(trades, made, trade);

@@ -67,6 +67,7 @@ fn pair_up(rows: &[Declaration], buyers: &[usize], sellers: &[usize], partner: &
 {
     let mut i = 0;
     let mut j = 0;
+    // Two cursors, each of which moves on by itself.
     while i < buyers.len() && j < sellers.len() {
         let p = buyers[i];
         let q = sellers[j];

@@ -1,11 +1,8 @@
 -- It stands behind the others, and nothing else changes but the number issued.
+use mathlib.Core.Path.{refl}
 use native.Mathlib.Omega.{arith}
 use Rattle.fixed_calls.proofs.Entered.{inside, number_fits, priced, rests}
 use Rattle.fixed_calls.proofs.entering.enter_early.Goals as goal
-
-pub put_order-requires : goal.put_order-requires
-put_order-requires c =
-    inside c.args.d c.args.a c.args.rows.now c.args.place c.requires.welcome
 
 pub entry_of-entry-requires : goal.entry_of-entry-requires
 entry_of-entry-requires c =
@@ -14,5 +11,5 @@ entry_of-entry-requires c =
 pub returns : goal.returns
 returns c =
     let a = c.args in
-    rests a.d a.a a.rows.now a.place c.requires.welcome c.incoming_order.ensures c.put_order.ensures
+    rests a.d a.a a.rows.now a.place c.requires.welcome c.incoming_order.ensures refl
     c.requires.time_bound c.entry_of-entry.ensures c.issued_fixed.ensures
