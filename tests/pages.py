@@ -21,7 +21,7 @@ PLAIN = {"requires", "ensures", "pub", "NAME", "module::function"}  # in backtic
 # In specs and proofs: `name :`, also of fields and cases; records and data types. In code: functions, types, constants; fields; cases.
 SPEC_NAME = re.compile(r"^\s*(?:(?:pub|unfoldable|abbrev)\s+)*([^\s:(){}]+)(?:\s+\{[^}]*\})?\s*:(?:\s|$)", re.M)
 SPEC_TYPE = re.compile(r"\b(?:record|data)\s+([^\s:(){}]+)")
-CODE_NAME = re.compile(r"\b(?:fn|struct|enum|const)\s+(\w+)|^\s+pub\s+(\w+):|^\s+([A-Z]\w*)(?:\(|,$|\s*\{)", re.M)
+CODE_NAME = re.compile(r"\b(?:fn|struct|enum|trait|const)\s+(\w+)|^\s+pub\s+(\w+):|^\s+([A-Z]\w*)(?:\(|,$|\s*\{)", re.M)
 PATH = re.compile(r"[\w.-]+(?:/[\w*-]+(?:\.\w+)*)+|\b[A-Z]+\.md\b")
 
 
