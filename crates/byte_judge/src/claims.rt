@@ -16,7 +16,7 @@ fn read_claim(b: &[u8], at: usize) -> Claim
     ensures { result ≡ claim_in (drop at b.now) }
 {
     let mut v = [0u64; 3];
-    read_numbers(b, at, &mut v[..]);
+    read_numbers(b, at, &mut v);
     Claim {
         shares: v[0],
         buyer: v[1],
@@ -37,14 +37,11 @@ pub fn take_byte_claims(
     requires slate_len { length slate.old ≡ length rows.now }
     ensures { (result ≡ true) ↔ Settles rows.now slate.old (claims_in claims.now) }
 {
-    let n = claims.len() / CLAIM_BYTES;
-    let mut i = 0;
-    while i < n {
+    for i in 0..claims.len() / CLAIM_BYTES {
         let c = read_claim(claims, CLAIM_BYTES * i);
-        if !take_claim(rows, tops, under, &mut *slate, c) {
+        if !take_claim(rows, tops, under, slate, c) {
             return false;
         }
-        i += 1;
     }
     all_filled(slate)
 }

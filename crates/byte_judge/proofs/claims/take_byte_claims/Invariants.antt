@@ -1,13 +1,8 @@
 -- `byte_judge::claims::take_byte_claims` meets its contract: claim after claim what is still to be judged stays the same. Assumes nothing.
-use Prim.Native.Nat.{◌-◌, ◌/◌, ◌≤◌}
-use lib.ListN.{length}
 use Rattle.byte_judge.specs.Claims.{claims_in}
 use Rattle.judging.proofs.Turns.{Turned}
 use Rattle.byte_judge.proofs.claims.take_byte_claims.Given as goal
 
 abbrev pub invariant-loop-i : goal.invariant-loop-i
 invariant-loop-i l =
-    (l.i ≤ length l.claims / 24) × Turned l.rows (claims_in l.claims) l.initial.slate l.slate l.i
-
-abbrev pub decreases-loop-i : goal.decreases-loop-i
-decreases-loop-i l = length l.claims / 24 - l.i
+    Turned l.rows (claims_in l.claims) l.initial.slate l.slate l.i
