@@ -10,4 +10,3 @@ pub mod Settling
 pub mod Arriving
 pub mod Tallying
 pub mod Readiness
-pub mod Searching
