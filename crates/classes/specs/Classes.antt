@@ -9,6 +9,9 @@ buying_account x = if eqb x.side 0 then x.account else x.counter
 unfoldable pub selling_account : Declaration → ℕ
 selling_account x = if eqb x.side 0 then x.counter else x.account
 
+abbrev pub accounts_of : Declaration → List ℕ
+accounts_of x = buying_account x ∷ selling_account x ∷ []
+
 unfoldable pub class_of : Declaration → List ℕ
 class_of x = x.price ∷ x.quantity ∷ x.agreement ∷ buying_account x ∷ selling_account x ∷ []
 

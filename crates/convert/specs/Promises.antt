@@ -1,5 +1,5 @@
 -- What the converter promises of a chunk.
-use Rattle.std.specs.Prelude.{ℕ, ◌*◌, ◌≡◌, Bool, true, false, List, Option, Some, None, is_some, leb, length}
+use Rattle.std.specs.Prelude.{ℕ, ◌*◌, ◌≡◌, Bool, true, false, List, Option, Some, None, is_some, leb, length, take}
 use Rattle.model.specs.declared.Command.{Command}
 use Rattle.model.specs.declared.Command.TheVariants.{Malformed, Asks}
 use Rattle.model.specs.declared.Event.TheVariants.{Open, Clock, Order, Cancel}
@@ -16,7 +16,7 @@ is_order (Asks (Cancel account number)) = false
 
 -- the bytes of the line that has not ended
 abbrev pub text_of : Pending → List ℕ
-text_of p = p.bytes.items
+text_of p = take p.kept p.bytes
 
 -- the chunk's conversion is put at a place, and the line that has not ended then is remembered
 pub record Converts (line chunk before : List ℕ) (at : ℕ) (after : List ℕ) (next : ℕ) (pending : Pending) : Type 0 where

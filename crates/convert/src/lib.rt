@@ -1,16 +1,16 @@
 // The converter of old scripts: it adds balance 0 to each order line of five numbers, and copies every other byte.
 #![tactic(auto)]
 
-ghost use Rattle.std.specs.Prelude.{◌≤◌, length};
+ghost use Rattle.std.specs.Prelude.{◌≤◌};
 
 pub mod chunks;
 pub mod lines;
 
-use arrayvec::ArrayVec;
-
-// The line that has not ended: its bytes so far, of which 80 are enough to know that it is no order.
-#[derive(Drop)]
+// The line that has not ended: its bytes so far, of which 80 are enough to know that it is no order. An array with a count, as a
+// vector would not be Copy.
+#[derive(Clone, Copy)]
 pub struct Pending {
-    bytes: ArrayVec<u8, 80>,
-    ghost few: { length bytes.items ≤ 80 },
+    pub bytes: [u8; 80],
+    pub kept: usize,
+    ghost few: { kept ≤ 80 },
 }

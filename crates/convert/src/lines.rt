@@ -31,7 +31,8 @@ impl Pending {
         ensures { text_of result ≡ [] }
     {
         Pending {
-            bytes: ArrayVec::new(),
+            bytes: [0; 80],
+            kept: 0,
         }
     }
 
@@ -39,14 +40,15 @@ impl Pending {
     pub fn clear(&mut self)
         ensures { text_of self.new ≡ [] }
     {
-        self.bytes.clear();
+        self.kept = 0;
     }
 
     pub fn push(&mut self, b: u8)
         ensures { text_of self.new ≡ remembered (text_of self.old ++ (b ∷ [])) }
     {
-        if !self.bytes.is_full() {
-            self.bytes.push(b);
+        if self.kept < self.bytes.len() {
+            self.bytes[self.kept] = b;
+            self.kept += 1;
         }
     }
 
@@ -54,7 +56,7 @@ impl Pending {
     pub fn is_five(&self) -> bool
         ensures { result ≡ taken_as_five (record { text = text_of self.now; ended = true }) }
     {
-        match with_balance(&self.bytes) {
+        match with_balance(&self.bytes[..self.kept]) {
             Some(line) => is_order(command_of(&line, true)),
             None => false,
         }

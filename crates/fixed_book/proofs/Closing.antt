@@ -22,6 +22,18 @@ use Rattle.fixed_book.proofs.Sides.{live_taken}
 
 -- ---- one order
 
+-- an order that stays
+pub stays_up :
+    (from to : ℕ) (book : List Order)
+    → is_live (get_or book from free) ≡ true
+    → from ≡ to
+    → BroughtUp from to book book (to + 1)
+stays_up from to book e s =
+    record {
+      live = λ _. (rw (← s) (sym (set-set book from free (get_or book from free) ∙ set-get_or book from free)), refl);
+      none = λ g. absurd (not_both e g);
+    }
+
 -- ---- the loop
 
 pub record Closing (book₀ book : List Order) (to i : ℕ) : Type 0 where

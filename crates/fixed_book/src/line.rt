@@ -15,10 +15,14 @@ fn bring_up(rows: &mut [Order], from: usize, to: usize) -> usize
     requires to_le_from { to ≤ from }
     ensures { BroughtUp from to rows.old rows.new result }
 {
-    let o = rows[from];
-    if !is_live(o) {
+    if !is_live(rows[from]) {
         return to;
     }
+    // An order that stays is not written: a line that is nearly full moves few.
+    if from == to {
+        return to + 1;
+    }
+    let o = rows[from];
     rows[from] = free_place();
     rows[to] = o;
     to + 1

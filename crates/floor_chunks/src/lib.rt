@@ -74,7 +74,7 @@ pub fn answer_lines(
             return p;
         };
         let place = line.end + 1;
-        let w = wish_after(&chunk[line], p.long);
+        let w = wish_after(&chunk[line.start..line.end], p.long);
         let desk = p.desk;
         let a = answer_wish(
             desk,

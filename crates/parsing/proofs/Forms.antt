@@ -41,7 +41,7 @@ unfolding words_of onto_word words_phrase
 letter_line c d s f e = rw (words_of, ne_eqb c 32 f, eq-eqb d 32 e)
 
 -- its numbers are those that were read
-lettered : (c : ℕ) (o : Option (List ℕ)) (ns : List ℕ) → some ns ≡ up_to_six o → ◌≡◌ {A = Option Phrase} (some (record { letter = c; numbers = ns })) (phrase_with c o)
+pub lettered : (c : ℕ) (o : Option (List ℕ)) (ns : List ℕ) → some ns ≡ up_to_six o → ◌≡◌ {A = Option Phrase} (some (record { letter = c; numbers = ns })) (phrase_with c o)
 unfolding phrase_with
 lettered c none ns e = cc
 lettered c (some ms) ns e = go (leb (length ms) 6) e
@@ -50,7 +50,7 @@ lettered c (some ms) ns e = go (leb (length ms) 6) e
     go true e = let z : ns ≡ ms = cc in let f : List ℕ → Option Phrase = λ l. some (record { letter = c; numbers = l }) in ap f z
     go false e = cc
 
-unlettered : (c : ℕ) (o : Option (List ℕ)) → none ≡ up_to_six o → ◌≡◌ {A = Option Phrase} none (phrase_with c o)
+pub unlettered : (c : ℕ) (o : Option (List ℕ)) → none ≡ up_to_six o → ◌≡◌ {A = Option Phrase} none (phrase_with c o)
 unfolding phrase_with
 unlettered c none e = refl
 unlettered c (some ms) e = go (leb (length ms) 6) e
@@ -104,11 +104,8 @@ module _ (s : List ℕ) where
           pub other_form : (d ≡ 32 → ⊥) → none ≡ line_phrase (line b)
           other_form g = sym (whole (c ∷ d ∷ t) two ∙ other_line c d t f g)
 
-          pub letter_form : d ≡ 32 → (ns : List ℕ) → some ns ≡ up_to_six (numbers_of (words_of t)) → ◌≡◌ {A = Option Phrase} (some (record { letter = c; numbers = ns })) (line_phrase (line b))
-          letter_form g ns k = lettered c (numbers_of (words_of t)) ns k ∙ sym (whole (c ∷ d ∷ t) two ∙ letter_line c d t f g)
-
-          pub unread_form : d ≡ 32 → none ≡ up_to_six (numbers_of (words_of t)) → none ≡ line_phrase (line b)
-          unread_form g k = unlettered c (numbers_of (words_of t)) k ∙ sym (whole (c ∷ d ∷ t) two ∙ letter_line c d t f g)
+          pub letter_form : d ≡ 32 → phrase_with c (numbers_of (words_of t)) ≡ line_phrase (line b)
+          letter_form g = sym (whole (c ∷ d ∷ t) two ∙ letter_line c d t f g)
 
 -- ---- what a line asks for, by its form
 

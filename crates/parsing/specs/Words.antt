@@ -1,12 +1,11 @@
 -- A line by its form: a letter, and up to six numbers; and how the code has what it reads.
-use Rattle.std.specs.Prelude.{ℕ, ◌&&◌, List, [], ◌∷◌, leb, length, if◌then◌else◌}
+use Rattle.std.specs.Prelude.{ℕ, ◌&&◌, List, [], ◌∷◌, leb, length, take, if◌then◌else◌}
 use Rattle.std.specs.Prelude.{Option as Read, None, Some}
 use Rattle.std.proofs.Math.Option.{Option, none, some}
 use Rattle.model.specs.declared.Command.{Command}
 use Rattle.model.specs.declared.Command.TheVariants.{Malformed}
 use Rattle.model.specs.Lines.{Line, words_of, numbers_of, command_of}
-use Rattle.arrayvec.specs.ArrayVec.{ArrayVec}
-use Rattle.parsing.specs.declared.Form.{Form}
+use Rattle.parsing.specs.declared.line_forms.Form.{Form}
 
 unfoldable pub command_with : ℕ → Option (List ℕ) → Command
 command_with c none = Malformed
@@ -42,10 +41,6 @@ abbrev pub found : {A : Type 0} → Option A → Read A
 found none = None
 found (some x) = Some x
 
-abbrev pub listed : Read (ArrayVec ℕ) → Option (List ℕ)
-listed None = none
-listed (Some v) = some v.items
-
 abbrev pub phrase_in : Read Form → Option Phrase
 phrase_in None = none
-phrase_in (Some f) = some (record { letter = f.letter; numbers = f.numbers.items })
+phrase_in (Some f) = some (record { letter = f.letter; numbers = take f.count f.values })

@@ -1,11 +1,13 @@
 // What a line asks for: a letter, and numbers, each after one space.
 #![tactic(auto)]
 
+mod line_forms;
+
 ghost use Rattle.std.specs.Prelude.{◌≡◌};
 ghost use Rattle.model.specs.Lines.{bare, number_of, words_of, numbers_of, command_of, line_command};
-ghost use Rattle.parsing.specs.Words.{found, listed, up_to_six, phrase_in, line_phrase};
+ghost use Rattle.parsing.specs.Words.{found, phrase_with, phrase_in, line_phrase};
 
-use arrayvec::ArrayVec;
+pub use line_forms::Form;
 use model::{Asked, Command, Event};
 
 // The longest line that is taken, without its newline.
@@ -13,13 +15,6 @@ pub const LONGEST_LINE: usize = 79;
 
 // The greatest number of a line.
 const GREATEST: u64 = 4_294_967_295;
-
-// A line by its form: a letter and numbers, of which no line wants more than six.
-#[derive(Drop)]
-pub struct Form {
-    pub letter: u8,
-    pub numbers: ArrayVec<u64, 6>,
-}
 
 // No extra leading zero: a 0 in front stands alone.
 #[tactic(auto, unfolding(model::specs::Lines::bare))]
@@ -82,19 +77,25 @@ pub fn asked_for(letter: u8, numbers: &[u64]) -> Command
     }
 }
 
-// The numbers of a text of words, each a number; no line wants a seventh.
-fn numbers_in(words: &[u8]) -> Option<ArrayVec<u64, 6>>
-    ensures { listed result ≡ up_to_six (numbers_of (words_of words.now)) }
+// A letter with the numbers of a text of words, each a number; no line wants a seventh.
+fn numbered(letter: u8, words: &[u8]) -> Option<Form>
+    ensures { phrase_in result ≡ phrase_with letter (numbers_of (words_of words.now)) }
 {
-    let mut numbers = ArrayVec::new();
+    let mut values = [0; 6];
+    let mut count = 0;
     for word in words.split(|b| *b == b' ') {
         let number = number_of(word)?;
-        if numbers.is_full() {
+        if count == values.len() {
             return None;
         }
-        numbers.push(number);
+        values[count] = number;
+        count += 1;
     }
-    Some(numbers)
+    Some(Form {
+        letter,
+        count,
+        values,
+    })
 }
 
 // A line by its form, if it is of one: its bytes without the newline, and whether it had one.
@@ -108,15 +109,15 @@ pub fn form_of(line: &[u8], ended: bool) -> Option<Form>
     if *letter == b' ' {
         return None;
     }
-    let numbers = match after.split_first() {
-        None => ArrayVec::new(),
-        Some((b' ', words)) => numbers_in(words)?,
-        Some(_) => return None,
-    };
-    Some(Form {
-        letter: *letter,
-        numbers,
-    })
+    match after.split_first() {
+        None => Some(Form {
+            letter: *letter,
+            count: 0,
+            values: [0; 6],
+        }),
+        Some((b' ', words)) => numbered(*letter, words),
+        Some(_) => None,
+    }
 }
 
 // What a line asks for.
@@ -124,7 +125,7 @@ pub fn command_of(line: &[u8], ended: bool) -> Command
     ensures { result ≡ line_command (record { text = line.now; ended = ended }) }
 {
     match form_of(line, ended) {
-        Some(form) => asked_for(form.letter, &form.numbers),
+        Some(form) => asked_for(form.letter, &form.values[..form.count]),
         None => Command::Malformed,
     }
 }

@@ -15,6 +15,13 @@ pub const FEW_PLACES: usize = 1_024;
 
 pub const FEWEST_PLACES: usize = 64;
 
+// A move of the clock over all three lists has no more trades than these have places: the places of its `trade_room`.
+pub const MOST_MOVE_TRADES: usize = 12_288;
+
+pub const FEW_MOVE_TRADES: usize = 3_072;
+
+pub const FEWEST_MOVE_TRADES: usize = 192;
+
 pub fn order_room<const PLACES: usize>() -> [Order; PLACES]
     ensures { result ≡ replicate PLACES free }
 {

@@ -19,13 +19,13 @@ use Rattle.std.specs.Prelude.{Some, None}
 use Rattle.std.specs.List.{position, position_or_len}
 use Rattle.std.proofs.lemmas.List.Quantifiers.{position-Some}
 use Rattle.std.proofs.lemmas.List.Sums.{fails_before_first}
-use Rattle.std.specs.declared.ops.Range.{Range}
+use Rattle.text.specs.declared.Bounds.{Bounds}
 use Rattle.text.specs.declared.NextCommand.{NextCommand}
 use Rattle.text.specs.Readers.{Reader, asks_after, asks_of, after_first, commands}
 use Rattle.text.specs.Chunks.{tail_of, tail_long, bounds_at, next_line, command_at, next_command}
 
 -- a line's place, and what was read in it
-abbrev pub span : ℕ → ℕ → Range ℕ
+abbrev pub span : ℕ → ℕ → Bounds
 span a b = record { start = a; end = b }
 
 abbrev pub reads : Command → ℕ → NextCommand
@@ -191,8 +191,8 @@ module _ (chunk : List ℕ) (at : ℕ) where
       go (cut t rest u e _) =
           let q = sym (line_cut t rest u e) ∙ p in
           let same : span start end ≡ span at (at + length t) = cc in
-          let f : start ≡ at = ap (λ (l : Range ℕ). l.start) same in
-          let g : end ≡ at + length t = ap (λ (l : Range ℕ). l.end) same in
+          let f : start ≡ at = ap (λ (l : Bounds). l.start) same in
+          let g : end ≡ at + length t = ap (λ (l : Bounds). l.end) same in
           let w = first_within t rest u e in
           let m : at + length t + 1 ≡ end + 1 = omega arith in
           let x = cut_text t rest u e start end f g in
@@ -313,8 +313,8 @@ module _ (chunk : List ℕ) (at : ℕ) where
         go (cut t rest u e _) =
             let q = sym (line_cut t rest u e) ∙ p in
             let same : span start end ≡ span at (at + length t) = cc in
-            let f : start ≡ at = ap (λ (l : Range ℕ). l.start) same in
-            let g : end ≡ at + length t = ap (λ (l : Range ℕ). l.end) same in
+            let f : start ≡ at = ap (λ (l : Bounds). l.start) same in
+            let g : end ≡ at + length t = ap (λ (l : Bounds). l.end) same in
             subst (λ (l : List ℕ). Taken long (asks_after r long (record { text = l; ended = true })) (end + 1))
             (sym (cut_text t rest u e start end f g)) (taken_cut t rest u e long (end + 1) (omega arith))
         go (uncut u) = let q = sym (line_uncut u) ∙ p in cc

@@ -1,18 +1,18 @@
 -- Input that is read chunk by chunk: the next line of a chunk, what it asks for, and what is carried over to the next chunk.
 -- Of a line that is too long nothing but that is kept: whatever it is, it is one malformed line.
 use Rattle.std.specs.Prelude.{ℕ, ◌+◌, Bool, true, false, ◌||◌, ◌≡◌, List, [], ◌∷◌, ◌++◌, ltb, length, take, drop, if◌then◌else◌, Option, None, Some}
-use Rattle.std.specs.declared.ops.Range.{Range}
 use Rattle.model.specs.Lines.{Line, lines_of}
+use Rattle.text.specs.declared.Bounds.{Bounds}
 use Rattle.text.specs.declared.NextCommand.{NextCommand}
 use Rattle.text.specs.declared.Carry.{Carry}
 use Rattle.text.specs.Readers.{asks_after, commands}
 
 -- the bounds of the first of some lines, which stands at a place, if it is ended
-unfoldable pub bounds_at : ℕ → ℕ → List Line → Option (Range ℕ)
+unfoldable pub bounds_at : ℕ → ℕ → List Line → Option Bounds
 bounds_at start at [] = None
 bounds_at start at (l ∷ ls) = if l.ended then Some (record { start = start; end = at + length l.text }) else None
 
-unfoldable pub next_line : List ℕ → ℕ → Option (Range ℕ)
+unfoldable pub next_line : List ℕ → ℕ → Option Bounds
 next_line chunk at = bounds_at at at (lines_of (drop at chunk))
 
 unfoldable pub command_at : Bool → ℕ → List Line → Option NextCommand

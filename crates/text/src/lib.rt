@@ -5,6 +5,13 @@ pub mod reading;
 
 use model::Command;
 
+// Where a line stands in its chunk, without its newline: from start up to end. The library's range says the same, but is not Copy.
+#[derive(Clone, Copy)]
+pub struct Bounds {
+    pub start: usize,
+    pub end: usize,
+}
+
 // What the next line of a chunk asks for, and the place after its newline.
 #[derive(Clone, Copy)]
 pub struct NextCommand {

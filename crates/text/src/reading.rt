@@ -3,10 +3,9 @@ ghost use Rattle.std.specs.Prelude.{eqb, ◌≡◌, ◌++◌, ◌-◌, ◌≤◌
 ghost use Rattle.std.specs.List.{position};
 ghost use Rattle.text.specs.Chunks.{next_line, next_command, is_left, CarriedOver};
 
-use crate::{Carry, NextCommand};
+use crate::{Bounds, Carry, NextCommand};
 use model::Command;
 use parsing::{LONGEST_LINE, command_of};
-use std::ops::Range;
 
 fn newline_in(text: &[u8]) -> Option<usize>
     ensures { result ≡ position (λ b. eqb b 10) text.now }
@@ -29,16 +28,19 @@ impl<'a> Lines<'a> {
     }
 
     // Where the next line stands, without its newline. The chunk's tail has none: it is no line.
-    pub fn next_line(self) -> Option<Range<usize>>
+    pub fn next_line(self) -> Option<Bounds>
         ensures { result ≡ next_line self.entry.chunk.now self.entry.at }
     {
         let length = newline_in(self.chunk.get(self.at..)?)?;
-        Some(self.at..self.at + length)
+        Some(Bounds {
+            start: self.at,
+            end: self.at + length,
+        })
     }
 }
 
 // The next line from plain parameters, for callers that hold no reader.
-pub fn line_from(chunk: &[u8], at: usize) -> Option<Range<usize>>
+pub fn line_from(chunk: &[u8], at: usize) -> Option<Bounds>
     ensures { result ≡ next_line chunk.now at }
 {
     Lines::new(chunk, at).next_line()
@@ -53,7 +55,7 @@ pub fn next_command(chunk: &[u8], at: usize, long: bool) -> Option<NextCommand>
     let command = if long {
         Command::Malformed
     } else {
-        command_of(&chunk[line], true)
+        command_of(&chunk[line.start..line.end], true)
     };
     Some(NextCommand { command, place })
 }

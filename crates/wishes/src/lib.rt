@@ -39,7 +39,7 @@ pub fn wish_of(line: &[u8], ended: bool) -> Wish
     ensures { result ≡ line_wish (record { text = line.now; ended = ended }) }
 {
     match form_of(line, ended) {
-        Some(form) => wished(form.letter, &form.numbers),
+        Some(form) => wished(form.letter, &form.values[..form.count]),
         None => Wish::Says(Command::Malformed),
     }
 }

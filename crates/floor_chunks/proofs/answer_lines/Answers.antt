@@ -53,16 +53,16 @@ returns-in_default c =
     }
 
 pub overflow_add-place : goal.overflow_add-place
-overflow_add-place c = omega (arith, found c)
+overflow_add-place c = omega (arith, found (goal.at.overflow_add-place c).In-Some)
 
 pub slice_bounds-wish_after-count : goal.slice_bounds-wish_after-count
-slice_bounds-wish_after-count c = omega (arith, found c)
+slice_bounds-wish_after-count c = omega (arith, found (goal.at.slice_bounds-wish_after-count c).In-Some)
 
 pub slice_bounds-wish_after-start : goal.slice_bounds-wish_after-start
-slice_bounds-wish_after-start c = omega (arith, found c)
+slice_bounds-wish_after-start c = omega (arith, found (goal.at.slice_bounds-wish_after-start c).In-Some)
 
 pub slice_bounds-wish_after-end : goal.slice_bounds-wish_after-end
-slice_bounds-wish_after-end c = omega (arith, found c)
+slice_bounds-wish_after-end c = omega (arith, found (goal.at.slice_bounds-wish_after-end c).In-Some)
 
 pub answer_wish-a-requires : goal.answer_wish-a-requires
 answer_wish-a-requires c =

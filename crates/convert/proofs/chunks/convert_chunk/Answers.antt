@@ -2,6 +2,7 @@
 use Prim.Native.Nat.{◌*◌, ◌≤◌}
 use mathlib.Core.Path.{refl, ◌∙◌}
 use native.Mathlib.Omega.{arith}
+use borrow.Author.Rules.{rules}
 use lib.ListN.{length}
 use Rattle.printing.proofs.Printed.{put_long}
 use Rattle.convert.proofs.Pendings.{all_remembered}
@@ -17,7 +18,7 @@ pub returns-then-out-chunk : goal.returns-then-out-chunk
 returns-then-out-chunk c = refused_short c.args.line.now _ _ c.if-out-chunk.true
 
 pub loop-b-init : goal.loop-b-init
-loop-b-init c = (refl, converts_none _ _ _ (all_remembered _ c.args.line.now.few))
+loop-b-init c = (refl, converts_none _ _ _ (all_remembered _ _ (search rules)))
 
 pub convert_byte-next-requires : goal.convert_byte-next-requires
 convert_byte-next-requires c =
