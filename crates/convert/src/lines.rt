@@ -56,7 +56,7 @@ impl Pending {
     pub fn is_five(&self) -> bool
         ensures { result ≡ taken_as_five (record { text = text_of self.now; ended = true }) }
     {
-        match with_balance(&self.bytes[..self.kept]) {
+        match with_balance(&self.bytes[..self.kept.min(80)]) {
             Some(line) => is_order(command_of(&line, true)),
             None => false,
         }

@@ -7,7 +7,7 @@ use mathlib.Core.List.{List, [], ◌∷◌, ◌++◌, append_assoc, append-nil}
 use native.Mathlib.Omega.{arith}
 use native.Mathlib.Numerals.{add-one}
 use lib.ListN.{length, get_or, take, drop, set, replicate, length-append, length-replicate, length-drop, drop_of_length-le, replicate-append-replicate}
-use lib.Seq.{take-suc, take_all, drop-cons, length-take-le, set_at, set-set, set-get_or, get_or_at}
+use lib.Seq.{take-suc, take_all, drop-cons, length-take-le, set_at, set-set, set_comm, set-get_or, get_or_at}
 use Rattle.model.specs.declared.Order.{Order}
 use Rattle.model.specs.Lists.{keep}
 use Rattle.model.specs.Book.{free, is_live}
@@ -32,6 +32,20 @@ stays_up from to book e s =
     record {
       live = λ _. (rw (← s) (sym (set-set book from free (get_or book from free) ∙ set-get_or book from free)), refl);
       none = λ g. absurd (not_both e g);
+    }
+
+-- an order that goes to a place before its own
+pub goes_up :
+    (from to : ℕ) (book : List Order) {o p : Order}
+    → o ≡ get_or book from free
+    → is_live (get_or book from free) ≡ true
+    → (from ≡ to → ⊥)
+    → p ≡ free
+    → BroughtUp from to book (set (set book to o) from p) (to + 1)
+goes_up from to book e f n g =
+    record {
+      live = λ _. (rw (e, g) (set_comm book to from (get_or book from free) free (λ s. n (sym s))), refl);
+      none = λ z. absurd (not_both f z);
     }
 
 -- ---- the loop

@@ -22,9 +22,8 @@ fn bring_up(rows: &mut [Order], from: usize, to: usize) -> usize
     if from == to {
         return to + 1;
     }
-    let o = rows[from];
+    rows[to] = rows[from];
     rows[from] = free_place();
-    rows[to] = o;
     to + 1
 }
 
