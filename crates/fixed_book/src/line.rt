@@ -19,11 +19,10 @@ fn bring_up(rows: &mut [Order], from: usize, to: usize) -> usize
         return to;
     }
     // An order that stays is not written: a line that is nearly full moves few.
-    if from == to {
-        return to + 1;
+    if from != to {
+        rows[to] = rows[from];
+        rows[from] = free_place();
     }
-    rows[to] = rows[from];
-    rows[from] = free_place();
     to + 1
 }
 
